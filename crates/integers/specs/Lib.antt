@@ -1,0 +1,3 @@
+-- Whole numbers: their parts, and division that rounds down.
+pub mod Parts
+pub mod Floor

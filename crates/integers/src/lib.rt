@@ -1,0 +1,1 @@
+// Laws of whole numbers, for proofs; no code.

@@ -1,0 +1,4 @@
+//! Seeded generators of cases.
+
+pub mod calls;
+pub mod measures;

@@ -1,0 +1,68 @@
+//! `read` and `texts`.
+
+use super::{input, output, Outcome, Verdict};
+use crate::numbers::{self, Counts};
+use crate::records::{bad_record, next_record};
+use crate::text::{self, Refusal};
+use crate::{desk, dump};
+use std::io::{self, Read, Write};
+use std::path::Path;
+
+/// Tells for each file its number and place, and what its text declares.
+pub fn read(paths: &[&str]) -> Outcome {
+    let mut output = output();
+    for path in paths {
+        let text = std::fs::read(Path::new(path)).map_err(|error| format!("{path}: {error}"))?;
+        let (Refusal { number, place }, lines) = match text::read(&text) {
+            Ok(program) => (ACCEPTED, dump::readable(&program)),
+            Err(refusal) => (refusal, String::new()),
+        };
+        write!(output, "{path}: number {number}, place {place}\n{lines}")?;
+    }
+    output.flush()?;
+    Ok(Verdict::Passed)
+}
+
+/// "0 | done; a text's place 0".
+const ACCEPTED: Refusal = Refusal { number: numbers::DONE, place: 0 };
+
+/// Answers each text of a stream with number and place, and what it declares.
+pub fn answer() -> Outcome {
+    let (mut input, mut output) = (input(), output());
+    let mut counts = Counts::default();
+    while let Some(text) = next_text(&mut input)? {
+        let (Refusal { number, place }, bytes) = match text::read(&text) {
+            Ok(program) => (ACCEPTED, dump::bytes(&program)),
+            Err(refusal) => (refusal, Vec::new()),
+        };
+        counts.note(number);
+        output.write_all(&[number])?;
+        output.write_all(&(place as u32).to_be_bytes())?;
+        output.write_all(&bytes)?;
+    }
+    output.flush()?;
+    eprintln!("texts: {counts}");
+    Ok(Verdict::Passed)
+}
+
+/// The next text of a stream, in which its length in four bytes stands before
+/// each.
+fn next_text(input: &mut impl Read) -> io::Result<Option<Vec<u8>>> {
+    let Some(length) = next_record(input)? else {
+        return Ok(None);
+    };
+    let length = u32::from_be_bytes(length);
+    let mut text = Vec::new();
+    let read = input.take(length.into()).read_to_end(&mut text)?;
+    if read as u64 != u64::from(length) {
+        return Err(bad_record("the last text is cut short"));
+    }
+    Ok(Some(text))
+}
+
+/// Answers frames as `sitedesk` does.
+pub fn run_desk(validate: bool) -> Outcome {
+    let text = desk::text_of(Path::new("logic.mut")).map_err(|error| format!("logic.mut: {error}"))?;
+    desk::run(&text, validate, io::stdin().lock(), io::stdout().lock())?;
+    Ok(Verdict::Passed)
+}

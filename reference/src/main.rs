@@ -1,0 +1,73 @@
+//! An independent second program for the retuning desk, written from document
+//! 01 alone; the README describes the subcommands and their formats.
+
+mod accuracy;
+mod call_records;
+mod cases;
+mod commands;
+mod desk;
+mod dump;
+mod frames;
+mod logarithm;
+mod measure;
+mod numbers;
+mod random;
+mod records;
+mod state;
+mod text;
+mod validity;
+mod wide;
+
+use commands::{calls, measures, texts, Outcome, Verdict};
+use std::process::ExitCode;
+
+const USAGE: &str = "usage: reference SUBCOMMAND
+  measure-cases SEED COUNT     writes measure records
+  measure                      answers measure records
+  measure-accuracy             checks measure records against true logarithms
+  call-cases SEED COUNT        writes records of tuning calls
+  calls                        answers records of tuning calls
+  read FILE...                 prints what each text declares
+  texts                        answers a stream of texts
+  desk [--validate]            answers frames as sitedesk does";
+
+const USAGE_STATUS: u8 = 2;
+
+fn main() -> ExitCode {
+    let arguments: Option<Vec<String>> = std::env::args_os()
+        .skip(1)
+        .map(|argument| argument.into_string().ok())
+        .collect();
+    let arguments = arguments.unwrap_or_default();
+    let words: Vec<&str> = arguments.iter().map(String::as_str).collect();
+    match run(&words) {
+        Some(Ok(Verdict::Passed)) => ExitCode::SUCCESS,
+        Some(Ok(Verdict::Failed)) => ExitCode::FAILURE,
+        Some(Err(error)) => {
+            eprintln!("reference: {error}");
+            ExitCode::FAILURE
+        }
+        None => {
+            eprintln!("{USAGE}");
+            ExitCode::from(USAGE_STATUS)
+        }
+    }
+}
+
+/// Runs the subcommand that these words ask for; none if they ask for none.
+fn run(words: &[&str]) -> Option<Outcome> {
+    Some(match *words {
+        ["measure-cases", seed, count] => {
+            measures::write_cases(seed.parse().ok()?, count.parse().ok()?)
+        }
+        ["measure"] => measures::answer(),
+        ["measure-accuracy"] => measures::check(),
+        ["call-cases", seed, count] => calls::write_cases(seed.parse().ok()?, count.parse().ok()?),
+        ["calls"] => calls::answer(),
+        ["read", ref paths @ ..] if !paths.is_empty() => texts::read(paths),
+        ["texts"] => texts::answer(),
+        ["desk"] => texts::run_desk(false),
+        ["desk", "--validate"] => texts::run_desk(true),
+        _ => return None,
+    })
+}

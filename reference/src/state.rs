@@ -1,0 +1,292 @@
+//! Section "State and retunings" of document 01: the four parts of a tuning,
+//! the pitch of a key, and what each call makes of them.
+
+use crate::measure::{Interval, Pitch};
+use crate::numbers::{self, Number};
+use std::num::NonZeroU16;
+use std::ops::RangeInclusive;
+
+/// "positions in one list | 60", which is the greatest width too.
+pub const POSITIONS: usize = 60;
+
+pub const ANCHORS: RangeInclusive<i64> = 0..=127;
+pub const WIDTHS: RangeInclusive<i64> = 1..=60;
+
+/// "interval and tone values, tones of a state".
+pub const VALUES: RangeInclusive<i64> = -100_000_000..=100_000_000;
+pub const PERIODS: RangeInclusive<i64> = 0..=12_000_000;
+
+/// The number of a key; in sums it may pass 127.
+#[derive(Clone, Copy, Debug, PartialEq, Eq)]
+pub struct Key(pub i64);
+
+/// "A state is anchor a, width w, tones t(0) to t(w-1), each a pitch or muted,
+/// and period P." Places beyond the width hold nothing.
+#[derive(Clone, Debug, PartialEq, Eq)]
+pub struct State {
+    pub anchor: Key,
+    pub width: usize,
+    pub tones: [Option<Pitch>; POSITIONS],
+    pub period: Interval,
+}
+
+/// A new number, absolute or from the old one. Anchors are changed by the
+/// first four only.
+#[derive(Clone, Copy, Debug, PartialEq, Eq)]
+pub enum Change {
+    To(u16),
+    Kept,
+    Plus(u16),
+    Minus(u16),
+    Times(u16),
+    Over(NonZeroU16),
+}
+
+impl Change {
+    /// "`/` takes the whole part"; the old number is from zero upward.
+    pub fn of(self, old: i64) -> i64 {
+        match self {
+            Change::To(n) => n.into(),
+            Change::Kept => old,
+            Change::Plus(n) => old + i64::from(n),
+            Change::Minus(n) => old - i64::from(n),
+            Change::Times(n) => old * i64::from(n),
+            Change::Over(n) => old / i64::from(n.get()),
+        }
+    }
+}
+
+/// A new period, absolute or from the old one.
+#[derive(Clone, Copy, Debug, PartialEq, Eq)]
+pub enum PeriodChange {
+    To(Interval),
+    By(Interval),
+}
+
+/// A position of a tones retuning: nothing, a tone, or `@` with terms.
+#[derive(Clone, Copy, Debug, PartialEq, Eq)]
+pub enum Position {
+    Muted,
+    At(Pitch),
+    By(Interval),
+}
+
+#[derive(Clone, Debug, PartialEq, Eq)]
+pub struct ToneSystem {
+    pub anchor: u8,
+    pub tones: Vec<Option<Pitch>>,
+    pub period: Interval,
+}
+
+/// A call of a retuning of one of the four kinds, or of a tone system.
+#[derive(Clone, Debug, PartialEq, Eq)]
+pub enum Call {
+    Anchor(Change),
+    Width(Change),
+    Period(PeriodChange),
+    Tones(Vec<Position>),
+    System(ToneSystem),
+}
+
+impl State {
+    /// "At the start: anchor 60, width 12, t(i) = 6,000,000 + 100,000·i, P =
+    /// 1,200,000".
+    pub fn start() -> Self {
+        let tone = |i| Pitch(6_000_000) + Interval(100_000) * i as i64;
+        State {
+            anchor: Key(60),
+            width: 12,
+            tones: std::array::from_fn(|i| (i < 12).then(|| tone(i))),
+            period: Interval(1_200_000),
+        }
+    }
+
+    /// "Key x has x - a = q·w + r with r from 0 to w-1; its pitch is t(r) +
+    /// q·P, silent if t(r) is muted."
+    pub fn pitch(&self, key: Key) -> Option<Pitch> {
+        let distance = key.0 - self.anchor.0;
+        let width = self.width.max(1) as i64;
+        let (q, r) = (distance.div_euclid(width), distance.rem_euclid(width));
+        let tone = self.tones.get(r as usize).copied().flatten();
+        tone.map(|tone| tone + self.period * q)
+    }
+
+    /// The state after a call that is taken, or the number of its refusal.
+    pub fn called(&self, call: &Call) -> Result<State, Number> {
+        match call {
+            Call::Anchor(change) => self.with_anchor(change.of(self.anchor.0)),
+            Call::Width(change) => self.with_width(change.of(self.width as i64)),
+            Call::Period(PeriodChange::To(period)) => self.with_period(*period),
+            Call::Period(PeriodChange::By(by)) => self.with_period(self.period + *by),
+            Call::Tones(positions) => self.with_tones(positions),
+            Call::System(system) => Ok(Self::of_system(system)),
+        }
+    }
+
+    /// "Anchor to b: every sounding tone shifts by pitch(b) - t(0). Checks: 10,
+    /// 13, 14."
+    fn with_anchor(&self, b: i64) -> Result<State, Number> {
+        if !ANCHORS.contains(&b) {
+            return Err(numbers::BAD_ANCHOR);
+        }
+        let shift = self.distance_to(Key(b))?;
+        let mut new = self.clone();
+        new.anchor = Key(b);
+        for tone in new.tones.iter_mut().flatten() {
+            *tone = *tone + shift;
+        }
+        new.with_tones_in_range()
+    }
+
+    /// "Width to v: new t(i) is the old pitch of key a+i; the new period is
+    /// pitch(a+v) - t(0). Checks: 11, 13, 14, 12."
+    fn with_width(&self, v: i64) -> Result<State, Number> {
+        if !WIDTHS.contains(&v) {
+            return Err(numbers::BAD_WIDTH);
+        }
+        let key = |i: i64| Key(self.anchor.0 + i);
+        let period = self.distance_to(key(v))?;
+        let tone = |i: i64| self.pitch(key(i)).filter(|_| i < v);
+        State {
+            anchor: self.anchor,
+            width: v as usize,
+            tones: std::array::from_fn(|i| tone(i as i64)),
+            period: self.period,
+        }
+        .with_tones_in_range()?
+        .with_period(period)
+    }
+
+    /// "Period: P alone changes. Check: 12."
+    fn with_period(&self, period: Interval) -> Result<State, Number> {
+        if !PERIODS.contains(&period.0) {
+            return Err(numbers::BAD_PERIOD);
+        }
+        Ok(State { period, ..self.clone() })
+    }
+
+    /// "Tones: positions beyond the width have no effect, tones beyond the
+    /// list stay. `@` with terms on a muted tone stays muted. Check: 14."
+    fn with_tones(&self, positions: &[Position]) -> Result<State, Number> {
+        let mut new = self.clone();
+        let within = new.tones.iter_mut().take(self.width);
+        for (tone, position) in within.zip(positions) {
+            *tone = match *position {
+                Position::Muted => None,
+                Position::At(pitch) => Some(pitch),
+                Position::By(by) => tone.map(|old| old + by),
+            };
+        }
+        new.with_tones_in_range()
+    }
+
+    /// "Calling a tone system sets all four parts."
+    fn of_system(system: &ToneSystem) -> State {
+        State {
+            anchor: Key(system.anchor.into()),
+            width: system.tones.len(),
+            tones: std::array::from_fn(|i| system.tones.get(i).copied().flatten()),
+            period: system.period,
+        }
+    }
+
+    /// pitch(key) - t(0); 13 is "t(0) muted, or key b (anchor) or a+v (width)
+    /// silent".
+    fn distance_to(&self, key: Key) -> Result<Interval, Number> {
+        match (self.tones[0], self.pitch(key)) {
+            (Some(first), Some(pitch)) => Ok(pitch - first),
+            _ => Err(numbers::MUTED),
+        }
+    }
+
+    /// 14 is "a resulting tone not in its range".
+    fn with_tones_in_range(self) -> Result<State, Number> {
+        let mut sounding = self.tones.iter().flatten();
+        if sounding.all(|tone| VALUES.contains(&tone.0)) {
+            Ok(self)
+        } else {
+            Err(numbers::BAD_TONE)
+        }
+    }
+}
+
+#[cfg(test)]
+mod tests {
+    use super::*;
+
+    const OCTAVE: Interval = Interval(1_200_000);
+
+    fn pitch(state: &State, key: i64) -> i64 {
+        state.pitch(Key(key)).unwrap().0
+    }
+
+    fn refusal(state: &State, call: Call) -> Number {
+        state.called(&call).unwrap_err()
+    }
+
+    fn two() -> State {
+        let tones = vec![Some(Pitch(6_900_000)), Some(Pitch(7_601_955))];
+        let system = ToneSystem { anchor: 69, tones, period: OCTAVE };
+        State::start().called(&Call::System(system)).unwrap()
+    }
+
+    #[test]
+    fn keys_above_and_below_the_anchor_of_two() {
+        assert_eq!(pitch(&two(), 70), 7_601_955);
+        assert_eq!(pitch(&two(), 68), 6_401_955);
+        assert_eq!(pitch(&two(), 69), 6_900_000);
+    }
+
+    #[test]
+    fn widths_from_the_start() {
+        let start = State::start();
+        let wide = start.called(&Call::Width(Change::Times(5))).unwrap();
+        assert_eq!((wide.width, wide.period), (60, Interval(6_000_000)));
+        assert_eq!(pitch(&wide, 127), pitch(&start, 127));
+        assert_eq!(refusal(&start, Call::Width(Change::To(61))), 11);
+        let one = start.called(&Call::Width(Change::To(1))).unwrap();
+        let half = Change::Over(NonZeroU16::new(2).unwrap());
+        assert_eq!(refusal(&one, Call::Width(half)), 11);
+    }
+
+    #[test]
+    fn periods_down_to_nothing_and_up_to_ten_octaves() {
+        let down = Call::Period(PeriodChange::By(-OCTAVE));
+        let none = State::start().called(&down).unwrap();
+        assert_eq!(none.period, Interval(0));
+        assert_eq!(refusal(&none, down), 12);
+        let octaves = |n| Call::Period(PeriodChange::To(OCTAVE * n));
+        assert!(none.called(&octaves(10)).is_ok());
+        assert_eq!(refusal(&none, octaves(11)), 12);
+    }
+
+    #[test]
+    fn the_anchor_moves_with_its_key() {
+        let up = two().called(&Call::Anchor(Change::Plus(1))).unwrap();
+        assert_eq!(pitch(&up, 70), 7_601_955);
+        assert_eq!(pitch(&up, 71), 8_303_910);
+        assert_eq!(refusal(&up, Call::Anchor(Change::To(128))), 10);
+        assert_eq!(refusal(&up, Call::Anchor(Change::Minus(71))), 10);
+    }
+
+    #[test]
+    fn muted_tones() {
+        let mute = Call::Tones(vec![Position::Muted]);
+        let silent = two().called(&mute).unwrap();
+        assert_eq!(silent.pitch(Key(69)), None);
+        assert_eq!(refusal(&silent, Call::Anchor(Change::Kept)), 13);
+        assert_eq!(refusal(&silent, Call::Width(Change::Kept)), 13);
+        let still = Call::Tones(vec![Position::By(Interval(i64::from(i32::MAX)))]);
+        assert_eq!(silent.called(&still).unwrap(), silent);
+        let beyond = vec![Position::By(Interval(0)), Position::Muted, Position::Muted];
+        let both = two().called(&Call::Tones(beyond)).unwrap();
+        assert_eq!((both.pitch(Key(69)), both.pitch(Key(70))), (Some(Pitch(6_900_000)), None));
+    }
+
+    #[test]
+    fn tones_out_of_range() {
+        let far = |by| Call::Tones(vec![Position::By(Interval(by))]);
+        assert!(two().called(&far(100_000_000 - 6_900_000)).is_ok());
+        assert_eq!(refusal(&two(), far(100_000_001 - 6_900_000)), 14);
+    }
+}

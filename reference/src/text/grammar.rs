@@ -1,0 +1,429 @@
+//! Section "Declarations" of document 01, and the numbers 2, 3, 4 and 9:
+//! "Reading goes symbol by symbol, so among 2, 3, 4 and 9 the first place
+//! wins". No symbol is looked at before all before it is judged, but for "an
+//! interval's first number", which "is judged once `:`, ROOT or a name
+//! follows".
+
+use super::symbols::{next_symbol, Mark, Number, Placed, Symbol, Word};
+use super::tree::{
+    Declared, Draft, IntervalForm, Letter, LogicForm, Name, Order, PositionForm, RetuningForm, Sum,
+    SystemForm, Term, ToneForm,
+};
+use super::Refusal;
+use crate::measure::{Degree, TenThousandths};
+use crate::numbers;
+use crate::state::{Change, POSITIONS};
+use std::num::NonZeroU16;
+use std::ops::RangeInclusive;
+
+const INTERVALS: usize = 256;
+const TONES: usize = 256;
+const SYSTEMS: usize = 32;
+const RETUNINGS: usize = 128;
+const LOGICS: usize = 32;
+const ORDERS: usize = 512;
+const TERMS: usize = 16;
+
+const DEGREES: RangeInclusive<u16> = 1..=65_535;
+const FACTORS: RangeInclusive<u16> = 0..=999;
+const SYSTEM_ANCHORS: RangeInclusive<u16> = 0..=127;
+const CHANGES: RangeInclusive<u16> = 0..=9_999;
+const DIVISORS: RangeInclusive<u16> = 1..=9_999;
+
+type Parsed<T> = Result<T, Refusal>;
+
+/// "A text is any sequence of blocks, an empty one too: a kind word and one or
+/// more declarations."
+pub fn parse(text: &[u8]) -> Parsed<Draft> {
+    let mut parser = Parser { text, place: 0, ahead: None, orders: 0 };
+    let mut draft = Draft::default();
+    loop {
+        let next = parser.take()?;
+        match next.symbol {
+            Symbol::End => return Ok(draft),
+            Symbol::Word(Word::Interval) => {
+                parser.block(&mut draft.intervals, INTERVALS, Parser::interval)?
+            }
+            Symbol::Word(Word::Tone) => parser.block(&mut draft.tones, TONES, Parser::tone)?,
+            Symbol::Word(Word::ToneSystem) => {
+                parser.block(&mut draft.systems, SYSTEMS, Parser::system)?
+            }
+            Symbol::Word(Word::Retuning) => {
+                parser.block(&mut draft.retunings, RETUNINGS, Parser::retuning)?
+            }
+            Symbol::Word(Word::Logic) => parser.block(&mut draft.logics, LOGICS, Parser::logic)?,
+            _ => return Err(not_allowed(&next)),
+        }
+    }
+}
+
+struct Parser<'a> {
+    text: &'a [u8],
+    place: usize,
+    ahead: Option<Placed>,
+    /// Orders so far, "in all logics together".
+    orders: usize,
+}
+
+fn not_allowed(symbol: &Placed) -> Refusal {
+    Refusal::new(numbers::NOT_ALLOWED, symbol.place)
+}
+
+fn one_too_many(symbol: &Placed) -> Refusal {
+    Refusal::new(numbers::ONE_TOO_MANY, symbol.place)
+}
+
+fn out_of_range(place: usize) -> Refusal {
+    Refusal::new(numbers::OUT_OF_RANGE, place)
+}
+
+fn one_of(name: Name) -> Term<Name> {
+    Term { times: 1, interval: name }
+}
+
+/// Single symbols.
+impl Parser<'_> {
+    fn take(&mut self) -> Parsed<Placed> {
+        let next = match self.ahead.take() {
+            Some(placed) => placed,
+            None => next_symbol(self.text, self.place)?,
+        };
+        self.place = next.after;
+        Ok(next)
+    }
+
+    fn peek(&mut self) -> Parsed<&Placed> {
+        let next = match self.ahead.take() {
+            Some(placed) => placed,
+            None => next_symbol(self.text, self.place)?,
+        };
+        Ok(self.ahead.insert(next))
+    }
+
+    fn expect(&mut self, wanted: Symbol) -> Parsed<()> {
+        let next = self.take()?;
+        if next.symbol == wanted {
+            Ok(())
+        } else {
+            Err(not_allowed(&next))
+        }
+    }
+
+    fn mark(&mut self, mark: Mark) -> Parsed<()> {
+        self.expect(Symbol::Mark(mark))
+    }
+
+    fn name(&mut self) -> Parsed<Name> {
+        let next = self.take()?;
+        match next.symbol {
+            Symbol::Name(text) => Ok(Name { text, place: next.place }),
+            _ => Err(not_allowed(&next)),
+        }
+    }
+
+    fn number(&mut self) -> Parsed<(Number, usize)> {
+        let next = self.take()?;
+        match next.symbol {
+            Symbol::Number(number) => Ok((number, next.place)),
+            _ => Err(not_allowed(&next)),
+        }
+    }
+
+    fn whole(&mut self, range: RangeInclusive<u16>) -> Parsed<u16> {
+        let (number, place) = self.number()?;
+        number.whole(range).ok_or(out_of_range(place))
+    }
+
+    fn decimal(&mut self) -> Parsed<TenThousandths> {
+        let (number, place) = self.number()?;
+        number.ten_thousandths().ok_or(out_of_range(place))
+    }
+
+    /// "A letter is a one-letter name from a to z."
+    fn letter(&mut self) -> Parsed<Letter> {
+        let next = self.take()?;
+        match &next.symbol {
+            Symbol::Name(name) => match name.as_bytes() {
+                [letter @ b'a'..=b'z'] => Ok(Letter(letter.to_ascii_uppercase())),
+                _ => Err(not_allowed(&next)),
+            },
+            _ => Err(not_allowed(&next)),
+        }
+    }
+}
+
+/// Declarations.
+impl Parser<'_> {
+    /// One or more declarations; each has `most` as the count allowed of its
+    /// kind in the whole text, and its name as first symbol.
+    fn block<F>(
+        &mut self,
+        declared: &mut Vec<Declared<F>>,
+        most: usize,
+        form: fn(&mut Self) -> Parsed<F>,
+    ) -> Parsed<()> {
+        loop {
+            let next = self.peek()?;
+            if matches!(next.symbol, Symbol::Name(_)) && declared.len() == most {
+                return Err(one_too_many(next));
+            }
+            let name = self.name()?;
+            let form = form(self)?;
+            declared.push(Declared { name, form });
+            if !matches!(self.peek()?.symbol, Symbol::Name(_)) {
+                return Ok(());
+            }
+        }
+    }
+
+    /// "`p : q`, or `A ROOT B`, or a sequence".
+    fn interval(&mut self) -> Parsed<IntervalForm<Name>> {
+        self.mark(Mark::Equals)?;
+        let Symbol::Number(_) = self.peek()?.symbol else {
+            return Ok(IntervalForm::Sum(self.sequence()?));
+        };
+        let (first, place) = self.number()?;
+        let next = self.take()?;
+        let unfit = out_of_range(place);
+        match next.symbol {
+            Symbol::Mark(Mark::Colon) => {
+                let p = first.ten_thousandths().ok_or(unfit)?;
+                Ok(IntervalForm::Ratio(p, self.decimal()?))
+            }
+            Symbol::Word(Word::Root) => {
+                let degree = first.whole(DEGREES).and_then(Degree::new).ok_or(unfit)?;
+                Ok(IntervalForm::Root(degree, self.decimal()?))
+            }
+            Symbol::Name(text) => {
+                let times = first.whole(FACTORS).ok_or(unfit)?.into();
+                let interval = Name { text, place: next.place };
+                Ok(IntervalForm::Sum(self.signed_terms(vec![Term { times, interval }])?))
+            }
+            _ => Err(not_allowed(&next)),
+        }
+    }
+
+    /// "A frequency in hertz, or a tone name followed by any number of signed
+    /// terms."
+    fn tone(&mut self) -> Parsed<ToneForm<Name>> {
+        self.mark(Mark::Equals)?;
+        match self.peek()?.symbol {
+            Symbol::Number(_) => Ok(ToneForm::Frequency(self.decimal()?)),
+            _ => Ok(ToneForm::From(self.name()?, self.signed_terms(Vec::new())?)),
+        }
+    }
+
+    /// "Anchor key, `[` positions parted by commas, each a tone name or nothing
+    /// `]`, period as a sequence. `[ ]` alone is refused here (house)."
+    fn system(&mut self) -> Parsed<SystemForm<Name>> {
+        self.mark(Mark::Equals)?;
+        let anchor = self.whole(SYSTEM_ANCHORS)? as u8;
+        self.mark(Mark::Open)?;
+        let next = self.peek()?;
+        if next.symbol == Symbol::Mark(Mark::Close) {
+            return Err(not_allowed(next));
+        }
+        let name = |parser: &mut Self| parser.name().map(Some);
+        let tones = self.positions(|_| false, || None, name)?;
+        let period = self.sequence()?;
+        Ok(SystemForm { anchor, tones, period })
+    }
+
+    /// "Anchor: `n [ ]`, `@ [ ]`, `@ + n [ ]`, `@ - n [ ]`", or one of the forms
+    /// that begin with a bracket.
+    fn retuning(&mut self) -> Parsed<RetuningForm<Name>> {
+        self.mark(Mark::Equals)?;
+        let next = self.peek()?;
+        let change = match next.symbol {
+            Symbol::Number(_) => Change::To(self.whole(CHANGES)?),
+            Symbol::Mark(Mark::At) => self.relative_anchor()?,
+            Symbol::Mark(Mark::Open) => return self.bracketed_retuning(),
+            _ => return Err(not_allowed(next)),
+        };
+        self.mark(Mark::Open)?;
+        self.mark(Mark::Close)?;
+        Ok(RetuningForm::Anchor(change))
+    }
+
+    fn relative_anchor(&mut self) -> Parsed<Change> {
+        self.mark(Mark::At)?;
+        let change = match self.peek()?.symbol {
+            Symbol::Mark(Mark::Plus) => Change::Plus,
+            Symbol::Mark(Mark::Minus) => Change::Minus,
+            _ => return Ok(Change::Kept),
+        };
+        self.take()?;
+        Ok(change(self.whole(CHANGES)?))
+    }
+
+    /// Width, period or tones; "a bare `[ ]` is refused", for a sequence or `@`
+    /// has to follow it.
+    fn bracketed_retuning(&mut self) -> Parsed<RetuningForm<Name>> {
+        self.mark(Mark::Open)?;
+        match self.peek()?.symbol {
+            Symbol::Mark(Mark::OpenWidth) => self.width(),
+            Symbol::Mark(Mark::Close) => self.period(),
+            _ => {
+                let at = |symbol: &Symbol| *symbol == Symbol::Mark(Mark::At);
+                let positions = self.positions(at, || PositionForm::Muted, Self::position)?;
+                Ok(RetuningForm::Tones(positions))
+            }
+        }
+    }
+
+    /// "Width: `[ << n >> ]`, `@` or `@` with `+ - * /` and n inside."
+    fn width(&mut self) -> Parsed<RetuningForm<Name>> {
+        self.mark(Mark::OpenWidth)?;
+        let change = match self.peek()?.symbol {
+            Symbol::Mark(Mark::At) => self.relative_width()?,
+            _ => Change::To(self.whole(CHANGES)?),
+        };
+        self.mark(Mark::CloseWidth)?;
+        self.mark(Mark::Close)?;
+        Ok(RetuningForm::Width(change))
+    }
+
+    fn relative_width(&mut self) -> Parsed<Change> {
+        self.mark(Mark::At)?;
+        let Symbol::Mark(mark) = self.peek()?.symbol else {
+            return Ok(Change::Kept);
+        };
+        let change = match mark {
+            Mark::Plus => Change::Plus,
+            Mark::Minus => Change::Minus,
+            Mark::Times => Change::Times,
+            Mark::Over => return self.divided_width(),
+            _ => return Ok(Change::Kept),
+        };
+        self.take()?;
+        Ok(change(self.whole(CHANGES)?))
+    }
+
+    fn divided_width(&mut self) -> Parsed<Change> {
+        self.mark(Mark::Over)?;
+        let (number, place) = self.number()?;
+        let divisor = number.whole(DIVISORS).and_then(NonZeroU16::new);
+        Ok(Change::Over(divisor.ok_or(out_of_range(place))?))
+    }
+
+    /// "Period: `[ ]` then a sequence, or `@` with any signed terms."
+    fn period(&mut self) -> Parsed<RetuningForm<Name>> {
+        self.mark(Mark::Close)?;
+        if self.peek()?.symbol == Symbol::Mark(Mark::At) {
+            self.take()?;
+            Ok(RetuningForm::PeriodBy(self.signed_terms(Vec::new())?))
+        } else {
+            Ok(RetuningForm::PeriodTo(self.sequence()?))
+        }
+    }
+
+    /// A position of a tones retuning: "`@` or a tone name, with signed terms".
+    fn position(&mut self) -> Parsed<PositionForm<Name>> {
+        if self.peek()?.symbol == Symbol::Mark(Mark::At) {
+            self.take()?;
+            Ok(PositionForm::By(self.signed_terms(Vec::new())?))
+        } else {
+            Ok(PositionForm::At(self.name()?, self.signed_terms(Vec::new())?))
+        }
+    }
+
+    /// "`name KEY letter = start [ orders ]`; start is a tone system or
+    /// retuning name or nothing".
+    fn logic(&mut self) -> Parsed<LogicForm<Name>> {
+        self.expect(Symbol::Word(Word::Key))?;
+        let letter = self.letter()?;
+        self.mark(Mark::Equals)?;
+        let start = match self.peek()?.symbol {
+            Symbol::Name(_) => Some(self.name()?),
+            _ => None,
+        };
+        self.mark(Mark::Open)?;
+        let mut orders = Vec::new();
+        while self.peek()?.symbol != Symbol::Mark(Mark::Close) {
+            orders.push(self.order()?);
+        }
+        self.mark(Mark::Close)?;
+        Ok(LogicForm { letter, start, orders })
+    }
+
+    /// "`KEY letter -> name`".
+    fn order(&mut self) -> Parsed<Order<Name>> {
+        let next = self.take()?;
+        if next.symbol != Symbol::Word(Word::Key) {
+            return Err(not_allowed(&next));
+        }
+        if self.orders == ORDERS {
+            return Err(one_too_many(&next));
+        }
+        self.orders += 1;
+        let letter = self.letter()?;
+        self.mark(Mark::Arrow)?;
+        Ok(Order { letter, called: self.name()? })
+    }
+}
+
+/// Terms and positions.
+impl Parser<'_> {
+    /// "Terms joined by `+` or `-`, each an optional whole factor and an
+    /// interval name. No sign leads."
+    fn sequence(&mut self) -> Parsed<Sum<Name>> {
+        let first = self.term()?;
+        self.signed_terms(vec![first])
+    }
+
+    fn term(&mut self) -> Parsed<Term<Name>> {
+        if !matches!(self.peek()?.symbol, Symbol::Number(_)) {
+            return Ok(one_of(self.name()?));
+        }
+        let times = self.whole(FACTORS)?.into();
+        Ok(Term { times, interval: self.name()? })
+    }
+
+    /// Signed terms after the ones that stand there already. "A sign belongs to
+    /// its term": it is the first symbol of one too many.
+    fn signed_terms(&mut self, mut sum: Sum<Name>) -> Parsed<Sum<Name>> {
+        loop {
+            let next = self.peek()?;
+            let sign = match next.symbol {
+                Symbol::Mark(Mark::Plus) => 1,
+                Symbol::Mark(Mark::Minus) => -1,
+                _ => return Ok(sum),
+            };
+            if sum.len() == TERMS {
+                return Err(one_too_many(next));
+            }
+            self.take()?;
+            let term = self.term()?;
+            sum.push(Term { times: sign * term.times, ..term });
+        }
+    }
+
+    /// Positions parted by commas, and the closing bracket. A position is empty
+    /// or begins with a name or another symbol that `begins` knows; one too many
+    /// has its first symbol as place, "empty: the mark after".
+    fn positions<P>(
+        &mut self,
+        begins: impl Fn(&Symbol) -> bool,
+        muted: impl Fn() -> P,
+        position: impl Fn(&mut Self) -> Parsed<P>,
+    ) -> Parsed<Vec<P>> {
+        let mut positions = Vec::new();
+        loop {
+            let next = self.peek()?;
+            let empty = matches!(next.symbol, Symbol::Mark(Mark::Comma | Mark::Close));
+            if !empty && !matches!(next.symbol, Symbol::Name(_)) && !begins(&next.symbol) {
+                return Err(not_allowed(next));
+            }
+            if positions.len() == POSITIONS {
+                return Err(one_too_many(next));
+            }
+            positions.push(if empty { muted() } else { position(self)? });
+            let next = self.take()?;
+            match next.symbol {
+                Symbol::Mark(Mark::Comma) => {}
+                Symbol::Mark(Mark::Close) => return Ok(positions),
+                _ => return Err(not_allowed(&next)),
+            }
+        }
+    }
+}
