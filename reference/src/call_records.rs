@@ -4,23 +4,16 @@ use crate::measure::{Interval, Pitch};
 use crate::numbers::Number;
 use crate::records::bad_record;
 use crate::state::{
-    Call, Change, PeriodChange, Position, State, ToneSystem, ANCHORS, PERIODS, POSITIONS, VALUES,
+    Call, Change, PeriodChange, Position, State, ToneSystem, ANCHORS, CHANGES, PERIODS, POSITIONS,
+    SUMS, VALUES,
 };
 use std::io;
 use std::num::NonZeroU16;
-use std::ops::RangeInclusive;
 
 const HEAD: usize = 12;
 const PLACE: usize = 9;
 
 pub const CALL_RECORD: usize = HEAD + POSITIONS * PLACE;
-
-/// "n in anchor and width retunings | whole, 0 to 9,999".
-const GREATEST_N: u16 = 9_999;
-
-/// No sum of a text passes these: a tone and sixteen terms, each 999 times an
-/// interval at the end of its range.
-pub const SUMS: RangeInclusive<i64> = -1_598_500_000_000..=1_598_500_000_000;
 
 /// One step of a sequence: back to the start state, or a call.
 #[derive(Clone, Debug, PartialEq, Eq)]
@@ -117,7 +110,8 @@ impl Raw {
     }
 
     fn read(record: &[u8; CALL_RECORD]) -> Self {
-        let long = |at: usize| record[at..at + 8].iter().fold(0, |n, &byte| n << 8 | i64::from(byte));
+        let long =
+            |at: usize| record[at..at + 8].iter().fold(0, |n, &byte| n << 8 | i64::from(byte));
         let count = usize::from(record[11]).min(POSITIONS);
         let starts = (0..count).map(|i| HEAD + i * PLACE);
         Raw {
@@ -132,7 +126,7 @@ impl Raw {
     fn call(&self) -> Option<Call> {
         let period = Interval(self.value);
         let mut values = self.positions.iter().map(|&(_, value)| value).chain([self.value]);
-        if self.n > GREATEST_N || !values.all(|value| SUMS.contains(&value)) {
+        if !CHANGES.contains(&self.n) || !values.all(|value| SUMS.contains(&value)) {
             return None;
         }
         Some(match self.opcode {

@@ -29,14 +29,9 @@ pub fn text_of(path: &Path) -> io::Result<Vec<u8>> {
 
 /// Answers all frames of the input. With `validate`, all tables and the state
 /// are gone over before each frame.
-pub fn run(
-    text: &[u8],
-    validate: bool,
-    input: impl Read,
-    output: impl Write,
-) -> io::Result<()> {
+pub fn run(text: &[u8], validate: bool, input: impl Read, output: impl Write) -> io::Result<()> {
     match text::read(text) {
-        Ok(program) => Session::new(Desk::new(program), validate, output).run(input),
+        Ok(program) => Exchange::new(Desk::new(program), validate, output).run(input),
         Err(refusal) => {
             let mut line = Vec::new();
             refused_line(refusal, &mut line);
@@ -50,7 +45,7 @@ fn write_now(mut output: impl Write, bytes: &[u8]) -> io::Result<()> {
     output.flush()
 }
 
-struct Session<W> {
+struct Exchange<W> {
     desk: Desk,
     validate: bool,
     output: W,
@@ -60,10 +55,10 @@ struct Session<W> {
     begun: Vec<u8>,
 }
 
-impl<W: Write> Session<W> {
+impl<W: Write> Exchange<W> {
     fn new(desk: Desk, validate: bool, output: W) -> Self {
         let answers = Vec::with_capacity(2 * CHUNK);
-        Session { desk, validate, output, answers, begun: Vec::new() }
+        Exchange { desk, validate, output, answers, begun: Vec::new() }
     }
 
     /// What is answered is written before more input is waited for. "A last

@@ -51,24 +51,23 @@ fn digit(byte: u8) -> Option<u8> {
     }
 }
 
-/// An answer in the making, as bytes; the longest has 3 + 1 + 2 + 4 + 60·4.
-struct Answer {
-    bytes: [u8; 256],
-    length: usize,
-}
+/// An answer's line in the making: each byte becomes two capital hexadecimal
+/// digits.
+struct Answer<'a>(&'a mut Vec<u8>);
 
-impl Answer {
-    fn new(start: &[u8]) -> Self {
-        let mut answer = Answer { bytes: [0; 256], length: 0 };
+const DIGITS: &[u8; 16] = b"0123456789ABCDEF";
+
+impl<'a> Answer<'a> {
+    fn new(line: &'a mut Vec<u8>, start: &[u8]) -> Self {
+        let mut answer = Answer(line);
         answer.put(start);
         answer
     }
 
     fn put(&mut self, bytes: &[u8]) {
-        let end = self.length + bytes.len();
-        if let Some(room) = self.bytes.get_mut(self.length..end) {
-            room.copy_from_slice(bytes);
-            self.length = end;
+        for &byte in bytes {
+            let (high, low) = (usize::from(byte >> 4), usize::from(byte & 15));
+            self.0.extend([DIGITS[high], DIGITS[low]]);
         }
     }
 
@@ -82,24 +81,16 @@ impl Answer {
         self.put(&(state.period.0 as i32).to_be_bytes());
     }
 
-    /// Writes the answer's line.
-    fn write(&self, out: &mut Vec<u8>) {
-        const DIGITS: &[u8; 16] = b"0123456789ABCDEF";
-        let mut line = [b'\n'; 2 * 256 + 1];
-        let bytes = self.bytes.iter().take(self.length);
-        for (pair, byte) in line.chunks_exact_mut(2).zip(bytes) {
-            pair[0] = DIGITS[usize::from(byte >> 4)];
-            pair[1] = DIGITS[usize::from(byte & 15)];
-        }
-        out.extend_from_slice(&line[..2 * self.length + 1]);
+    fn end(self) {
+        self.0.push(b'\n');
     }
 }
 
 /// "A refused text gives one line, `EE`, number, place in four bytes."
 pub fn refused_line(refusal: Refusal, out: &mut Vec<u8>) {
-    let mut answer = Answer::new(&[0xEE, refusal.number]);
+    let mut answer = Answer::new(out, &[0xEE, refusal.number]);
     answer.put(&(refusal.place as u32).to_be_bytes());
-    answer.write(out);
+    answer.end();
 }
 
 /// What each letter is bound to: "the first with this letter".
@@ -128,7 +119,7 @@ fn first_of_each_letter<T: Copy>(
     bound: impl Iterator<Item = (u8, T)> + Clone,
 ) -> [Option<T>; LETTERS] {
     std::array::from_fn(|i| {
-        let mut with_letter = bound.clone().filter(|(letter, _)| usize::from(letter - b'A') == i);
+        let mut with_letter = bound.clone().filter(|(letter, _)| *letter == b'A' + i as u8);
         with_letter.next().map(|(_, target)| target)
     })
 }
@@ -177,10 +168,10 @@ impl Desk {
     pub fn answer(&mut self, line: &[u8], out: &mut Vec<u8>) -> Option<Made> {
         let known = frame_bytes(line).and_then(|bytes| Some((bytes, frame(bytes)?)));
         let Some((bytes, frame)) = known else {
-            Answer::new(&[0xFF, numbers::BAD_FRAME]).write(out);
+            Answer::new(out, &[0xFF, numbers::BAD_FRAME]).end();
             return None;
         };
-        let mut answer = Answer::new(&bytes);
+        let mut answer = Answer::new(out, &bytes);
         let mut made = None;
         match frame {
             Frame::Letter(letter) => {
@@ -202,7 +193,7 @@ impl Desk {
                 tones.for_each(|tone| answer.put_pitch(*tone));
             }
         }
-        answer.write(out);
+        answer.end();
         made
     }
 

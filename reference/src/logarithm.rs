@@ -82,6 +82,16 @@ mod tests {
         assert_eq!(log2(10, 64), Wide::from(0x3_5269_E12F_346E_2BF9));
     }
 
+    /// log2 3 with 248 binary places, in words of 64 bits.
+    #[test]
+    fn many_known_digits() {
+        let words = [0x0195_C01A_39FB_D687, 0x9FA0_0B12_0A06_8BAD, 0xD124_F3E6_A3A2_59B0];
+        let word_up = |sum: Wide<7>| sum * Wide::power_of_two(64);
+        let high = words.into_iter().fold(Wide::ZERO, |sum, word| word_up(sum) + Wide::from(word));
+        let digits = word_up(high) + Wide::from(0x407B_E590_4D25_FA41);
+        assert_eq!(log2(3, 248), digits);
+    }
+
     #[test]
     fn products_become_sums() {
         let apart = log2(65_521, 256) + log2(65_519, 256) - log2(65_521 * 65_519, 256);

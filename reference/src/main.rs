@@ -2,9 +2,11 @@
 //! 01 alone; the README describes the subcommands and their formats.
 
 mod accuracy;
+mod book;
 mod call_records;
 mod cases;
 mod commands;
+mod comparison;
 mod desk;
 mod dump;
 mod frames;
@@ -18,7 +20,7 @@ mod text;
 mod validity;
 mod wide;
 
-use commands::{calls, measures, texts, Outcome, Verdict};
+use commands::{book as books, calls, measures, note, streams, texts, Outcome, Verdict};
 use std::process::ExitCode;
 
 const USAGE: &str = "usage: reference SUBCOMMAND
@@ -28,27 +30,30 @@ const USAGE: &str = "usage: reference SUBCOMMAND
   call-cases SEED COUNT        writes records of tuning calls
   calls                        answers records of tuning calls
   read FILE...                 prints what each text declares
+  text-cases SEED COUNT DIR|-  writes texts, into a folder or as a stream
   texts                        answers a stream of texts
-  desk [--validate]            answers frames as sitedesk does";
+  stream-cases SEED INDEX TEXTFILE FRAMESFILE
+                               writes one text and its frames
+  stream-pairs SEED COUNT DIR  writes texts and frames, each pair in a folder
+  desk [--validate]            answers frames as sitedesk does
+  book SEED COUNT              follows streams with the exact book";
 
 const USAGE_STATUS: u8 = 2;
 
 fn main() -> ExitCode {
-    let arguments: Option<Vec<String>> = std::env::args_os()
-        .skip(1)
-        .map(|argument| argument.into_string().ok())
-        .collect();
+    let arguments: Option<Vec<String>> =
+        std::env::args_os().skip(1).map(|argument| argument.into_string().ok()).collect();
     let arguments = arguments.unwrap_or_default();
     let words: Vec<&str> = arguments.iter().map(String::as_str).collect();
     match run(&words) {
         Some(Ok(Verdict::Passed)) => ExitCode::SUCCESS,
         Some(Ok(Verdict::Failed)) => ExitCode::FAILURE,
         Some(Err(error)) => {
-            eprintln!("reference: {error}");
+            note(format_args!("reference: {error}"));
             ExitCode::FAILURE
         }
         None => {
-            eprintln!("{USAGE}");
+            note(USAGE);
             ExitCode::from(USAGE_STATUS)
         }
     }
@@ -66,8 +71,18 @@ fn run(words: &[&str]) -> Option<Outcome> {
         ["calls"] => calls::answer(),
         ["read", ref paths @ ..] if !paths.is_empty() => texts::read(paths),
         ["texts"] => texts::answer(),
-        ["desk"] => texts::run_desk(false),
-        ["desk", "--validate"] => texts::run_desk(true),
+        ["text-cases", seed, count, folder] => {
+            texts::write_cases(seed.parse().ok()?, count.parse().ok()?, folder)
+        }
+        ["stream-cases", seed, index, text, frames] => {
+            streams::write_case(seed.parse().ok()?, index.parse().ok()?, text, frames)
+        }
+        ["stream-pairs", seed, count, folder] => {
+            streams::write_pairs(seed.parse().ok()?, count.parse().ok()?, folder)
+        }
+        ["desk"] => streams::run_desk(false),
+        ["desk", "--validate"] => streams::run_desk(true),
+        ["book", seed, count] => books::check(seed.parse().ok()?, count.parse().ok()?),
         _ => return None,
     })
 }

@@ -12,6 +12,13 @@ pub const POSITIONS: usize = 60;
 pub const ANCHORS: RangeInclusive<i64> = 0..=127;
 pub const WIDTHS: RangeInclusive<i64> = 1..=60;
 
+/// "n in anchor and width retunings".
+pub const CHANGES: RangeInclusive<u16> = 0..=9_999;
+
+/// No sum in a text passes these: a tone and sixteen terms, each 999 times an
+/// interval at the end of its range.
+pub const SUMS: RangeInclusive<i64> = -1_598_500_000_000..=1_598_500_000_000;
+
 /// "interval and tone values, tones of a state".
 pub const VALUES: RangeInclusive<i64> = -100_000_000..=100_000_000;
 pub const PERIODS: RangeInclusive<i64> = 0..=12_000_000;

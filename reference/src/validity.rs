@@ -6,13 +6,11 @@
 use crate::frames::Desk;
 use crate::measure::{Interval, Pitch};
 use crate::state::{
-    Call, Change, PeriodChange, Position, State, ToneSystem, ANCHORS, PERIODS, POSITIONS, VALUES,
-    WIDTHS,
+    Call, Change, PeriodChange, Position, State, ToneSystem, ANCHORS, CHANGES, PERIODS, POSITIONS,
+    SUMS, VALUES, WIDTHS,
 };
 use crate::text::tree::{LogicForm, Target};
 use crate::text::Program;
-
-const GREATEST_N: u16 = 9_999;
 
 pub fn is_valid(desk: &Desk) -> bool {
     let program = desk.program();
@@ -57,8 +55,10 @@ fn is_valid_call(call: &Call) -> bool {
 fn is_valid_change(change: Change) -> bool {
     match change {
         Change::Kept => true,
-        Change::To(n) | Change::Plus(n) | Change::Minus(n) | Change::Times(n) => n <= GREATEST_N,
-        Change::Over(n) => n.get() <= GREATEST_N,
+        Change::To(n) | Change::Plus(n) | Change::Minus(n) | Change::Times(n) => {
+            CHANGES.contains(&n)
+        }
+        Change::Over(n) => CHANGES.contains(&n.get()),
     }
 }
 
@@ -71,7 +71,7 @@ fn is_valid_position(position: &Position) -> bool {
 }
 
 fn is_valid_sum(sum: i64) -> bool {
-    crate::call_records::SUMS.contains(&sum)
+    SUMS.contains(&sum)
 }
 
 fn is_valid_system(system: &ToneSystem) -> bool {

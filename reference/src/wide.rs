@@ -91,11 +91,8 @@ impl<const N: usize> Wide<N> {
     /// This number divided by 2^bits, for people to read.
     pub fn to_f64(self, bits: i32) -> f64 {
         let magnitude = self.magnitude();
-        let sum = magnitude
-            .0
-            .iter()
-            .rev()
-            .fold(0.0, |sum, &word| sum * 2f64.powi(64) + word as f64);
+        let sum =
+            magnitude.0.iter().rev().fold(0.0, |sum, &word| sum * 2f64.powi(64) + word as f64);
         let value = sum / 2f64.powi(bits);
         if self.is_negative() {
             -value

@@ -1,11 +1,11 @@
 //! Sequences of tuning calls. The generator follows each sequence with a state
 //! of its own, so that it can aim at the limits from both sides.
 
-use crate::call_records::{Step, SUMS};
+use crate::call_records::Step;
 use crate::measure::{Interval, Pitch};
 use crate::random::Random;
 use crate::state::{
-    Call, Change, PeriodChange, Position, State, ToneSystem, PERIODS, POSITIONS, VALUES,
+    Call, Change, PeriodChange, Position, State, ToneSystem, PERIODS, POSITIONS, SUMS, VALUES,
 };
 use std::num::NonZeroU16;
 
@@ -177,5 +177,27 @@ fn system(random: &mut Random) -> ToneSystem {
         anchor: random.below(128) as u8,
         tones: (0..count).map(|_| sounding(random)).collect(),
         period: Interval(period(random).clamp(*PERIODS.start(), *PERIODS.end())),
+    }
+}
+
+#[cfg(test)]
+mod tests {
+    use super::*;
+
+    #[test]
+    fn each_number_is_frequent() {
+        let mut counts = [0; 15];
+        let mut state = State::start();
+        for step in steps(11, 500) {
+            let new = match step {
+                Step::Reset => Ok(State::start()),
+                Step::Call(call) => state.called(&call),
+            };
+            counts[new.as_ref().err().map_or(0, |&number| usize::from(number))] += 1;
+            state = new.unwrap_or(state);
+        }
+        for number in [0, 10, 11, 12, 13, 14] {
+            assert!(counts[number] >= 100, "{counts:?}");
+        }
     }
 }

@@ -1,6 +1,6 @@
 //! `call-cases` and `calls`.
 
-use super::{input, output, Outcome, Verdict};
+use super::{input, note, output, Outcome, Verdict};
 use crate::call_records::{state_bytes, Step};
 use crate::cases::calls;
 use crate::numbers::{self, Counts, Number};
@@ -29,7 +29,7 @@ pub fn answer() -> Outcome {
         output.write_all(&state_bytes(number, &state))?;
     }
     output.flush()?;
-    eprintln!("calls: {counts}");
+    note(format_args!("calls: {counts}"));
     Ok(Verdict::Passed)
 }
 

@@ -1,6 +1,6 @@
 //! `measure-cases`, `measure` and `measure-accuracy`.
 
-use super::{input, output, verdict, Outcome, Verdict};
+use super::{input, note, output, verdict, Outcome, Verdict};
 use crate::accuracy::{Accuracy, Finding};
 use crate::cases::measures;
 use crate::records::{next_record, MeasureCase};
@@ -38,8 +38,10 @@ pub fn check() -> Outcome {
         tally.note(case, finding);
         Ok(())
     })?;
-    println!("L: {l_tally}, in units of L (from 0, below 2)");
-    println!("measures: {measure_tally}, in thousandths of a cent (at most 0.503)");
+    let mut output = output();
+    writeln!(output, "L: {l_tally}, in units of L (from 0, below 2)")?;
+    writeln!(output, "measures: {measure_tally}, in thousandths of a cent (at most 0.503)")?;
+    output.flush()?;
     Ok(verdict(l_tally.failed + measure_tally.failed == 0))
 }
 
@@ -64,7 +66,7 @@ impl Tally {
         self.count += 1;
         if !finding.holds {
             self.failed += 1;
-            eprintln!("{case:?} is off by {}", finding.distance);
+            note(format_args!("{case:?} is off by {}", finding.distance));
         }
         if finding.distance > self.worst {
             self.worst = finding.distance;

@@ -1,11 +1,14 @@
 //! The subcommands, each a function from its arguments to its verdict.
 
+pub mod book;
 pub mod calls;
 pub mod measures;
+pub mod streams;
 pub mod texts;
 
 use std::error::Error;
-use std::io::{self, BufReader, BufWriter, StdinLock, StdoutLock};
+use std::fmt::Display;
+use std::io::{self, BufReader, BufWriter, StdinLock, StdoutLock, Write};
 
 /// What a subcommand found; `Failed` gives exit status 1.
 #[derive(Clone, Copy, Debug, PartialEq, Eq)]
@@ -15,6 +18,11 @@ pub enum Verdict {
 }
 
 pub type Outcome = Result<Verdict, Box<dyn Error>>;
+
+/// Writes a line to standard error; there is nowhere to tell if that fails.
+pub fn note(line: impl Display) {
+    let _ = writeln!(io::stderr(), "{line}");
+}
 
 const BUFFER: usize = 1 << 16;
 

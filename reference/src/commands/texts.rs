@@ -1,10 +1,12 @@
-//! `read` and `texts`.
+//! `read`, `texts` and `text-cases`.
 
-use super::{input, output, Outcome, Verdict};
+use super::{input, note, output, Outcome, Verdict};
+use crate::cases::texts;
+use crate::dump;
 use crate::numbers::{self, Counts};
 use crate::records::{bad_record, next_record};
 use crate::text::{self, Refusal};
-use crate::{desk, dump};
+use std::fs;
 use std::io::{self, Read, Write};
 use std::path::Path;
 
@@ -12,7 +14,7 @@ use std::path::Path;
 pub fn read(paths: &[&str]) -> Outcome {
     let mut output = output();
     for path in paths {
-        let text = std::fs::read(Path::new(path)).map_err(|error| format!("{path}: {error}"))?;
+        let text = fs::read(Path::new(path)).map_err(|error| format!("{path}: {error}"))?;
         let (Refusal { number, place }, lines) = match text::read(&text) {
             Ok(program) => (ACCEPTED, dump::readable(&program)),
             Err(refusal) => (refusal, String::new()),
@@ -41,7 +43,7 @@ pub fn answer() -> Outcome {
         output.write_all(&bytes)?;
     }
     output.flush()?;
-    eprintln!("texts: {counts}");
+    note(format_args!("texts: {counts}"));
     Ok(Verdict::Passed)
 }
 
@@ -60,9 +62,21 @@ fn next_text(input: &mut impl Read) -> io::Result<Option<Vec<u8>>> {
     Ok(Some(text))
 }
 
-/// Answers frames as `sitedesk` does.
-pub fn run_desk(validate: bool) -> Outcome {
-    let text = desk::text_of(Path::new("logic.mut")).map_err(|error| format!("logic.mut: {error}"))?;
-    desk::run(&text, validate, io::stdin().lock(), io::stdout().lock())?;
+/// Writes the texts of a seed, into a folder or, with `-`, as one stream.
+pub fn write_cases(seed: u64, count: u64, folder: &str) -> Outcome {
+    if folder == "-" {
+        let mut output = output();
+        for text in (0..count).map(|index| texts::text(seed, index)) {
+            output.write_all(&(text.len() as u32).to_be_bytes())?;
+            output.write_all(&text)?;
+        }
+        output.flush()?;
+        return Ok(Verdict::Passed);
+    }
+    let folder = Path::new(folder);
+    fs::create_dir_all(folder)?;
+    for index in 0..count {
+        fs::write(folder.join(format!("{index:05}.mut")), texts::text(seed, index))?;
+    }
     Ok(Verdict::Passed)
 }

@@ -12,7 +12,7 @@ use super::tree::{
 use super::Refusal;
 use crate::measure::{Degree, TenThousandths};
 use crate::numbers;
-use crate::state::{Change, POSITIONS};
+use crate::state::{Change, CHANGES, POSITIONS};
 use std::num::NonZeroU16;
 use std::ops::RangeInclusive;
 
@@ -27,7 +27,6 @@ const TERMS: usize = 16;
 const DEGREES: RangeInclusive<u16> = 1..=65_535;
 const FACTORS: RangeInclusive<u16> = 0..=999;
 const SYSTEM_ANCHORS: RangeInclusive<u16> = 0..=127;
-const CHANGES: RangeInclusive<u16> = 0..=9_999;
 const DIVISORS: RangeInclusive<u16> = 1..=9_999;
 
 type Parsed<T> = Result<T, Refusal>;
@@ -84,20 +83,22 @@ fn one_of(name: Name) -> Term<Name> {
 /// Single symbols.
 impl Parser<'_> {
     fn take(&mut self) -> Parsed<Placed> {
-        let next = match self.ahead.take() {
-            Some(placed) => placed,
-            None => next_symbol(self.text, self.place)?,
-        };
+        let next = self.next()?;
         self.place = next.after;
         Ok(next)
     }
 
     fn peek(&mut self) -> Parsed<&Placed> {
-        let next = match self.ahead.take() {
-            Some(placed) => placed,
-            None => next_symbol(self.text, self.place)?,
-        };
+        let next = self.next()?;
         Ok(self.ahead.insert(next))
+    }
+
+    /// The symbol looked at before, or the one after all that is taken.
+    fn next(&mut self) -> Parsed<Placed> {
+        match self.ahead.take() {
+            Some(placed) => Ok(placed),
+            None => next_symbol(self.text, self.place),
+        }
     }
 
     fn expect(&mut self, wanted: Symbol) -> Parsed<()> {

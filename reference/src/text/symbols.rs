@@ -135,8 +135,7 @@ pub struct Placed {
 pub fn next_symbol(text: &[u8], from: usize) -> Result<Placed, Refusal> {
     let place = skip_parting(text, from)?;
     let rest = text.get(place..).unwrap_or_default();
-    let (symbol, length) =
-        read_symbol(rest).ok_or(Refusal::new(numbers::NO_SYMBOL, place))?;
+    let (symbol, length) = read_symbol(rest).ok_or(Refusal::new(numbers::NO_SYMBOL, place))?;
     Ok(Placed { symbol, place, after: place + length })
 }
 
@@ -219,9 +218,7 @@ fn read_hexadecimal(rest: &[u8]) -> Option<(Symbol, usize)> {
 }
 
 fn value_of_digits(digits: &[u8], base: u64) -> u64 {
-    digits
-        .iter()
-        .fold(0u64, |sum, &digit| sum.saturating_mul(base).saturating_add(value(digit)))
+    digits.iter().fold(0u64, |sum, &digit| sum.saturating_mul(base).saturating_add(value(digit)))
 }
 
 /// The value of a digit, hexadecimal ones included.

@@ -55,7 +55,17 @@ fn symbols() {
     refused_at("INTERVAL a = 3 : 2 \"open", 2, "\"");
     refused_at("INTERVAL \"open", 2, "\"");
     refused_at("TONE Zw\u{f6}lf = 3", 2, "\u{f6}");
+    refused_at("INTERVAL a = b 3.", 2, "3");
+    refused_at("INTERVAL a = 99999999.x", 2, "99999999");
+    refused_at("INTERVAL a = #\"x\"F : 1", 2, "#");
+    refused_at("RETUNING a = [ <<<", 2, "<");
+    refused_at("RETUNING a = [ <\"x\"<", 2, "<\"");
+    refused_at("RETUNING a = <<<", 3, "<<<");
+    refused_at("RETUNING a = @ - > [ ]", 2, ">");
+    refused_at("INTERVAL a = 3 : 2 \0", 2, "\0");
+    refused_at("INTERVAL Oc\"x\"tave = 2 : 1", 3, "tave");
     accepted("INTERVAL Octave = 2:1 I = 3Octave-#3Octave");
+    accepted("INTERVAL ifth = 3:2 tave = ifth x = #3Fifth - #3ctave");
     accepted("INTERVAL x = #68DB8 : 0.0001 TONE y=440Hz=440.0001");
     accepted("\"\" INTERVAL a\"\u{f6}\n\"= 3 : 2");
 }
@@ -186,7 +196,9 @@ fn names() {
     refused_at("TONE a=440 b=c", 6, "c");
     refused_at("LOGIC L KEY a = L [ ]", 6, "L [");
     refused_at("LOGIC L KEY a = [ KEY b -> M ]", 6, "M");
-    accepted("INTERVAL a=2:1 TONE a=440 TONESYSTEM a=1[a]a RETUNING a=[]a LOGIC a KEY a=a[KEY a->a]");
+    accepted(
+        "INTERVAL a=2:1 TONE a=440 TONESYSTEM a=1[a]a RETUNING a=[]a LOGIC a KEY a=a[KEY a->a]",
+    );
     let text = "RETUNING r = [ ] y TONE t = x";
     assert_eq!(refusal(text), (6, place_of(text, "y")));
 }

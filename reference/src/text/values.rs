@@ -1,6 +1,8 @@
 //! Values: the numbers 7 and 8, and the program that a text becomes.
 
-use super::tree::{Declared, IntervalForm, PositionForm, Resolved, RetuningForm, Sum, ToneForm};
+use super::tree::{
+    Declared, IntervalForm, PositionForm, Resolved, RetuningForm, Sum, SystemForm, ToneForm,
+};
 use super::{at_earliest, Refusal};
 use crate::measure::{self, Interval, Pitch};
 use crate::numbers;
@@ -154,10 +156,7 @@ fn tone_value(
 
 /// "Sequences add factor times measure." None if one of the intervals has no
 /// value in range.
-fn add_up(
-    sum: &Sum<usize>,
-    mut value: impl FnMut(usize) -> Option<Interval>,
-) -> Option<Interval> {
+fn add_up(sum: &Sum<usize>, mut value: impl FnMut(usize) -> Option<Interval>) -> Option<Interval> {
     sum.iter().try_fold(Interval::default(), |total, term| {
         Some(total + value(term.interval)? * term.times)
     })
@@ -167,12 +166,8 @@ fn sum_value(sum: &Sum<usize>, intervals: &[Option<Interval>]) -> Option<Interva
     add_up(sum, |i| intervals.get(i).copied().flatten())
 }
 
-fn system_calls(
-    tree: &Resolved,
-    tones: &[Pitch],
-    periods: Vec<Option<Interval>>,
-) -> Vec<Call> {
-    let system = |(declared, period): (&Declared<super::tree::SystemForm<usize>>, _)| {
+fn system_calls(tree: &Resolved, tones: &[Pitch], periods: Vec<Option<Interval>>) -> Vec<Call> {
+    let system = |(declared, period): (&Declared<SystemForm<usize>>, _)| {
         let tone = |tone: &Option<usize>| tone.and_then(|i| tones.get(i).copied());
         Call::System(ToneSystem {
             anchor: declared.form.anchor,
@@ -185,9 +180,7 @@ fn system_calls(
 
 fn retuning_calls(tree: &Resolved, intervals: &[Interval], tones: &[Pitch]) -> Vec<Call> {
     // In an accepted text every interval and tone has its value.
-    let sum = |sum: &Sum<usize>| {
-        add_up(sum, |i| intervals.get(i).copied()).unwrap_or_default()
-    };
+    let sum = |sum: &Sum<usize>| add_up(sum, |i| intervals.get(i).copied()).unwrap_or_default();
     let position = |form: &PositionForm<usize>| match form {
         PositionForm::Muted => Position::Muted,
         PositionForm::By(by) => Position::By(sum(by)),

@@ -1,0 +1,530 @@
+//! Texts that are right: declarations of all kinds, composed at random with
+//! their values in view, so that most stay in range.
+
+use super::sketch::{kind_word, Kind, Part, Quantity, Token, KINDS};
+use crate::measure::{self, Degree, Interval, Pitch, TenThousandths};
+use crate::random::Random;
+use crate::state::{PERIODS, VALUES};
+use std::num::NonZeroU32;
+
+/// How many declarations of each kind a text shall have, and orders in each
+/// logic, at most.
+#[derive(Clone, Copy, Debug)]
+pub struct Plan {
+    pub intervals: usize,
+    pub tones: usize,
+    pub systems: usize,
+    pub retunings: usize,
+    pub logics: usize,
+    pub orders: usize,
+    /// The longest list of positions and the longest sum.
+    pub positions: usize,
+    pub terms: usize,
+    /// Whether numbers are such as make music, rather than any.
+    pub musical: bool,
+}
+
+/// The symbols of a text by this plan.
+pub fn compose(random: &mut Random, plan: Plan) -> Vec<Token> {
+    let mut composer = Composer::new(random, plan);
+    let kinds = [
+        composer.intervals(),
+        composer.tones(),
+        composer.systems(),
+        composer.retunings(),
+        composer.logics(),
+    ];
+    arrange(random, kinds)
+}
+
+type Declaration = Vec<Token>;
+
+/// Parts the declarations of each kind into blocks and puts these in some
+/// order: "names may be used before they are declared".
+fn arrange(random: &mut Random, kinds: [Vec<Declaration>; 5]) -> Vec<Token> {
+    let shuffled = random.percent(50);
+    let mut blocks = Vec::new();
+    for (kind, mut declarations) in KINDS.into_iter().zip(kinds) {
+        if shuffled {
+            shuffle(random, &mut declarations);
+        }
+        while !declarations.is_empty() {
+            let most = declarations.len();
+            let count = if random.percent(70) { most } else { 1 + random.below(most) };
+            let rest = declarations.split_off(count);
+            let mut block = vec![kind_word(random, kind)];
+            block.extend(declarations.into_iter().flatten());
+            blocks.push(block);
+            declarations = rest;
+        }
+    }
+    if shuffled {
+        shuffle(random, &mut blocks);
+    }
+    blocks.into_iter().flatten().collect()
+}
+
+fn shuffle<T>(random: &mut Random, list: &mut [T]) {
+    for i in (1..list.len()).rev() {
+        list.swap(i, random.below(i + 1));
+    }
+}
+
+/// A declared name and its value.
+#[derive(Clone, Debug)]
+struct Known<V> {
+    name: String,
+    value: V,
+}
+
+struct Composer<'a> {
+    random: &'a mut Random,
+    plan: Plan,
+    intervals: Vec<Known<Interval>>,
+    tones: Vec<Known<Pitch>>,
+    systems: Vec<String>,
+    retunings: Vec<String>,
+    logics: Vec<String>,
+}
+
+const NAMES: &str = "Octave Fifth Third Quinte Terz Oktave Halbton cent Syn_Komma c cis d e f' a \
+    h'' _ Tontaube Two Up Distance keys L zz";
+
+/// The names of a kind: the first ones without, the others with their number,
+/// so that none stands twice.
+fn fresh_names(random: &mut Random, count: usize) -> Vec<String> {
+    let mut names: Vec<&str> = NAMES.split_whitespace().collect();
+    shuffle(random, &mut names);
+    let short = random.percent(30);
+    let name = |number: usize| match names.get(number) {
+        _ if short => format!("x{number}"),
+        Some(name) => name.to_string(),
+        None => format!("{}{number}", random.pick(&names, "x")),
+    };
+    (0..count).map(name).collect()
+}
+
+/// Numbers as they are written.
+impl Composer<'_> {
+    /// A whole number, now and then with zeros in front or in hexadecimal.
+    fn whole(&mut self, quantity: Quantity, value: u64) -> Token {
+        let text = match self.random.below(20) {
+            0 => format!("#{value:x}"),
+            1 => format!("#{value:X}"),
+            2 => format!("000{value}"),
+            _ => value.to_string(),
+        };
+        Token::number(quantity, &text)
+    }
+
+    /// A number in ten-thousandths; whole ones may be written as such.
+    fn decimal(&mut self, value: TenThousandths) -> Token {
+        let (whole, fraction) = (value.get() / 10_000, value.get() % 10_000);
+        if fraction == 0 && !self.random.percent(5) {
+            return self.whole(Quantity::Decimal, whole.into());
+        }
+        let mut text = format!("{whole}.{fraction:04}");
+        if !self.random.percent(10) {
+            let least = text.find('.').map_or(0, |point| point + 2);
+            while text.len() > least && text.ends_with('0') {
+                text.pop();
+            }
+        }
+        Token::number(Quantity::Decimal, &text)
+    }
+
+    fn any_decimal(&mut self) -> TenThousandths {
+        let value = match self.random.below(8) {
+            0 => self.random.of_any_length(32),
+            1 => 10_000 * self.random.of_any_length(18),
+            2 => self.random.one_of([1, 9_999, 10_001, u64::from(u32::MAX), 4_294_960_000]),
+            _ => 10_000 * (1 + self.random.below(32) as u64),
+        };
+        decimal_of(value)
+    }
+}
+
+/// Everything here lies in the range of such numbers; whatever does not
+/// becomes 1.
+fn decimal_of(value: u64) -> TenThousandths {
+    u32::try_from(value).ok().and_then(NonZeroU32::new).unwrap_or(measure::ONE)
+}
+
+/// Intervals, sums and tones.
+impl<'a> Composer<'a> {
+    fn new(random: &'a mut Random, plan: Plan) -> Self {
+        Composer {
+            random,
+            plan,
+            intervals: Vec::new(),
+            tones: Vec::new(),
+            systems: Vec::new(),
+            retunings: Vec::new(),
+            logics: Vec::new(),
+        }
+    }
+
+    fn intervals(&mut self) -> Vec<Declaration> {
+        let names = fresh_names(self.random, self.plan.intervals);
+        let mut declarations = Vec::new();
+        for name in names {
+            let (form, value) = self.interval_form();
+            declarations.push(declaration(Kind::Interval, &name, form));
+            self.intervals.push(Known { name, value });
+        }
+        declarations
+    }
+
+    fn interval_form(&mut self) -> (Vec<Token>, Interval) {
+        if self.intervals.len() > 2 && self.random.percent(40) {
+            let range = *VALUES.start()..=*VALUES.end();
+            if let Some(sum) = self.sum(false, |value| range.contains(&value.0)) {
+                return sum;
+            }
+        }
+        if self.random.percent(40) {
+            self.root()
+        } else {
+            self.ratio()
+        }
+    }
+
+    fn root(&mut self) -> (Vec<Token>, Interval) {
+        let (degree, radicand) = match self.random.below(8) {
+            0..=2 => (self.random.one_of([5, 12, 18, 24, 1200]), decimal_of(20_000)),
+            3 => (1 + self.random.below(1200) as u16, decimal_of(20_000)),
+            // Too small to be measured, and exactly one thousandth of a cent.
+            4 => (65_535, decimal_of(self.random.one_of([10_001, 10_386]))),
+            5 => (self.random.of_any_length(16) as u16, decimal_of(15_000)),
+            _ => (self.random.of_any_length(16) as u16, self.any_decimal()),
+        };
+        let degree = Degree::new(degree).unwrap_or(Degree::MIN);
+        let word = self.random.one_of(["ROOT", "WURZEL", "root", "Wurzel"]);
+        let tokens = vec![
+            self.whole(Quantity::Degree, degree.get().into()),
+            Token::word(word),
+            self.decimal(radicand),
+        ];
+        (tokens, measure::root(degree, radicand))
+    }
+
+    fn ratio(&mut self) -> (Vec<Token>, Interval) {
+        let known = [(2, 1), (3, 2), (5, 4), (6, 5), (7, 4), (81, 80), (64, 63), (1, 1), (2, 3)];
+        let (p, q) = if self.random.percent(if self.plan.musical { 80 } else { 30 }) {
+            let (p, q) = self.random.one_of(known);
+            (decimal_of(10_000 * p), decimal_of(10_000 * q))
+        } else {
+            (self.any_decimal(), self.any_decimal())
+        };
+        let tokens = vec![self.decimal(p), Token::mark(":"), self.decimal(q)];
+        (tokens, measure::ratio(p, q))
+    }
+
+    /// A sum of declared intervals whose value fits, or none if there is none
+    /// at hand. With `signed`, each term has its sign and there may be none.
+    fn sum(
+        &mut self,
+        signed: bool,
+        fits: impl Fn(Interval) -> bool,
+    ) -> Option<(Vec<Token>, Interval)> {
+        for _ in 0..8 {
+            let sum = self.any_sum(signed)?;
+            if fits(sum.1) {
+                return Some(sum);
+            }
+        }
+        None
+    }
+
+    fn any_sum(&mut self, signed: bool) -> Option<(Vec<Token>, Interval)> {
+        let most = if self.random.percent(90) { self.plan.terms.min(3) } else { self.plan.terms };
+        let count = self.random.below(most) + usize::from(!signed || self.random.percent(70));
+        let mut tokens = Vec::new();
+        let mut total = Interval::default();
+        for i in 0..count {
+            let minus = (signed || i > 0) && self.random.percent(50);
+            if signed || i > 0 {
+                tokens.push(Token::mark(if minus { "-" } else { "+" }));
+            }
+            let value = self.term(&mut tokens)?;
+            total += if minus { -value } else { value };
+        }
+        Some((tokens, total))
+    }
+
+    fn term(&mut self, tokens: &mut Vec<Token>) -> Option<Interval> {
+        let place = self.random.below(self.intervals.len());
+        let Known { name, value } = self.intervals.get(place)?.clone();
+        let factor = match self.random.below(10) {
+            0 => Some(self.random.below(1000) as u64),
+            1 => Some(self.random.one_of([0, 1, 999])),
+            2..=4 => Some(self.random.below(13) as u64),
+            _ => None,
+        };
+        // Intervals too small to be measured may well be taken many times.
+        let factor = if value.0 == 0 && self.random.percent(50) { Some(999) } else { factor };
+        if let Some(factor) = factor {
+            let token = self.whole(Quantity::Factor, factor);
+            tokens.push(token);
+        }
+        tokens.push(Token::used(Kind::Interval, &name));
+        Some(value * factor.map_or(1, |factor| factor as i64))
+    }
+
+    fn tones(&mut self) -> Vec<Declaration> {
+        let names = fresh_names(self.random, self.plan.tones);
+        let mut declarations = Vec::new();
+        for name in names {
+            let (form, value) = self.tone_form();
+            declarations.push(declaration(Kind::Tone, &name, form));
+            self.tones.push(Known { name, value });
+        }
+        declarations
+    }
+
+    fn tone_form(&mut self) -> (Vec<Token>, Pitch) {
+        if !self.random.percent(30) {
+            if let Some(moved) = self.moved_tone(|value| VALUES.contains(&value.0)) {
+                return moved;
+            }
+        }
+        let frequency = match self.random.below(4) {
+            0 if !self.plan.musical => self.any_decimal(),
+            0 | 1 => measure::CONCERT_FREQUENCY,
+            _ => decimal_of(self.random.between(1_000_000, 9_000_000) as u64),
+        };
+        (vec![self.decimal(frequency)], measure::frequency(frequency))
+    }
+
+    /// A declared tone with signed terms, if there is one whose value fits.
+    fn moved_tone(&mut self, fits: impl Fn(Pitch) -> bool) -> Option<(Vec<Token>, Pitch)> {
+        let place = self.random.below(self.tones.len());
+        let Known { name, value } = self.tones.get(place)?.clone();
+        let (terms, by) = self.sum(true, |by| fits(value + by))?;
+        let mut tokens = vec![Token::used(Kind::Tone, &name)];
+        tokens.extend(terms);
+        Some((tokens, value + by))
+    }
+}
+
+fn declaration(kind: Kind, name: &str, form: Vec<Token>) -> Declaration {
+    let mut tokens = vec![Token::declared(kind, name), Token::mark("=")];
+    tokens.extend(form);
+    tokens
+}
+
+/// Tone systems, retunings and logics.
+impl Composer<'_> {
+    fn systems(&mut self) -> Vec<Declaration> {
+        let names = fresh_names(self.random, self.plan.systems);
+        let mut declarations = Vec::new();
+        for name in names {
+            // Without an interval there is no period, and no tone system.
+            let Some((period, _)) = self.sum(false, |value| PERIODS.contains(&value.0)) else {
+                continue;
+            };
+            let anchor = self.random.below(128) as u64;
+            let mut form = vec![self.whole(Quantity::Anchor, anchor)];
+            form.extend(self.system_positions());
+            form.extend(period);
+            declarations.push(declaration(Kind::System, &name, form));
+            self.systems.push(name);
+        }
+        declarations
+    }
+
+    fn system_positions(&mut self) -> Vec<Token> {
+        let muted = self.random.one_of([0, 0, 10, 50]);
+        let count = 1 + self.random.below(self.plan.positions);
+        let mut positions = Vec::new();
+        for _ in 0..count {
+            let name = self.random.pick(&self.tones, NO_TONE).name;
+            let named = !name.is_empty() && !self.random.percent(muted);
+            let token = Token::used(Kind::Tone, &name);
+            positions.push(if named { vec![token] } else { Vec::new() });
+        }
+        // `[ ]` alone is refused: a single position has to be named.
+        if count == 1 && positions.iter().all(Vec::is_empty) {
+            positions.push(Vec::new());
+        }
+        bracketed(positions)
+    }
+
+    fn retunings(&mut self) -> Vec<Declaration> {
+        let names = fresh_names(self.random, self.plan.retunings);
+        let mut declarations = Vec::new();
+        for name in names {
+            let form = match self.random.below(10) {
+                0..=2 => self.anchor_form(),
+                3..=4 => self.width_form(),
+                5..=6 => self.period_form(),
+                _ => self.tones_form(),
+            };
+            declarations.push(declaration(Kind::Retuning, &name, form));
+            self.retunings.push(name);
+        }
+        declarations
+    }
+
+    fn anchor_form(&mut self) -> Vec<Token> {
+        let mut form = match self.random.below(8) {
+            0 => vec![Token::mark("@")],
+            1 => vec![self.change(128)],
+            2 => vec![self.change(10_000)],
+            _ => {
+                let sign = self.random.one_of(["+", "-"]);
+                let most = if self.random.percent(90) { 12 } else { 10_000 };
+                vec![Token::mark("@"), Token::mark(sign), self.change(most)]
+            }
+        };
+        form.extend([Token::mark("["), Token::mark("]")]);
+        form
+    }
+
+    fn change(&mut self, below: usize) -> Token {
+        let n = self.random.below(below) as u64;
+        self.whole(Quantity::Change, n)
+    }
+
+    fn width_form(&mut self) -> Vec<Token> {
+        let mut form = vec![Token::mark("["), Token::mark("<<")];
+        if self.random.percent(40) {
+            let most = if self.random.percent(90) { 40 } else { 10_000 };
+            form.push(self.change(most));
+        } else {
+            form.push(Token::mark("@"));
+            form.extend(self.width_change());
+        }
+        form.extend([Token::mark(">>"), Token::mark("]")]);
+        form
+    }
+
+    fn width_change(&mut self) -> Vec<Token> {
+        let rare = self.random.percent(5);
+        let operator = self.random.one_of(["", "+", "-", "*", "/"]);
+        let n = match operator {
+            "" => return Vec::new(),
+            "/" => {
+                let n = 1 + self.random.below(if rare { 9_999 } else { 4 }) as u64;
+                self.whole(Quantity::Divisor, n)
+            }
+            "*" => self.change(if rare { 10_000 } else { 4 }),
+            _ => self.change(if rare { 10_000 } else { 8 }),
+        };
+        vec![Token::mark(operator), n]
+    }
+
+    fn period_form(&mut self) -> Vec<Token> {
+        let mut form = vec![Token::mark("["), Token::mark("]")];
+        let strict = self.random.percent(80);
+        let fits = |value: Interval| !strict || PERIODS.contains(&value.0);
+        let small = |value: Interval| !strict || value.0.abs() < 1_300_000;
+        let absolute = if self.random.percent(40) { self.sum(false, fits) } else { None };
+        match absolute {
+            Some((sum, _)) => form.extend(sum),
+            None => {
+                form.push(Token::mark("@"));
+                form.extend(self.sum(true, small).unwrap_or_default().0);
+            }
+        }
+        form
+    }
+
+    fn tones_form(&mut self) -> Vec<Token> {
+        let count = 1 + self.random.below(self.plan.positions);
+        let muted = self.random.one_of([2, 2, 20]);
+        let strict = !self.random.percent(15);
+        let mut positions: Vec<Vec<Token>> = Vec::new();
+        for i in 0..count {
+            // The first position is seldom muted: without it no anchor moves.
+            let chance = if i == 0 { muted / 2 } else { muted };
+            let empty = self.random.percent(chance);
+            positions.push(if empty { Vec::new() } else { self.position(strict) });
+        }
+        if count == 1 && positions.iter().all(Vec::is_empty) {
+            positions.push(Vec::new());
+        }
+        bracketed(positions)
+    }
+
+    fn position(&mut self, strict: bool) -> Vec<Token> {
+        if self.random.percent(30) {
+            let fits = |value: Pitch| !strict || VALUES.contains(&value.0);
+            if let Some((tokens, _)) = self.moved_tone(fits) {
+                return tokens;
+            }
+        }
+        let mut tokens = vec![Token::mark("@")];
+        if self.random.percent(60) {
+            let small = |value: Interval| !strict || value.0.abs() < 2_500_000;
+            tokens.extend(self.sum(true, small).unwrap_or_default().0);
+        }
+        tokens
+    }
+
+    /// Logics have letters from the front of the alphabet, orders mostly from
+    /// its end, so that they are reached.
+    fn logics(&mut self) -> Vec<Declaration> {
+        let names = fresh_names(self.random, self.plan.logics);
+        self.logics = names.clone();
+        let front = (self.plan.logics + 1).min(13);
+        let mut declarations = Vec::new();
+        for (i, name) in names.iter().enumerate() {
+            let letter = if self.random.percent(80) { i % front } else { self.random.below(26) };
+            let mut tokens = vec![Token::declared(Kind::Logic, name)];
+            tokens.extend(self.key(letter));
+            tokens.push(Token::mark("="));
+            tokens.extend(self.called(false));
+            tokens.push(Token::mark("["));
+            for _ in 0..self.random.below(self.plan.orders + 1) {
+                tokens.extend(self.order(front));
+            }
+            tokens.push(Token::mark("]"));
+            declarations.push(tokens);
+        }
+        declarations
+    }
+
+    fn order(&mut self, front: usize) -> Vec<Token> {
+        let Some(called) = self.called(true) else {
+            return Vec::new();
+        };
+        let behind = front + self.random.below(26 - front);
+        let letter = if self.random.percent(90) { behind } else { self.random.below(26) };
+        let mut tokens = self.key(letter);
+        tokens.extend([Token::mark("->"), called]);
+        tokens
+    }
+
+    fn key(&mut self, letter: usize) -> Vec<Token> {
+        let letter = b'A' + letter.min(25) as u8;
+        let word = self.random.one_of(["KEY", "TASTE", "key", "Taste"]);
+        vec![Token::word(word), Token { part: Part::Letter, bytes: vec![letter] }]
+    }
+
+    /// A name to call: a retuning, a tone system or, in orders, a logic.
+    fn called(&mut self, in_order: bool) -> Option<Token> {
+        let list = match self.random.below(20) {
+            0..=1 if in_order => &self.logics,
+            0..=1 => return None,
+            2..=6 => &self.systems,
+            _ => &self.retunings,
+        };
+        let name = self.random.pick(list, String::new());
+        (!name.is_empty()).then(|| Token::new(Part::Called, &name))
+    }
+}
+
+const NO_TONE: Known<Pitch> = Known { name: String::new(), value: measure::CONCERT_PITCH };
+
+fn bracketed(positions: Vec<Vec<Token>>) -> Vec<Token> {
+    let mut tokens = vec![Token::mark("[")];
+    for (i, position) in positions.into_iter().enumerate() {
+        if i > 0 {
+            tokens.push(Token::mark(","));
+        }
+        tokens.extend(position);
+    }
+    tokens.push(Token::mark("]"));
+    tokens
+}

@@ -1,0 +1,189 @@
+//! Pairs of a text and a stream of frames for it. Most texts are right, and
+//! their letters really move the state.
+
+use super::compose::{compose, Plan};
+use super::faults;
+use super::sketch::render;
+use crate::frames::Desk;
+use crate::random::Random;
+use crate::text;
+
+pub struct Pair {
+    pub text: Vec<u8>,
+    pub frames: Vec<u8>,
+}
+
+/// One pair of a seed.
+pub fn pair(seed: u64, index: u64) -> Pair {
+    let mut random = Random::for_case(seed ^ 0x5EED_0F57_2EA4, index);
+    let random = &mut random;
+    let text = if random.percent(4) { damaged_text(random) } else { right_text(random) };
+    let frames = Player::new(&text).frames(random);
+    Pair { text, frames }
+}
+
+fn damaged_text(random: &mut Random) -> Vec<u8> {
+    let plan = plan(random);
+    let mut tokens = compose(random, plan);
+    faults::put_in(random, &mut tokens);
+    render(random, &tokens)
+}
+
+/// A text that is accepted; should none come in a few attempts, the empty one.
+fn right_text(random: &mut Random) -> Vec<u8> {
+    let mut compose_one = || {
+        let plan = plan(random);
+        let tokens = compose(random, plan);
+        render(random, &tokens)
+    };
+    let attempts = (0..8).map(|_| compose_one());
+    attempts.into_iter().find(|text| text::read(text).is_ok()).unwrap_or_default()
+}
+
+fn plan(random: &mut Random) -> Plan {
+    let large = random.percent(10);
+    let mut between = |low: usize, high: usize| low + random.below(high - low + 1);
+    if large {
+        return Plan {
+            intervals: between(20, 60),
+            tones: between(20, 60),
+            systems: between(2, 12),
+            retunings: between(40, 100),
+            logics: between(8, 32),
+            orders: 14,
+            positions: [12, 16, 24, 60][between(0, 3)],
+            terms: 6,
+            musical: true,
+        };
+    }
+    Plan {
+        intervals: between(3, 12),
+        tones: between(2, 12),
+        systems: between(1, 4),
+        retunings: between(5, 30),
+        logics: between(1, 6),
+        orders: 14,
+        positions: between(1, 14),
+        terms: between(1, 6),
+        musical: between(0, 4) > 0,
+    }
+}
+
+/// Plays on a text: follows it with a desk, so that it knows which letters are
+/// bound at each moment.
+struct Player {
+    desk: Option<Desk>,
+    lines: Vec<u8>,
+}
+
+impl Player {
+    fn new(text: &[u8]) -> Self {
+        let desk = text::read(text).ok().map(Desk::new);
+        Player { desk, lines: Vec::new() }
+    }
+
+    /// The frames of a stream; the last line may lack its line feed.
+    fn frames(mut self, random: &mut Random) -> Vec<u8> {
+        let most = random.one_of([5, 30, 60, 120, 240]);
+        for _ in 0..=random.below(most) {
+            let line = self.line(random);
+            if let Some(desk) = &mut self.desk {
+                desk.answer(&line, &mut Vec::new());
+            }
+            self.lines.extend(line);
+            self.lines.push(b'\n');
+        }
+        if random.percent(30) {
+            self.lines.pop();
+        }
+        self.lines
+    }
+
+    fn line(&self, random: &mut Random) -> Vec<u8> {
+        let house = 1 + random.below(2) as u8;
+        match random.below(100) {
+            0..=64 => frame_line([house, 1, self.letter(random)]),
+            65..=83 => frame_line([house, 2, random.below(128) as u8]),
+            84..=89 => frame_line([house, 3, 0]),
+            90..=93 => frame_line(near_frame(random)),
+            _ => damaged_line(random),
+        }
+    }
+
+    /// Mostly a letter of the active logic's orders, else one of a logic, else
+    /// any.
+    fn letter(&self, random: &mut Random) -> u8 {
+        let any = b'A' + random.below(26) as u8;
+        let Some(desk) = &self.desk else {
+            return any;
+        };
+        let logics = &desk.program().declared.logics;
+        let active = desk.active().and_then(|i| logics.get(i));
+        let orders = active.map_or(&[][..], |logic| &logic.form.orders);
+        match random.below(100) {
+            0..=74 if !orders.is_empty() => {
+                let place = random.below(orders.len());
+                orders.get(place).map_or(any, |order| order.letter.0)
+            }
+            0..=94 => {
+                let place = random.below(logics.len());
+                logics.get(place).map_or(any, |logic| logic.form.letter.0)
+            }
+            _ => any,
+        }
+    }
+}
+
+fn frame_line(bytes: [u8; 3]) -> Vec<u8> {
+    let digits: String = bytes.iter().map(|byte| format!("{byte:02X}")).collect();
+    digits.into_bytes()
+}
+
+/// Three bytes right beside those of a frame.
+fn near_frame(random: &mut Random) -> [u8; 3] {
+    let house = random.one_of([0, 1, 2, 3, 0xFF]);
+    let kind = random.one_of([0, 1, 2, 3, 4]);
+    let last = random.one_of([0x00, 0x01, 0x40, 0x41, 0x5A, 0x5B, 0x61, 0x7F, 0x80, 0xFF]);
+    [house, kind, last]
+}
+
+/// Lines that are no frames: too short or long, with small digits or other
+/// bytes.
+const DAMAGED: &str =
+    "||0|0201|01023|0102450|01024a|01014d| 10245|010245 |010245\r|01 02 45|0x0245|\
+    01014G|\u{0}0245|\u{ff}\u{ff}";
+
+fn damaged_line(random: &mut Random) -> Vec<u8> {
+    let lines: Vec<_> = DAMAGED.split('|').collect();
+    let mut line = random.pick(&lines, "").as_bytes().to_vec();
+    if random.percent(3) {
+        line.resize(line.len() + random.below(100_000), b'0');
+    }
+    line
+}
+
+#[cfg(test)]
+mod tests {
+    use super::*;
+
+    /// Most texts are accepted, and most letters that are played are taken.
+    #[test]
+    fn streams_move_the_state() {
+        let (mut accepted, mut made, mut taken) = (0, 0, 0);
+        for index in 0..60 {
+            let pair = pair(11, index);
+            let Ok(program) = text::read(&pair.text) else {
+                continue;
+            };
+            accepted += 1;
+            let mut desk = Desk::new(program);
+            for line in pair.frames.split(|&byte| byte == b'\n') {
+                let call = desk.answer(line, &mut Vec::new());
+                made += u32::from(call.is_some());
+                taken += u32::from(call.is_some_and(|call| call.number == 0));
+            }
+        }
+        assert!(accepted > 50);
+        assert!(made > 500 && 3 * taken > 2 * made, "{taken} of {made} calls were taken");
+    }
+}

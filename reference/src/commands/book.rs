@@ -1,0 +1,157 @@
+//! `book`: streams answered by the desk and kept in the exact book, side by
+//! side.
+
+use super::{note, output, verdict, Outcome};
+use crate::book::{Book, Halt};
+use crate::cases::streams;
+use crate::comparison::{Comparison, Logarithms, Page, Sizes};
+use crate::frames::Desk;
+use crate::measure::{Pitch, CONCERT_PITCH};
+use crate::text;
+use std::io::Write;
+
+const KEYS: i64 = 128;
+
+/// Follows the streams of a seed and checks demand 3 at every key, at the start
+/// and after every frame.
+pub fn check(seed: u64, count: u64) -> Outcome {
+    let mut logarithms = Logarithms::new();
+    let mut tally = Tally::default();
+    for index in 0..count {
+        tally.stream = index;
+        let pair = streams::pair(seed, index);
+        match follow(&pair.text, &pair.frames, &mut logarithms, &mut tally) {
+            Ok(()) => tally.streams += 1,
+            Err(Halt::TooLarge) => tally.too_large += 1,
+            Err(Halt::Impossible) => tally.fail("the book met what the rules exclude"),
+        }
+    }
+    let mut output = output();
+    writeln!(output, "{tally}")?;
+    output.flush()?;
+    Ok(verdict(tally.failed == 0))
+}
+
+fn follow(
+    text: &[u8],
+    frames: &[u8],
+    logarithms: &mut Logarithms,
+    tally: &mut Tally,
+) -> Result<(), Halt> {
+    let Ok(program) = text::read(text) else {
+        tally.refused += 1;
+        return Ok(());
+    };
+    let tree = program.declared.clone();
+    let mut book = Book::new(&tree)?;
+    let sizes = Sizes::of(&tree, &book.numbers, logarithms);
+    let mut desk = Desk::new(program);
+    compare_keys(&mut desk, &Page::new(&book, &sizes), tally)?;
+    let lines = frames.strip_suffix(b"\n").unwrap_or(frames);
+    for line in lines.split(|&byte| byte == b'\n') {
+        let mut answer = Vec::new();
+        if let Some(made) = desk.answer(line, &mut answer) {
+            tally.calls += u64::from(made.number == 0);
+            book.take(made)?;
+        }
+        compare_keys(&mut desk, &Page::new(&book, &sizes), tally)?;
+        tally.frames += 1;
+    }
+    Ok(())
+}
+
+fn compare_keys(desk: &mut Desk, page: &Page, tally: &mut Tally) -> Result<(), Halt> {
+    for key in 0..KEYS {
+        let pitch = asked_pitch(desk, key);
+        let d = pitch.map(|pitch| pitch - CONCERT_PITCH);
+        let comparison = page.compare(key, d.unwrap_or_default())?;
+        tally.note(key, pitch, comparison);
+    }
+    Ok(())
+}
+
+/// The pitch that a frame of kind 02 answers: the last four of eight bytes.
+fn asked_pitch(desk: &mut Desk, key: i64) -> Option<Pitch> {
+    let mut answer = Vec::with_capacity(32);
+    desk.answer(format!("0102{key:02X}").as_bytes(), &mut answer);
+    let digits = std::str::from_utf8(answer.get(8..16)?).ok()?;
+    let bytes = u32::from_str_radix(digits, 16).ok()?;
+    (bytes != 1 << 31).then_some(Pitch((bytes as i32).into()))
+}
+
+#[derive(Default)]
+struct Tally {
+    stream: u64,
+    streams: u64,
+    refused: u64,
+    too_large: u64,
+    frames: u64,
+    calls: u64,
+    silent: u64,
+    exact: u64,
+    within: u64,
+    failed: u64,
+    worst: f64,
+}
+
+impl Tally {
+    fn note(&mut self, key: i64, pitch: Option<Pitch>, comparison: Comparison) {
+        let holds = match comparison {
+            Comparison::Silent => {
+                self.silent += 1;
+                pitch.is_none()
+            }
+            Comparison::Exactly(holds) => {
+                self.exact += 1;
+                holds && pitch.is_some()
+            }
+            Comparison::Within(holds, share) => {
+                self.within += 1;
+                self.worst = self.worst.max(share);
+                holds && pitch.is_some()
+            }
+        };
+        if !holds {
+            self.fail(&format!("key {key} answers {pitch:?}, which is {comparison:?}"));
+        }
+    }
+
+    fn fail(&mut self, what: &str) {
+        self.failed += 1;
+        note(format_args!("stream {}: {what}", self.stream));
+    }
+}
+
+impl std::fmt::Display for Tally {
+    fn fmt(&self, f: &mut std::fmt::Formatter) -> std::fmt::Result {
+        writeln!(
+            f,
+            "{} streams followed ({} of them with refused texts), {} left for too large powers",
+            self.streams, self.refused, self.too_large
+        )?;
+        writeln!(f, "{} frames, {} calls taken", self.frames, self.calls)?;
+        writeln!(
+            f,
+            "keys: {} silent in both, {} exact (w = 0), {} within w; worst distance {:.6} w",
+            self.silent, self.exact, self.within, self.worst
+        )?;
+        write!(f, "{} failed", self.failed)
+    }
+}
+
+#[cfg(test)]
+mod tests {
+    use super::*;
+
+    #[test]
+    fn a_few_streams_hold() {
+        let mut tally = Tally::default();
+        for index in 0..12 {
+            let pair = streams::pair(9, index);
+            let mut logarithms = Logarithms::new();
+            follow(&pair.text, &pair.frames, &mut logarithms, &mut tally).unwrap();
+        }
+        assert_eq!(tally.failed, 0);
+        assert!(tally.exact > 0 && tally.within > 0 && tally.calls > 0);
+    }
+}
