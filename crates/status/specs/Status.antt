@@ -1,0 +1,87 @@
+-- Document 01, "Numbers returned": the one list of them, for every definition.
+use Prim.Native.Nat.{ℕ}
+
+abbrev pub done : ℕ
+done = 0
+
+-- ---- of a text
+
+-- "text too long, or a table not of full size"
+abbrev pub textTooLong : ℕ
+textTooLong = 1
+
+-- "place where no symbol begins, unfinished comment, or number lacking digits"
+abbrev pub noSymbol : ℕ
+noSymbol = 2
+
+-- "symbol that no continuation allows"
+abbrev pub symbolNotAllowed : ℕ
+symbolNotAllowed = 3
+
+-- "number out of range, too many places, or a point where whole is asked"
+abbrev pub numberOutOfRange : ℕ
+numberOutOfRange = 4
+
+-- "name used twice in a kind"
+abbrev pub nameTwice : ℕ
+nameTwice = 5
+
+-- "name not declared"
+abbrev pub nameNotDeclared : ℕ
+nameNotDeclared = 6
+
+-- "interval or tone that depends on itself"
+abbrev pub dependsOnItself : ℕ
+dependsOnItself = 7
+
+-- "interval, tone or tone system's period out of range"
+abbrev pub valueOutOfRange : ℕ
+valueOutOfRange = 8
+
+-- "one more item than allowed"
+abbrev pub itemTooMany : ℕ
+itemTooMany = 9
+
+-- ---- of a retuning
+
+-- "anchor not 0 to 127"
+abbrev pub anchorOutOfRange : ℕ
+anchorOutOfRange = 10
+
+-- "width not 1 to 60"
+abbrev pub widthOutOfRange : ℕ
+widthOutOfRange = 11
+
+-- "period not in its range"
+abbrev pub periodOutOfRange : ℕ
+periodOutOfRange = 12
+
+-- "t(0) muted, or key b (anchor) or a+v (width) silent"
+abbrev pub endSilent : ℕ
+endSilent = 13
+
+-- "a resulting tone not in its range"
+abbrev pub toneOutOfRange : ℕ
+toneOutOfRange = 14
+
+-- ---- of a frame
+
+-- "answer buffer under 512 bytes"
+abbrev pub bufferTooSmall : ℕ
+bufferTooSmall = 19
+
+-- "key asked is silent"
+abbrev pub keySilent : ℕ
+keySilent = 20
+
+-- "letter bound to nothing"
+abbrev pub letterUnbound : ℕ
+letterUnbound = 21
+
+-- "bad frame"
+abbrev pub badFrame : ℕ
+badFrame = 22
+
+-- "a table's or state's number out of range, or a reference beyond its count"
+abbrev pub tableDamaged : ℕ
+tableDamaged = 23

@@ -1,0 +1,10 @@
+-- Laws that the functions' proofs use, and theorems on the definitions.
+pub mod Lists
+pub mod Valid
+pub mod Tones
+pub mod Part
+pub mod Held
+pub mod Changed
+pub mod Outcomes
+pub mod Laws
+pub mod Sums

@@ -1,0 +1,44 @@
+-- By the three cases of a change.
+use mathlib.Core.Path.{_≡_}
+use mathlib.Core.Bool.{true}
+use native.Mathlib.Omega.{arith}
+use borrow.Author.Needs.{needs}
+use borrow.Author.Tests.{leb-true}
+use Rattle.tuning.specs.Inner.{modest}
+use Rattle.tuning.proofs.ToneChange.apply.Statement.{statement}
+use Rattle.tuning.proofs.ToneChange.apply.Tie as tie
+
+enum-told : tie.Need-enum-told
+enum-told c = search needs
+
+enum-known-self : tie.Need-enum-known-self
+enum-known-self c = search needs
+
+raise-requires : tie.Need-raise-requires
+raise-requires c κs =
+    let e : modest (c .before .self .given .0 .0 .0) ≡ true = cc in
+    omega (arith, leb-true)
+
+enum-known-self-2 : tie.Need-enum-known-self-2
+enum-known-self-2 c = search needs
+
+returns : tie.Need-returns
+returns c = search needs
+
+returns-2 : tie.Need-returns-2
+returns-2 c = rw (c .before .before .self .given .1) (c .raise .ensures)
+
+returns-3 : tie.Need-returns-3
+returns-3 c = rw (c .before .self2 .given .1)
+
+pub apply-spec : {M : Type 1} → statement M
+apply-spec =
+    tie.close
+    (tie.spec
+    enum-told
+    enum-known-self
+    raise-requires
+    enum-known-self-2
+    returns
+    returns-2
+    returns-3)

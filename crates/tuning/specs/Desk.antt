@@ -1,0 +1,111 @@
+-- The desk: tones and steps are whole thousandths of a cent, and each call has its number.
+use mathlib.Core.Bool.{Bool, true, false, not, _&&_, _||_}
+use mathlib.Core.List.{List, [], _∷_}
+use Prim.Native.Nat.{ℕ, zero, suc, _+_}
+use lib.IntN.{ℤ, pos, negsuc, _+ℤ_, _-ℤ_, _*ℤ_}
+use lib.Signed.{leZ}
+use Rattle.integers.specs.Parts.{up}
+use Rattle.cents.specs.Measure.{pitch440}
+use Rattle.status.specs.Status.{anchorOutOfRange, widthOutOfRange, periodOutOfRange, endSilent, toneOutOfRange}
+use Rattle.tuning.specs.Scale.{Scale, Sound, muted, sounds}
+use Rattle.tuning.specs.Tuning.{Tuning, Action, anchorTo, widthTo, periodTo, tonesTo, system, amounts, width, reach, done}
+
+-- "Pitches and intervals are whole thousandths of a cent"; the twelfth root of 2 is 100 cents
+abbrev pub cents : Scale
+cents = record {
+  Tone = ℤ;
+  Step = ℤ;
+  shift = λ t d. t +ℤ d;
+  between = λ t u. u -ℤ t;
+  none = pos 0;
+  add = λ d e. d +ℤ e;
+  times = λ k d. k *ℤ d;
+  start440 = pitch440;
+  startRoot = pos 100000;
+}
+
+-- ---- "Numbers allowed"
+
+abbrev pub between : ℤ → ℤ → ℤ → Bool
+between low high z = leZ low z && leZ z high
+
+-- "anchor .. 0 to 127", "width not 1 to 60"
+abbrev pub isAnchor : ℤ → Bool
+isAnchor b = between (pos 0) (pos 127) b
+
+abbrev pub isWidth : ℤ → Bool
+isWidth v = between (pos 1) (pos 60) v
+
+-- "period: 0 to 12,000,000"
+abbrev pub isPeriod : ℤ → Bool
+isPeriod P = between (pos 0) (pos 12000000) P
+
+-- "tones of a state: -100,000,000 to 100,000,000"
+abbrev pub isTone : ℤ → Bool
+isTone t = between (negsuc 99999999) (pos 100000000) t
+
+-- ---- the checks, each with the number that is given where it fails
+
+pub record Check : Type 0 where
+  pub number : ℕ
+  pub fails : Bool
+
+unfoldable pub firstFailing : List Check → ℕ
+firstFailing [] = 0
+firstFailing (c ∷ cs) = elim (c .fails) [ true ↦ c .number | false ↦ firstFailing cs ]
+
+abbrev pub badAnchor : ℤ → Check
+badAnchor b = record { number = anchorOutOfRange; fails = not (isAnchor b) }
+
+abbrev pub badWidth : ℤ → Check
+badWidth v = record { number = widthOutOfRange; fails = not (isWidth v) }
+
+abbrev pub badPeriod : ℤ → Check
+badPeriod P = record { number = periodOutOfRange; fails = not (isPeriod P) }
+
+-- "t(0) muted, or key b (anchor) or a+v (width) silent"
+abbrev pub isMuted : {A : Type 0} → Sound A → Bool
+isMuted muted = true
+isMuted (sounds t) = false
+
+abbrev pub unreached : Tuning cents → ℕ → Check
+unreached s x = record { number = endSilent; fails = isMuted (reach cents s x) }
+
+-- "a resulting tone not in its range"
+abbrev pub beyond : Sound ℤ → Bool
+beyond muted = false
+beyond (sounds t) = not (isTone t)
+
+unfoldable pub anyBeyond : List (Sound ℤ) → Bool
+anyBeyond [] = false
+anyBeyond (t ∷ ts) = beyond t || anyBeyond ts
+
+abbrev pub badTone : Tuning cents → Check
+badTone s = record { number = toneOutOfRange; fails = anyBeyond (s .tones) }
+
+-- "Checks: 10, 13, 14", "11, 13, 14, 12", "12", "14", each in this order; a tone system is always taken
+abbrev pub checks : Tuning cents → Action cents → List Check
+checks s (anchorTo m) =
+    let b = amounts m (s .anchor) in
+    badAnchor b ∷ unreached s (up b) ∷ badTone (done cents s (anchorTo m)) ∷ []
+checks s (widthTo m) =
+    let v = amounts m (width cents s) in
+    let new = done cents s (widthTo m) in
+    badWidth v ∷ unreached s (s .anchor + up v) ∷ badTone new ∷ badPeriod (new .period) ∷ []
+checks s (periodTo m) = badPeriod (done cents s (periodTo m) .period) ∷ []
+checks s (tonesTo l) = badTone (done cents s (tonesTo l)) ∷ []
+checks s (system y) = []
+
+-- ---- a call: its number, and the state that it leaves
+
+-- "A call with number 0 does what its line above says. Any other number changes nothing."
+abbrev pub ifTaken : {A : Type 0} → ℕ → A → A → A
+ifTaken zero new old = new
+ifTaken (suc n) new old = old
+
+pub record Called : Type 0 where
+  pub number : ℕ
+  pub state : Tuning cents
+
+unfoldable pub called : Tuning cents → Action cents → Called
+called s c = let n = firstFailing (checks s c) in record { number = n; state = ifTaken n (done cents s c) s }

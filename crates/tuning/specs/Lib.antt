@@ -1,0 +1,7 @@
+-- Document 01, "State and retunings".
+pub mod Scale
+pub mod Tuning
+pub mod Desk
+pub mod State
+pub mod Sums
+pub mod Inner

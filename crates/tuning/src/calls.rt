@@ -1,0 +1,308 @@
+// The retunings: each call takes the state and hands it back with its number, unchanged where the number is not 0.
+use crate::Amount;
+use crate::Operator;
+use crate::PeriodChange;
+use crate::Position;
+use crate::Reach;
+use crate::Reply;
+use crate::Retuning;
+use crate::State;
+use crate::Tone;
+use crate::ToneChange;
+use crate::ToneChanges;
+use crate::is_period;
+use cents::Interval;
+use cents::KeyNumber;
+ghost use mathlib.Core.Path.{_≡_};
+ghost use mathlib.Core.Bool.{true};
+ghost use Prim.Native.Nat.{_≤_, _<_, _+_};
+ghost use lib.IntN.{natAbs, pos};
+ghost use Rattle.tuning.specs.Scale.{Sound};
+ghost use Rattle.tuning.specs.Tuning.{operated, amounts, Action, reach, anchoredBy, widenedBy, newTone, newPeriod, done};
+ghost use Rattle.tuning.specs.Desk.{cents};
+ghost use Rattle.tuning.specs.State.{heard, held, toneOf, coded, validState, replied, periodMeant, toneMeant, tonesMeant, meant};
+ghost use Rattle.tuning.specs.Inner.{size, reachOf, reachSize, allModest, modestChange, modestPeriod, modestRetuning};
+
+const HIGHEST_KEY: i32 = 127;
+
+const WIDEST: i32 = 60;
+
+fn operate(operator: Operator, old: u8, n: u16) -> i32
+    ensures { λ r. ⌜ r ≡ operated operator old n ⌝ }
+{
+    match operator {
+        Operator::Plus => old as i32 + n as i32,
+        Operator::Minus => old as i32 - n as i32,
+        Operator::Times => old as i32 * n as i32,
+        Operator::Divide => {
+            if n == 0 {
+                return 0;
+            }
+            (old as u16 / n) as i32
+        }
+    }
+}
+
+// The anchor or width that is asked for, from the one that it replaces.
+fn amount_of(asked: Amount, old: u8) -> i32
+    ensures { λ r. ⌜ r ≡ amounts asked old ⌝ }
+{
+    match asked {
+        Amount::Kept => old as i32,
+        Amount::Absolute(n) => n as i32,
+        Amount::Relative(operator, n) => operate(operator, old, n),
+    }
+}
+
+impl ToneChange {
+    // The tone that a position gets in place of its old one.
+    fn apply(self, old: Tone) -> Tone
+        requires { ⌜ (size old ≤ 100_000_000) × (modestChange self ≡ true) ⌝ }
+        ensures { λ r. ⌜ r ≡ toneOf (newTone cents (toneMeant self) (heard old)) ⌝ }
+    {
+        match self {
+            ToneChange::Mute => Tone::Muted,
+            ToneChange::Move(by) => old.raise(by),
+            ToneChange::Set(p) => Tone::At(p),
+        }
+    }
+}
+
+impl PeriodChange {
+    // The period in place of the old one.
+    fn apply(self, old: Interval) -> Interval
+        requires { ⌜ (natAbs (old .0) ≤ 100_000_000) × (modestPeriod self ≡ true) ⌝ }
+        ensures { λ r. ⌜ r .0 ≡ newPeriod cents (old .0) (periodMeant self) ⌝ }
+    {
+        match self {
+            PeriodChange::Fresh(d) => d,
+            PeriodChange::Onward(d) => old.plus(d),
+        }
+    }
+}
+
+impl State {
+    // The distance from position 0 to the key at the other end.
+    fn reach(self, key: KeyNumber) -> Reach
+        requires { ⌜ (validState self ≡ true) × (key .0 ≤ self .anchor .0 + 127) ⌝ }
+        ensures { λ r. ⌜ (r ≡ reachOf (reach cents (held self) (key .0))) × (reachSize r ≤ 1_724_000_000) ⌝ }
+    {
+        let first = self.tones[0];
+        let root = first.tone;
+        let Tone::At(t) = root else {
+            return Reach::Silent;
+        };
+        let Tone::At(p) = self.sound_of(key) else {
+            return Reach::Silent;
+        };
+        Reach::By(p.distance(t))
+    }
+
+    // The anchor at `b`, and every sounding tone shifted.
+    fn with_anchor(self, b: u8, by: Interval) -> State
+        requires { ⌜ (validState self ≡ true) × (natAbs (by .0) ≤ 1_724_000_000) ⌝ }
+        ensures { λ r. ⌜ r ≡ coded (anchoredBy cents (held self) b (Sound.sounds (by .0))) ⌝ }
+    {
+        let mut s = self;
+        let mut i: usize = 0;
+        while i < 60 {
+            let p = s.tones[i];
+            let old = p.tone;
+            let tone = old.raise(by);
+            s.tones[i] = Position { tone };
+            i += 1;
+        }
+        let anchor = KeyNumber(b);
+        s.anchor = anchor;
+        s
+    }
+
+    // The first v keys from the anchor on as the tones, and a new period.
+    fn with_width(self, v: u8, period: Interval) -> State
+        requires { ⌜ (validState self ≡ true) × (v ≤ 60) ⌝ }
+        ensures { λ r. ⌜ r ≡ coded (widenedBy cents (held self) v (Sound.sounds (period .0))) ⌝ }
+    {
+        let a = self.anchor.0;
+        let mut s = State {
+            anchor: KeyNumber(a),
+            width: v,
+            tones: [Position { tone: Tone::Muted }; 60],
+            period,
+        };
+        let mut i: u8 = 0;
+        while i < v {
+            let tone = self.sound_of(KeyNumber(a + i));
+            s.tones[i as usize] = Position { tone };
+            i += 1;
+        }
+        s
+    }
+
+    // The tones within the width and the list changed.
+    fn with_tones(self, list: ToneChanges) -> State
+        requires { ⌜ (validState self ≡ true) × (allModest list ≡ true) ⌝ }
+        ensures { λ r. ⌜ r ≡ coded (done cents (held self) (Action.tonesTo (tonesMeant list))) ⌝ }
+    {
+        let mut s = self;
+        let width = self.width;
+        let count = list.count;
+        let mut i: u8 = 0;
+        while i < width {
+            if count <= i {
+                return s;
+            }
+            let at = i as usize;
+            let p = s.tones[at];
+            let old = p.tone;
+            let position = list.positions[at];
+            let change = position.change;
+            let tone = change.apply(old);
+            s.tones[at] = Position { tone };
+            i += 1;
+        }
+        s
+    }
+
+    // "Anchor to b: every sounding tone shifts by pitch(b) - t(0). Checks: 10, 13, 14."
+    pub fn move_anchor(self, asked: Amount) -> Reply
+        requires { ⌜ validState self ≡ true ⌝ }
+        ensures { λ r. ⌜ r ≡ replied self (Action.anchorTo asked) ⌝ }
+    {
+        let b = amount_of(asked, self.anchor.0);
+        if b < 0 {
+            return Reply {
+                state: self,
+                number: status::ANCHOR_OUT_OF_RANGE,
+            };
+        }
+        if HIGHEST_KEY < b {
+            return Reply {
+                state: self,
+                number: status::ANCHOR_OUT_OF_RANGE,
+            };
+        }
+        let Reach::By(d) = self.reach(KeyNumber(b as u8)) else {
+            return Reply {
+                state: self,
+                number: status::END_SILENT,
+            };
+        };
+        let next = self.with_anchor(b as u8, d);
+        if !next.has_allowed_tones() {
+            return Reply {
+                state: self,
+                number: status::TONE_OUT_OF_RANGE,
+            };
+        }
+        Reply {
+            state: next,
+            number: status::DONE,
+        }
+    }
+
+    // "Width to v: new t(i) is the old pitch of key a+i; the new period is pitch(a+v) - t(0). Checks: 11, 13, 14, 12."
+    pub fn change_width(self, asked: Amount) -> Reply
+        requires { ⌜ validState self ≡ true ⌝ }
+        ensures { λ r. ⌜ r ≡ replied self (Action.widthTo asked) ⌝ }
+    {
+        let v = amount_of(asked, self.width);
+        if v < 1 {
+            return Reply {
+                state: self,
+                number: status::WIDTH_OUT_OF_RANGE,
+            };
+        }
+        if WIDEST < v {
+            return Reply {
+                state: self,
+                number: status::WIDTH_OUT_OF_RANGE,
+            };
+        }
+        let Reach::By(period) = self.reach(KeyNumber(self.anchor.0 + v as u8)) else {
+            return Reply {
+                state: self,
+                number: status::END_SILENT,
+            };
+        };
+        let next = self.with_width(v as u8, period);
+        if !next.has_allowed_tones() {
+            return Reply {
+                state: self,
+                number: status::TONE_OUT_OF_RANGE,
+            };
+        }
+        if !is_period(period) {
+            return Reply {
+                state: self,
+                number: status::PERIOD_OUT_OF_RANGE,
+            };
+        }
+        Reply {
+            state: next,
+            number: status::DONE,
+        }
+    }
+
+    // "Period: P alone changes. Check: 12."
+    pub fn change_period(self, change: PeriodChange) -> Reply
+        requires { ⌜ (validState self ≡ true) × (modestPeriod change ≡ true) ⌝ }
+        ensures { λ r. ⌜ r ≡ replied self (Action.periodTo (periodMeant change)) ⌝ }
+    {
+        let old = self.period;
+        let period = change.apply(old);
+        if !is_period(period) {
+            return Reply {
+                state: self,
+                number: status::PERIOD_OUT_OF_RANGE,
+            };
+        }
+        let mut next = self;
+        next.period = period;
+        Reply {
+            state: next,
+            number: status::DONE,
+        }
+    }
+
+    // "Tones: positions beyond the width have no effect, tones beyond the list stay. Check: 14."
+    pub fn change_tones(self, list: ToneChanges) -> Reply
+        requires { ⌜ (validState self ≡ true) × (allModest list ≡ true) ⌝ }
+        ensures { λ r. ⌜ r ≡ replied self (Action.tonesTo (tonesMeant list)) ⌝ }
+    {
+        let next = self.with_tones(list);
+        if !next.has_allowed_tones() {
+            return Reply {
+                state: self,
+                number: status::TONE_OUT_OF_RANGE,
+            };
+        }
+        Reply {
+            state: next,
+            number: status::DONE,
+        }
+    }
+
+    // "Calling a tone system sets all four parts."
+    pub fn take_system(self, system: State) -> Reply
+        requires { ⌜ validState system ≡ true ⌝ }
+        ensures { λ r. ⌜ r ≡ replied self (Action.system (held system)) ⌝ }
+    {
+        Reply {
+            state: system,
+            number: status::DONE,
+        }
+    }
+
+    // A retuning of any kind; `list` has the positions of a tones retuning.
+    pub fn retune(self, retuning: Retuning, list: ToneChanges) -> Reply
+        requires { ⌜ (validState self ≡ true) × (modestRetuning retuning ≡ true) × (allModest list ≡ true) ⌝ }
+        ensures { λ r. ⌜ r ≡ replied self (meant retuning list) ⌝ }
+    {
+        match retuning {
+            Retuning::Anchor(asked) => self.move_anchor(asked),
+            Retuning::Width(asked) => self.change_width(asked),
+            Retuning::Period(change) => self.change_period(change),
+            Retuning::Tones => self.change_tones(list),
+        }
+    }
+}
