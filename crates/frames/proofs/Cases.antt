@@ -1,0 +1,13 @@
+-- Case S and other lines: each is its frame.
+use mathlib.Core.Path.{refl}
+use mathlib.Core.Option.{Option·elim}
+use Rattle.frames.specs.Frames.{digitOf, byteOf, bytesOf, framed, frameOf}
+use Rattle.frames.specs.Cases.{CaseS, Others}
+
+pub case-s : CaseS
+unfolding CaseS frameOf framed bytesOf byteOf digitOf Option·elim
+case-s = refl
+
+pub others : Others
+unfolding Others frameOf framed bytesOf byteOf digitOf Option·elim
+others = refl

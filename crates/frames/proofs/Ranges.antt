@@ -1,0 +1,77 @@
+-- The parts of a frame lie in their ranges.
+use Prim.Native.Nat.{ℕ, _≤_}
+use mathlib.Core.Path.{_≡_, refl}
+use mathlib.Core.Bool.{Bool, true, false, cond}
+use mathlib.Core.List.{List, [], _∷_}
+use mathlib.Core.Option.{Option, none, some, Option·elim}
+use borrow.Author.Tests.{leb-true}
+use lib.Dec.{eqb}
+use Rattle.frames.specs.declared.Frame.{Frame}
+use Rattle.frames.specs.declared.Frame.the-variants.{Bad, Letter, Key, Dump}
+use Rattle.frames.specs.Frames.{bytesOf, firstHouse, secondHouse, isHouse, letterKind, keyKind, dumpKind, firstLetter, lastLetter, isLetter, lastKey, isKey, dumpData, letterFrame, keyFrame, dumpFrame, kindFrame, framed, frameOf, inside}
+use Rattle.frames.proofs.Digits.{each, in-range}
+
+-- ---- for callers: what `inside` says of a frame that has come
+
+pub letter-ranges : (house letter : ℕ) → inside (Letter house letter) ≡ true
+    → (firstHouse ≤ house) × (house ≤ secondHouse) × (firstLetter ≤ letter) × (letter ≤ lastLetter)
+letter-ranges house letter e =
+    let k = each (isHouse house) (isLetter letter) e in
+    let h = in-range firstHouse secondHouse house (k .0) in
+    let l = in-range firstLetter lastLetter letter (k .1) in
+    (h .0, h .1, l .0, l .1)
+
+pub key-ranges : (house key : ℕ) → inside (Key house key) ≡ true → (firstHouse ≤ house) × (house ≤ secondHouse) × (key ≤ lastKey)
+key-ranges house key e =
+    let k = each (isHouse house) (isKey key) e in
+    let h = in-range firstHouse secondHouse house (k .0) in
+    (h .0, h .1, leb-true key lastKey (k .1))
+
+pub dump-ranges : (house : ℕ) → inside (Dump house) ≡ true → (firstHouse ≤ house) × (house ≤ secondHouse)
+dump-ranges house e = in-range firstHouse secondHouse house e
+
+-- ---- every line's frame is inside
+
+inside-if : (t : Bool) (f : Frame) → (t ≡ true → inside f ≡ true) → inside (cond t f Bad) ≡ true
+inside-if true f h = h refl
+inside-if false f h = refl
+
+inside-either : (t : Bool) (f g : Frame) → inside f ≡ true → inside g ≡ true → inside (cond t f g) ≡ true
+inside-either true f g h k = h
+inside-either false f g h k = k
+
+module _ (house : ℕ) (h : isHouse house ≡ true) where
+  letter-inside : (rest : List ℕ) → inside (letterFrame house rest) ≡ true
+  letter-inside [] = refl
+  letter-inside (b ∷ []) = inside-if (isLetter b) (Letter house b) (λ e. rw (h, e))
+  letter-inside (b ∷ c ∷ more) = refl
+
+  key-inside : (rest : List ℕ) → inside (keyFrame house rest) ≡ true
+  key-inside [] = refl
+  key-inside (b ∷ []) = inside-if (isKey b) (Key house b) (λ e. rw (h, e))
+  key-inside (b ∷ c ∷ more) = refl
+
+  dump-inside : (rest : List ℕ) → inside (dumpFrame house rest) ≡ true
+  dump-inside [] = refl
+  dump-inside (b ∷ []) = inside-if (eqb b dumpData) (Dump house) (λ e. h)
+  dump-inside (b ∷ c ∷ more) = refl
+
+  kind-inside : (kind : ℕ) (rest : List ℕ) → inside (kindFrame house kind rest) ≡ true
+  kind-inside kind rest =
+      inside-either (eqb kind letterKind) (letterFrame house rest) _ (letter-inside rest)
+      (inside-either (eqb kind keyKind) (keyFrame house rest) _ (key-inside rest)
+      (inside-if (eqb kind dumpKind) (dumpFrame house rest) (λ e. dump-inside rest)))
+
+framed-inside : (bs : List ℕ) → inside (framed bs) ≡ true
+unfolding framed
+framed-inside [] = refl
+framed-inside (house ∷ []) = refl
+framed-inside (house ∷ kind ∷ rest) = inside-if (isHouse house) (kindFrame house kind rest) (λ h. kind-inside house h kind rest)
+
+pub frame-inside : (l : List ℕ) → inside (frameOf l) ≡ true
+unfolding frameOf Option·elim
+frame-inside l = go (bytesOf l)
+  where
+    go : (o : Option (List ℕ)) → inside (Option·elim o Bad framed) ≡ true
+    go none = refl
+    go (some bs) = framed-inside bs

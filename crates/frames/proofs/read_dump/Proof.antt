@@ -1,0 +1,13 @@
+-- The test is the definition's.
+use borrow.Author.Tests.{eq-eqb, ne-eqb}
+use Rattle.frames.proofs.read_dump.Statement.{statement}
+use Rattle.frames.proofs.read_dump.Tie as tie
+
+returns : tie.Need-returns
+returns c = simp (eq-eqb _ _ (c .if1 .taken))
+
+returns-2 : tie.Need-returns-2
+returns-2 c = simp (ne-eqb _ _ (c .if1 .left))
+
+pub read-dump-spec : {M : Type 1} → statement M
+read-dump-spec = tie.close (tie.spec returns returns-2)

@@ -1,0 +1,8 @@
+-- Case S: each answer is its line.
+use mathlib.Core.Path.{refl}
+use Rattle.hexadecimal.specs.Hexadecimal.{hexOf, hexes, twos, fourOf}
+use Rattle.hexadecimal.specs.Cases.{CaseS}
+
+pub case-s : CaseS
+unfolding CaseS hexOf hexes twos fourOf
+case-s = refl

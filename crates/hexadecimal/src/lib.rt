@@ -1,0 +1,58 @@
+// Bytes as capital hexadecimal digits, written into a lent buffer.
+ghost use mathlib.Core.Path.{_≡_};
+ghost use mathlib.Core.List.{[], _∷_};
+ghost use Prim.Native.Nat.{_<_};
+ghost use lib.ListN.{set};
+ghost use Rattle.hexadecimal.specs.Hexadecimal.{hexOf, twos, fourOf, written};
+
+pub const LINE_FEED: u8 = b'\n';
+
+const RADIX: u8 = 16;
+
+fn hex_digit(n: u8) -> u8
+    requires { ⌜ n < 16 ⌝ }
+    ensures { λ r. ⌜ r ≡ hexOf n ⌝ }
+{
+    if n < 10 { b'0' + n } else { b'A' + (n - 10) }
+}
+
+// Stores a byte, where the buffer has the place.
+pub fn put(buf: &mut [u8], at: usize, b: u8)
+    ensures { λ _. ⌜ now (buf .exit) ≡ set (now (buf .entry)) at b ⌝ }
+{
+    if at < buf.len() {
+        buf[at] = b;
+    }
+}
+
+// Writes byte `at` of an answer, as two digits.
+pub fn put_byte(buf: &mut [u8], at: usize, b: u8)
+    ensures { λ _. ⌜ now (buf .exit) ≡ written (now (buf .entry)) at (b ∷ []) ⌝ }
+{
+    if at < buf.len() {
+        put(buf, 2 * at, hex_digit(b / RADIX));
+        put(buf, 2 * at + 1, hex_digit(b % RADIX));
+    }
+}
+
+// Writes a number as four bytes of an answer, from byte `at` on.
+pub fn put_four(buf: &mut [u8], at: usize, n: u32)
+    ensures { λ _. ⌜ now (buf .exit) ≡ written (now (buf .entry)) at (fourOf n) ⌝ }
+{
+    if at < buf.len() {
+        put_byte(buf, at, (n / 0x100_0000 % 0x100) as u8);
+        put_byte(buf, at + 1, (n / 0x1_0000 % 0x100) as u8);
+        put_byte(buf, at + 2, (n / 0x100 % 0x100) as u8);
+        put_byte(buf, at + 3, (n % 0x100) as u8);
+    }
+}
+
+// The two's complement of a signed number.
+pub fn bits_of(z: i32) -> u32
+    ensures { λ r. ⌜ r ≡ twos z ⌝ }
+{
+    if z < 0 {
+        return 0xFFFF_FFFF - ((-1 - z) as u32);
+    }
+    z as u32
+}
