@@ -1,0 +1,81 @@
+-- A row of calls: the desk and the book that is fed the same calls with their numbers agree after each of them.
+use mathlib.Core.Path.{_≡_, refl, sym, subst}
+use mathlib.Core.List.{List, [], _∷_, _++_}
+use mathlib.Core.Option.{Option}
+use Prim.Native.Nat.{ℕ, zero, suc, _*_, _^_}
+use lib.IntN.{ℤ, pos, _+ℤ_, _-ℤ_}
+use Rattle.integers.specs.Parts.{up, dn}
+use Rattle.integers.proofs.Signed.{signed, one, _⊕_, _⊖_, lin}
+use Rattle.cents.specs.Measure.{pitch440}
+use Rattle.cents.proofs.Near.{Close, close-lift, to-near}
+use Rattle.tuning.specs.Scale.{Sound}
+use Rattle.tuning.specs.Tuning.{Tuning, done, start}
+use Rattle.tuning.specs.Desk.{cents, ifTaken, called}
+use Rattle.exact.specs.Entry.{Entry, degrees, weight, u, v, Within}
+use Rattle.exact.specs.Book.{Declared, Powers, entries, numbersOf, written, Made, bookFrom, bookAfter, Call, deskFrom, madeFrom, KeyAgrees, both-silent, near, Agrees, AllInRange}
+use Rattle.exact.proofs.EntryNear.{pitch, entry-near}
+use Rattle.exact.proofs.Follows as F
+use Rattle.exact.proofs.Follows.{Both, Agree, ActionBoth, same-length, sound-follows, done-follows, start-follows}
+use Rattle.exact.proofs.Measured.{MeasuredTone, measure-follows}
+use Rattle.exact.proofs.Numbers.{written-good}
+
+-- ---- from the invariant to the comparison
+
+less-base : (z x : ℤ) → z ≡ pitch440 +ℤ x → x ≡ z -ℤ pitch440
+less-base z x h = omega (signed, lin (one pitch440 ⊕ one x), lin (one z ⊖ one pitch440))
+
+module _ {ds : List (Option Declared)} (a : AllInRange ds) where
+  tone-within : {e : Powers} {z : ℤ} → MeasuredTone ds e z → Within (written (numbersOf ds) e) (z -ℤ pitch440)
+  tone-within {e} {z} m =
+      let l : Entry = written (numbersOf ds) e in
+      let d : ℤ = z -ℤ pitch440 in
+      let n : Close (degrees l) (weight l) (up d) (dn d) (u l) (v l) =
+      subst (λ (y : ℤ). Close (degrees l) (weight l) (up y) (dn y) (u l) (v l)) (less-base z (pitch l) (m .value)) (entry-near l (written-good e a) (m .power)) in
+      record { once = to-near d n .compared; again = λ k. to-near d (close-lift k n) .compared; sharply = to-near d n .sharply }
+
+  key-agrees : {x : Sound Powers} {y : Sound ℤ} → Both (MeasuredTone ds) x y → KeyAgrees ds x y
+  key-agrees F.silent = both-silent
+  key-agrees (F.heard h) = near (tone-within h)
+
+  pub agrees : (desk : Tuning cents) (book : Tuning entries) → Agree (measure-follows ds) book desk → Agrees ds desk book
+  agrees desk book h = record {
+    anchor = sym (h .anchor);
+    width = sym (same-length (MeasuredTone ds) (h .tones));
+    key = λ x. key-agrees (sound-follows entries cents (measure-follows ds) book desk h x);
+  }
+
+-- ---- a row of calls
+
+-- each call is worked out alike on both sides
+pub data Alike (ds : List (Option Declared)) : List Call → Type 0 where
+  no-call : Alike ds []
+  call-and : {c : Call} {cs : List Call} → ActionBoth (measure-follows ds) (c .book) (c .desk) → Alike ds cs → Alike ds (c ∷ cs)
+
+taken-agree : (ds : List (Option Declared)) (n : ℕ) (desk new : Tuning cents) (book anew : Tuning entries) → Agree (measure-follows ds) book desk → Agree (measure-follows ds) anew new
+    → Agree (measure-follows ds) (ifTaken n anew book) (ifTaken n new desk)
+taken-agree ds zero desk new book anew h k = k
+taken-agree ds (suc n) desk new book anew h k = h
+
+-- the invariant after a row of calls, taken or not
+pub calls-follow : (ds : List (Option Declared)) {cs : List Call} → Alike ds cs → (desk : Tuning cents) (book : Tuning entries) → Agree (measure-follows ds) book desk
+    → Agree (measure-follows ds) (bookFrom book (madeFrom desk cs)) (deskFrom desk cs)
+unfolding deskFrom madeFrom bookFrom called
+calls-follow ds no-call desk book h = h
+calls-follow ds (call-and {c} {cs} k ks) desk book h =
+    let n = called desk (c .desk) .number in
+    calls-follow ds ks (called desk (c .desk) .state) (ifTaken n (done entries book (c .book)) book)
+    (taken-agree ds n desk (done cents desk (c .desk)) book (done entries book (c .book)) h (done-follows entries cents (measure-follows ds) book desk h k))
+
+-- From the start, after any row of calls that are worked out alike, refused ones among them: the same anchor and width, the same silent keys,
+-- and each sounding key at most a thousandth of a cent for each power of a declared number from its exact frequency.
+pub calls-agree : (ds : List (Option Declared)) → AllInRange ds → (cs : List Call) → Alike ds cs
+    → Agrees ds (deskFrom (start cents) cs) (bookAfter (madeFrom (start cents) cs))
+calls-agree ds a cs k =
+    agrees a (deskFrom (start cents) cs) (bookAfter (madeFrom (start cents) cs))
+    (calls-follow ds k (start cents) (start entries) (start-follows entries cents (measure-follows ds)))
+
+-- what the book is fed in two parts
+pub book-append : (b : Tuning entries) (l m : List Made) → bookFrom b (l ++ m) ≡ bookFrom (bookFrom b l) m
+unfolding bookFrom
+book-append b [] m = refl
+book-append b (x ∷ l) m = book-append (ifTaken (x .number) (done entries b (x .call)) b) l m

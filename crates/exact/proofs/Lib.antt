@@ -1,0 +1,8 @@
+-- Theorems on the exact book, in the order in which they build on each other.
+pub mod EntryNear
+pub mod Follows
+pub mod Along
+pub mod Measured
+pub mod Numbers
+pub mod Calls
+pub mod CaseS

@@ -1,0 +1,148 @@
+-- The exact book. Document 01, "State and retunings", last paragraph.
+use mathlib.Core.Path.{_≡_}
+use mathlib.Core.Bool.{Bool, true, false, cond}
+use mathlib.Core.List.{List, [], _∷_}
+use mathlib.Core.Option.{Option, some, none}
+use Prim.Native.Nat.{ℕ, zero, suc, _≤_, _<_, _^_}
+use lib.IntN.{ℤ, pos, _+ℤ_, _-ℤ_, _*ℤ_}
+use lib.Dec.{eqb}
+use Rattle.cents.specs.Measure as measures
+use Rattle.cents.specs.Measure.{one, hertz440, pitch440}
+use Rattle.tuning.specs.Scale.{Scale, Sound, muted, sounds}
+use Rattle.tuning.specs.Tuning.{Tuning, Action, width, soundOf, done, start}
+use Rattle.tuning.specs.Desk.{cents, ifTaken, called}
+use Rattle.exact.specs.Entry.{Number, Entry, Within}
+
+-- ---- "A declared number is one declaration's frequency, `p : q` or `A ROOT B`", each part in ten-thousandths
+
+pub data Declared : Type 0 where
+  frequency : ℕ → Declared
+  ratio root : ℕ → ℕ → Declared
+
+-- "ratio parts, radicand, frequency: 0.0001 to 429496.7295"; "root degree: 1 to 65,535"
+pub record Amount (n : ℕ) : Type 0 where
+  pub least : 0 < n
+  pub most : n < 2 ^ 32
+
+abbrev pub InRange : Declared → Type 0
+InRange (frequency f) = Amount f
+InRange (ratio p q) = Amount p × Amount q
+InRange (root A B) = (0 < A) × Amount B
+
+unfoldable pub number : Declared → Number
+number (frequency f) = record { degree = 1; over = f; under = one; hertz = 1; size = measures.measure 1 f hertz440; counts = 1 }
+number (ratio p q) = record { degree = 1; over = p; under = q; hertz = 0; size = measures.ratio p q; counts = 1 }
+number (root A B) = record { degree = A; over = B; under = one; hertz = 0; size = measures.root A B; counts = 1 }
+
+-- "the start's 440" and "the twelfth root of 2", which are not declared
+unfoldable pub start440 : Number
+start440 = record { degree = 1; over = 440; under = 1; hertz = 1; size = pos 0; counts = 0 }
+
+unfoldable pub startRoot : Number
+startRoot = record { degree = 12; over = 2; under = 1; hertz = 0; size = pos 100000; counts = 0 }
+
+-- ---- "An entry gives a whole power to each of these, to the start's 440 and to the twelfth root of 2"
+
+pub data Name : Type 0 where
+  the440 theRoot : Name
+  declared : ℕ → Name
+
+abbrev pub Powers : Type 0
+Powers = Name → ℤ
+
+abbrev pub sameName : Name → Name → Bool
+sameName the440 the440 = true
+sameName the440 theRoot = false
+sameName the440 (declared j) = false
+sameName theRoot the440 = false
+sameName theRoot theRoot = true
+sameName theRoot (declared j) = false
+sameName (declared i) the440 = false
+sameName (declared i) theRoot = false
+sameName (declared i) (declared j) = eqb i j
+
+-- one number once
+unfoldable pub once : Name → Powers
+once n m = cond (sameName n m) (pos 1) (pos 0)
+
+-- "sequences and tones add entries, by factor and sign"
+abbrev pub entries : Scale
+entries = record {
+  Tone = Powers;
+  Step = Powers;
+  shift = λ t d n. t n +ℤ d n;
+  between = λ t u n. u n -ℤ t n;
+  none = λ n. pos 0;
+  add = λ d e n. d n +ℤ e n;
+  times = λ k d n. k *ℤ d n;
+  start440 = once the440;
+  startRoot = once theRoot;
+}
+
+-- the numbers of a text by their names: what each declaration has of its own, if it is a number
+pub record Named : Type 0 where
+  pub name : Name
+  pub number : Number
+
+unfoldable pub numbered : ℕ → List (Option Declared) → List Named
+numbered i [] = []
+numbered i (some d ∷ l) = record { name = declared i; number = number d } ∷ numbered (suc i) l
+numbered i (none ∷ l) = numbered (suc i) l
+
+unfoldable pub numbersOf : List (Option Declared) → List Named
+numbersOf ds = record { name = the440; number = start440 } ∷ record { name = theRoot; number = startRoot } ∷ numbered 0 ds
+
+-- an entry as a list of the numbers with their powers
+unfoldable pub written : List Named → Powers → Entry
+written [] e = []
+written (n ∷ ns) e = record { power = e (n .name); of = n .number } ∷ written ns e
+
+-- ---- the book, fed the calls with their numbers
+
+-- a call of a tone system or retuning as the book works it out, and the number that it got
+pub record Made : Type 0 where
+  pub call : Action entries
+  pub number : ℕ
+
+-- "A call with number 0 does what its line above says, with entries for pitches and intervals and no checks. Any other number changes nothing."
+unfoldable pub bookFrom : Tuning entries → List Made → Tuning entries
+bookFrom b [] = b
+bookFrom b (m ∷ ms) = bookFrom (ifTaken (m .number) (done entries b (m .call)) b) ms
+
+-- "It starts with 60, 12, at position i 440 once and the root i - 9 times, as period the root 12 times."
+abbrev pub bookAfter : List Made → Tuning entries
+bookAfter ms = bookFrom (start entries) ms
+
+-- ---- a row of calls on both sides
+
+-- a call as the desk and as the book work it out
+pub record Call : Type 0 where
+  pub desk : Action cents
+  pub book : Action entries
+
+-- the desk after a row of calls, each on the state that the one before it left
+unfoldable pub deskFrom : Tuning cents → List Call → Tuning cents
+deskFrom s [] = s
+deskFrom s (c ∷ cs) = deskFrom (called s (c .desk) .state) cs
+
+-- what the book is fed: "each call that these rules make of a tone system or retuning, with its number"
+unfoldable pub madeFrom : Tuning cents → List Call → List Made
+madeFrom s [] = []
+madeFrom s (c ∷ cs) = record { call = c .book; number = called s (c .desk) .number } ∷ madeFrom (called s (c .desk) .state) cs
+
+-- ---- the desk and the book agree
+
+-- a key: silent in one exactly where it is in the other, else at most w away; its pitch less 6,900,000 is the distance from 440 hertz
+pub data KeyAgrees (ds : List (Option Declared)) : Sound Powers → Sound ℤ → Type 0 where
+  both-silent : KeyAgrees ds muted muted
+  near : {e : Powers} {z : ℤ} → Within (written (numbersOf ds) e) (z -ℤ pitch440) → KeyAgrees ds (sounds e) (sounds z)
+
+pub record Agrees (ds : List (Option Declared)) (desk : Tuning cents) (book : Tuning entries) : Type 0 where
+  pub anchor : desk .anchor ≡ book .anchor
+  pub width : width cents desk ≡ width entries book
+  pub key : (x : ℕ) → KeyAgrees ds (soundOf entries book x) (soundOf cents desk x)
+
+pub data AllInRange : List (Option Declared) → Type 0 where
+  no-more : AllInRange []
+  number-and : {d : Declared} {l : List (Option Declared)} → InRange d → AllInRange l → AllInRange (some d ∷ l)
+  passing : {l : List (Option Declared)} → AllInRange l → AllInRange (none ∷ l)

@@ -1,0 +1,71 @@
+-- An entry: whole powers of numbers, and the exact value that it stands for. Document 01, "Exact comparison for demand 3".
+use mathlib.Core.List.{List, [], _∷_}
+use Prim.Native.Nat.{ℕ, zero, suc, _+_, _-_, _*_, _^_}
+use lib.IntN.{ℤ, pos, negsuc, natAbs, _+ℤ_, _*ℤ_}
+use Rattle.cents.specs.Distance.{Compared, Sharply}
+
+-- A number: the degree-th root of over / under, in hertz where `hertz` is 1, and a bare ratio where it is 0. It measures `size`, from 440 hertz on.
+-- `counts` is 1 for a declared number, and 0 for the start's own.
+pub record Number : Type 0 where
+  pub degree : ℕ
+  pub over : ℕ
+  pub under : ℕ
+  pub hertz : ℕ
+  pub size : ℤ
+  pub counts : ℕ
+
+pub record Factor : Type 0 where
+  pub power : ℤ
+  pub of : Number
+
+abbrev pub Entry : Type 0
+Entry = List Factor
+
+-- "N, the product of the root degrees in the key's entry": those of the numbers with a power other than 0
+unfoldable pub degreeOf : ℤ → ℕ → ℕ
+degreeOf (pos zero) A = 1
+degreeOf (pos (suc k)) A = A
+degreeOf (negsuc k) A = A
+
+unfoldable pub degrees : Entry → ℕ
+degrees [] = 1
+degrees (f ∷ l) = degreeOf (f .power) (f .of .degree) * degrees l
+
+-- "w adds up the declared numbers' powers without their signs"
+unfoldable pub weight : Entry → ℕ
+weight [] = 0
+weight (f ∷ l) = natAbs (f .power) * f .of .counts + weight l
+
+-- the upper part of (p/q)^e; its lower part is `part e q p`
+unfoldable pub part : ℤ → ℕ → ℕ → ℕ
+part (pos k) p q = p ^ k
+part (negsuc k) p q = q ^ suc k
+
+-- The exact value to the power `degrees l`, as a fraction: of x^e·r, with x^A and r^D whole fractions, the power A·D is ((x^A)^e)^D·(r^D)^A.
+-- `u` gives each number's lower part.
+unfoldable pub aboveBy : (Number → ℕ) → Entry → ℕ
+aboveBy u [] = 1
+aboveBy u (f ∷ l) = part (f .power) (f .of .over) (u (f .of)) ^ degrees l * aboveBy u l ^ degreeOf (f .power) (f .of .degree)
+
+unfoldable pub belowBy : (Number → ℕ) → Entry → ℕ
+belowBy u [] = 1
+belowBy u (f ∷ l) = part (f .power) (u (f .of)) (f .of .over) ^ degrees l * belowBy u l ^ degreeOf (f .power) (f .of .degree)
+
+unfoldable pub above : Entry → ℕ
+above l = aboveBy (λ n. n .under) l
+
+unfoldable pub below : Entry → ℕ
+below l = belowBy (λ n. n .under) l
+
+-- "divide a key's exact frequency by 440 and raise that to N ..; this is a fraction u/v"
+abbrev pub u : Entry → ℕ
+u l = above l
+
+abbrev pub v : Entry → ℕ
+v l = below l * 440 ^ degrees l
+
+-- "With d the pitch that kind 02 then answers, less 6,900,000, a distance of at most w": at N, at every multiple of N, and in the sharp form
+pub record Within (l : Entry) (d : ℤ) : Type 0 where
+  pub once : Compared (degrees l) (weight l) (u l) (v l) d
+  pub again : (k : ℕ) → Compared (degrees l * k) (weight l) (u l ^ k) (v l ^ k) d
+  pub sharply : Sharply (degrees l) (weight l) (u l) (v l) d

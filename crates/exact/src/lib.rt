@@ -1,0 +1,1 @@
+// The exact book: definitions and theorems; no code.
