@@ -1,0 +1,6 @@
+pub mod Bytes
+pub mod Symbols
+pub mod Names
+pub mod Words
+pub mod Inner
+pub mod Examples

@@ -1,0 +1,97 @@
+// "Sequences add factor times measure": values, terms and ranges.
+use crate::FACTORS;
+use crate::PER_DECLARATION;
+use crate::PERIOD_RANGE;
+use crate::Value;
+ghost use mathlib.Core.Path.{_≡_};
+ghost use Prim.Native.Nat.{_+_, _≤_, _<_};
+ghost use lib.IntN.{pos, natAbs, _+ℤ_, _*ℤ_};
+ghost use lib.ListN.{length, getD};
+ghost use Rattle.values.specs.Values.{Range, toneLimit, within, ranged, plus, weight};
+ghost use Rattle.values.specs.Rows.{perDeclaration, termOf, rangeOf};
+ghost use Rattle.values.specs.Inner.{size, greatestFactor, largestMeasure, largestTerm, largestSum};
+
+const LOWEST_TONE: i64 = -100_000_000;
+
+pub const HIGHEST_TONE: i64 = 100_000_000;
+
+const LONGEST_PERIOD: i64 = 12_000_000;
+
+// Whether it is in the range of intervals and tones.
+fn fits_tone(z: i64) -> bool
+    ensures { λ r. ⌜ r ≡ within Range.tone z ⌝ }
+{
+    LOWEST_TONE <= z && z <= HIGHEST_TONE
+}
+
+// Whether a value is in the range of its row.
+pub fn fits_range(range: u8, z: i64) -> bool
+    ensures { λ r. ⌜ r ≡ within (rangeOf range) z ⌝ }
+{
+    if range == PERIOD_RANGE {
+        return 0 <= z && z <= LONGEST_PERIOD;
+    }
+    fits_tone(z)
+}
+
+pub fn limit_tone(v: Value) -> Value
+    ensures { λ r. ⌜ (r ≡ ranged Range.tone v) × (size r ≤ toneLimit) ⌝ }
+{
+    let Value::Exactly(z) = v else {
+        return Value::Beyond;
+    };
+    if fits_tone(z) {
+        Value::Exactly(z)
+    } else {
+        Value::Beyond
+    }
+}
+
+// The measure of a row.
+pub fn read_measure(measures: &[i32], row: usize) -> Value
+    requires { ⌜ row < length (now measures) ⌝ }
+    ensures { λ r. ⌜ (r ≡ Value.Exactly (getD (now (measures .entry)) row (pos 0))) × (size r ≤ largestMeasure) ⌝ }
+{
+    Value::Exactly(measures[row] as i64)
+}
+
+// The declaration that a term is of.
+pub fn decode_declaration(term: u32) -> usize
+    requires { ⌜ perDeclaration ≤ term ⌝ }
+    ensures { λ r. ⌜ r ≡ termOf term .of ⌝ }
+{
+    (term / PER_DECLARATION) as usize - 1
+}
+
+// The factor of a term, with its sign.
+fn weigh(term: u32) -> i64
+    ensures { λ r. ⌜ (r ≡ weight (termOf term)) × (natAbs r ≤ greatestFactor) ⌝ }
+{
+    let factor = (term % FACTORS) as i64;
+    if FACTORS <= term % PER_DECLARATION {
+        0 - factor
+    } else {
+        factor
+    }
+}
+
+fn add_product(s: i64, z: i64, w: i64) -> i64
+    requires { ⌜ (natAbs s ≤ largestSum) × (natAbs z ≤ toneLimit) × (natAbs w ≤ greatestFactor) ⌝ }
+    ensures { λ r. ⌜ (r ≡ s +ℤ z *ℤ w) × (natAbs r ≤ natAbs s + largestTerm) ⌝ }
+{
+    s + z * w
+}
+
+// The sum with one term more, whose declaration has the value v.
+pub fn add_term(sum: Value, term: u32, v: Value) -> Value
+    requires { ⌜ (size sum ≤ largestSum) × (size v ≤ toneLimit) ⌝ }
+    ensures { λ r. ⌜ (r ≡ plus sum (termOf term) v) × (size r ≤ size sum + largestTerm) ⌝ }
+{
+    let Value::Exactly(s) = sum else {
+        return Value::Beyond;
+    };
+    let Value::Exactly(z) = v else {
+        return Value::Beyond;
+    };
+    Value::Exactly(add_product(s, z, weigh(term)))
+}
