@@ -8,7 +8,7 @@ use Rattle.integers.specs.Parts.{up}
 use Rattle.integers.specs.Floor.{floorDiv, floorMod}
 use Rattle.tuning.specs.declared.Amount.{Amount}
 use Rattle.tuning.specs.Scale.{Scale, Sound, muted, sounds}
-use Rattle.tuning.specs.Tuning.{Tuning, PeriodTo, fresh, onward, PositionTo, mute, move, set, Action, anchorTo, widthTo, periodTo, tonesTo, system, amounts, width, raised, toneAt, soundOf, apart, reach, anchoredBy, anchored, keysFrom, widenedBy, widened, newPeriod, newTone, newTones, done, startTones, start}
+use Rattle.tuning.specs.Tuning.{Tuning, PeriodTo, fresh, onward, PositionTo, mute, move, setTo, Action, anchorTo, widthTo, periodTo, tonesTo, system, amounts, width, raised, toneAt, soundOf, apart, reach, anchoredBy, anchored, keysFrom, widenedBy, widened, newPeriod, newTone, newTones, done, startTones, start}
 
 pub record Follows (A B : Scale) : Type 1 where
   pub tone : A .Tone → B .Tone → Type 0
@@ -54,7 +54,7 @@ pub data PeriodBoth {A B : Scale} (F : Follows A B) : PeriodTo A → PeriodTo B 
 pub data PositionBoth {A B : Scale} (F : Follows A B) : PositionTo A → PositionTo B → Type 0 where
   both-mute : PositionBoth F mute mute
   both-move : {d : A .Step} {e : B .Step} → F .step d e → PositionBoth F (move d) (move e)
-  both-set : {t : A .Tone} {u : B .Tone} → F .tone t u → PositionBoth F (set t) (set u)
+  both-set : {t : A .Tone} {u : B .Tone} → F .tone t u → PositionBoth F (setTo t) (setTo u)
 
 pub data PositionsBoth {A B : Scale} (F : Follows A B) : List (PositionTo A) → List (PositionTo B) → Type 0 where
   no-positions : PositionsBoth F [] []

@@ -18,7 +18,7 @@ use Rattle.tuning.specs.declared.ToneChanges.{ToneChanges}
 use Rattle.tuning.specs.declared.Retuning.{Retuning}
 use Rattle.tuning.specs.declared.Retuning.the-variants.{Anchor, Width, Period, Tones}
 use Rattle.tuning.specs.Scale.{Sound, muted, sounds}
-use Rattle.tuning.specs.Tuning.{Tuning, PeriodTo, fresh, onward, PositionTo, mute, move, set, Action, anchorTo, widthTo, periodTo, tonesTo}
+use Rattle.tuning.specs.Tuning.{Tuning, PeriodTo, fresh, onward, PositionTo, mute, move, setTo, Action, anchorTo, widthTo, periodTo, tonesTo}
 use Rattle.tuning.specs.Desk.{cents, isAnchor, isWidth, isPeriod, isMuted, anyBeyond, Called, called}
 
 -- "positions in one list: 60"
@@ -44,7 +44,7 @@ periodMeant (Onward d) = onward (d .0)
 abbrev pub toneMeant : ToneChange → PositionTo cents
 toneMeant Mute = mute
 toneMeant (Move d) = move (d .0)
-toneMeant (Set p) = set (p .0)
+toneMeant (Set p) = setTo (p .0)
 
 abbrev pub tonesMeant : ToneChanges → List (PositionTo cents)
 tonesMeant l = map (λ (x : PositionChange). toneMeant (x .change)) (take (l .count) (l .positions))

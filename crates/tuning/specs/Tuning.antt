@@ -26,7 +26,7 @@ pub data PeriodTo (S : Scale) : Type 0 where
 pub data PositionTo (S : Scale) : Type 0 where
   mute : PositionTo S
   move : S .Step → PositionTo S
-  set : S .Tone → PositionTo S
+  setTo : S .Tone → PositionTo S
 
 -- a call of a retuning of one of the four kinds, or of a tone system
 pub data Action (S : Scale) : Type 0 where
@@ -105,7 +105,7 @@ module _ (S : Scale) where
   abbrev pub newTone : PositionTo S → Sound (S .Tone) → Sound (S .Tone)
   newTone mute t = muted
   newTone (move d) t = raised d t
-  newTone (set u) t = sounds u
+  newTone (setTo u) t = sounds u
 
   abbrev pub newTones : List (PositionTo S) → List (Sound (S .Tone)) → List (Sound (S .Tone))
   newTones [] ts = ts
