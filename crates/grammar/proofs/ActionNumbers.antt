@@ -1,0 +1,62 @@
+-- The numbers of actions: each leads back to its action.
+use mathlib.Core.Path.{_≡_, refl}
+use mathlib.Core.Bool.{true, false}
+use Prim.Native.Nat.{_+_}
+use Rattle.grammar.specs.declared.Kind.the-variants.{Interval, Tone, System, Retuning, Logic, Order as AnOrder}
+use Rattle.grammar.specs.declared.NumberUse.{NumberUse}
+use Rattle.grammar.specs.declared.NumberUse.the-variants.{RatioFirst, RatioSecond, Degree, Radicand, FirstFactor, Factor, Frequency, AnchorKey, AnchorTo, AnchorUp, AnchorDown, WidthTo, WidthUp, WidthDown, WidthTimes, WidthOver}
+use Rattle.grammar.specs.declared.NameUse.the-variants.{Term, Base, Position, Start, Order}
+use Rattle.grammar.specs.declared.MarkUse.the-variants.{MutedPosition, KeptPosition, KeptAnchor, KeptWidth, Period, Onward}
+use Rattle.grammar.specs.declared.LetterUse.the-variants.{LogicLetter, OrderLetter}
+use Rattle.grammar.specs.declared.Action.{Action}
+use Rattle.grammar.specs.declared.Action.the-variants.{Pass, Declare, Hold, Held, Number, Sign, Name, Mark, Letter, CountOrder}
+use Rattle.grammar.specs.Moves.{numberUseNumber, actionNumber, actionAt}
+
+-- a number's use, held or judged at once
+uses : (u : NumberUse) → (actionAt (32 + numberUseNumber u) ≡ Held u) × (actionAt (48 + numberUseNumber u) ≡ Number u)
+unfolding actionAt
+uses RatioFirst = (refl, refl)
+uses RatioSecond = (refl, refl)
+uses Degree = (refl, refl)
+uses Radicand = (refl, refl)
+uses FirstFactor = (refl, refl)
+uses Factor = (refl, refl)
+uses Frequency = (refl, refl)
+uses AnchorKey = (refl, refl)
+uses AnchorTo = (refl, refl)
+uses AnchorUp = (refl, refl)
+uses AnchorDown = (refl, refl)
+uses WidthTo = (refl, refl)
+uses WidthUp = (refl, refl)
+uses WidthDown = (refl, refl)
+uses WidthTimes = (refl, refl)
+uses WidthOver = (refl, refl)
+
+pub action-back : (a : Action) → actionAt (actionNumber a) ≡ a
+unfolding actionAt
+action-back Pass = refl
+action-back Hold = refl
+action-back CountOrder = refl
+action-back (Sign false) = refl
+action-back (Sign true) = refl
+action-back (Declare Interval) = refl
+action-back (Declare Tone) = refl
+action-back (Declare System) = refl
+action-back (Declare Retuning) = refl
+action-back (Declare Logic) = refl
+action-back (Declare AnOrder) = refl
+action-back (Held u) = uses u .0
+action-back (Number u) = uses u .1
+action-back (Name Term) = refl
+action-back (Name Base) = refl
+action-back (Name Position) = refl
+action-back (Name Start) = refl
+action-back (Name Order) = refl
+action-back (Mark MutedPosition) = refl
+action-back (Mark KeptPosition) = refl
+action-back (Mark KeptAnchor) = refl
+action-back (Mark KeptWidth) = refl
+action-back (Mark Period) = refl
+action-back (Mark Onward) = refl
+action-back (Letter LogicLetter) = refl
+action-back (Letter OrderLetter) = refl

@@ -1,0 +1,7 @@
+pub mod Arms
+pub mod Table
+pub mod ActionNumbers
+pub mod Diagrams
+pub mod Rows
+pub mod Turns
+pub mod Live

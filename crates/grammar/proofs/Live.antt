@@ -1,0 +1,291 @@
+-- From every node of the diagrams a text can be completed, so 3 is given just where no continuation allows the symbol.
+-- Assumes nothing.
+use mathlib.Core.Bool.{Bool, false}
+use mathlib.Core.List.{List, [], _∷_, _++_, map, append-assoc}
+use mathlib.Core.Logic.{_↔_}
+use mathlib.Core.Option.{Option, some, none}
+use mathlib.Core.Path.{_≡_, refl, sym, _∙_, ap, subst}
+use Prim.Native.Nat.{ℕ}
+use native.Mathlib.Omega.{arith}
+use lib.Dec.{T, eqb, eqb→eq}
+use Rattle.status.specs.Status.{symbolNotAllowed}
+use Rattle.symbols.specs.declared.Symbol.{Symbol}
+use Rattle.grammar.specs.declared.Action.{Action}
+use Rattle.grammar.specs.declared.Item.{Item}
+use Rattle.grammar.specs.declared.Progress.{Progress}
+use Rattle.grammar.specs.declared.Placed.{Placed}
+use Rattle.grammar.specs.declared.Outcome.{Outcome}
+use Rattle.grammar.specs.declared.Outcome.the-variants.{Go, Give, Refuse}
+use Rattle.grammar.specs.Syntax.{Terminal, key, letter, number, equals, opening, closing, widthClose, arrow, end, Rule, rules, Node, Begin, Finish, IntervalName, IntervalEquals, IntervalBody, FirstNumber, RatioColon, RootWord, IntervalTerm, IntervalSign, IntervalFactor, IntervalDone, ToneName, ToneEquals, ToneBody, ToneTerm, ToneSign, ToneFactor, ToneDone, SystemName, SystemEquals, SystemAnchor, SystemOpen, SystemFirst, SystemComma, SystemTone, SystemPeriod, SystemTerm, SystemSign, SystemFactor, RetuningName, RetuningEquals, RetuningBody, RetuningOpen, RetuningDone, AnchorAt, AnchorPlus, AnchorMinus, AnchorOpen, AnchorClose, WidthBody, WidthAt, WidthPlus, WidthMinus, WidthAsterisk, WidthSlash, WidthClose, WidthEnd, PeriodBody, PeriodTerm, PeriodSign, PeriodFactor, TonesTerm, TonesSign, TonesFactor, TonesComma, LogicName, LogicKey, LogicLetter, LogicEquals, LogicStart, LogicOpen, OrdersOpen, OrderKey, OrderLetter, OrderArrow, LogicDone}
+use Rattle.grammar.specs.Terminals.{terminalNumber, nodeNumber, nodes, nodeAt, picked, terminalOf, startOf, placed, isNothing}
+use Rattle.grammar.specs.Reading.{acted, thenAt, notAllowed, byRule, stepped, begun}
+use Rattle.grammar.specs.Live.{walked, Whole, NoContinuation, reached, ThreeExactly}
+use Rattle.grammar.proofs.Table.{each, read-of}
+use Rattle.grammar.proofs.Turns.{refusal, Grown, acted-grown}
+
+-- ---- a continuation from every node, by one test
+
+continuation : Node → List Terminal
+continuation Begin = end ∷ []
+continuation Finish = []
+continuation IntervalName = letter ∷ equals ∷ letter ∷ end ∷ []
+continuation IntervalEquals = equals ∷ letter ∷ end ∷ []
+continuation IntervalBody = letter ∷ end ∷ []
+continuation FirstNumber = letter ∷ end ∷ []
+continuation RatioColon = number ∷ end ∷ []
+continuation RootWord = number ∷ end ∷ []
+continuation IntervalTerm = end ∷ []
+continuation IntervalSign = letter ∷ end ∷ []
+continuation IntervalFactor = letter ∷ end ∷ []
+continuation IntervalDone = end ∷ []
+continuation ToneName = letter ∷ equals ∷ letter ∷ end ∷ []
+continuation ToneEquals = equals ∷ letter ∷ end ∷ []
+continuation ToneBody = letter ∷ end ∷ []
+continuation ToneTerm = end ∷ []
+continuation ToneSign = letter ∷ end ∷ []
+continuation ToneFactor = letter ∷ end ∷ []
+continuation ToneDone = end ∷ []
+continuation SystemName = letter ∷ equals ∷ number ∷ opening ∷ letter ∷ closing ∷ letter ∷ end ∷ []
+continuation SystemEquals = equals ∷ number ∷ opening ∷ letter ∷ closing ∷ letter ∷ end ∷ []
+continuation SystemAnchor = number ∷ opening ∷ letter ∷ closing ∷ letter ∷ end ∷ []
+continuation SystemOpen = opening ∷ letter ∷ closing ∷ letter ∷ end ∷ []
+continuation SystemFirst = letter ∷ closing ∷ letter ∷ end ∷ []
+continuation SystemComma = closing ∷ letter ∷ end ∷ []
+continuation SystemTone = closing ∷ letter ∷ end ∷ []
+continuation SystemPeriod = letter ∷ end ∷ []
+continuation SystemTerm = end ∷ []
+continuation SystemSign = letter ∷ end ∷ []
+continuation SystemFactor = letter ∷ end ∷ []
+continuation RetuningName = letter ∷ equals ∷ number ∷ opening ∷ closing ∷ end ∷ []
+continuation RetuningEquals = equals ∷ number ∷ opening ∷ closing ∷ end ∷ []
+continuation RetuningBody = number ∷ opening ∷ closing ∷ end ∷ []
+continuation RetuningOpen = letter ∷ closing ∷ end ∷ []
+continuation RetuningDone = end ∷ []
+continuation AnchorAt = opening ∷ closing ∷ end ∷ []
+continuation AnchorPlus = number ∷ opening ∷ closing ∷ end ∷ []
+continuation AnchorMinus = number ∷ opening ∷ closing ∷ end ∷ []
+continuation AnchorOpen = opening ∷ closing ∷ end ∷ []
+continuation AnchorClose = closing ∷ end ∷ []
+continuation WidthBody = number ∷ widthClose ∷ closing ∷ end ∷ []
+continuation WidthAt = widthClose ∷ closing ∷ end ∷ []
+continuation WidthPlus = number ∷ widthClose ∷ closing ∷ end ∷ []
+continuation WidthMinus = number ∷ widthClose ∷ closing ∷ end ∷ []
+continuation WidthAsterisk = number ∷ widthClose ∷ closing ∷ end ∷ []
+continuation WidthSlash = number ∷ widthClose ∷ closing ∷ end ∷ []
+continuation WidthClose = widthClose ∷ closing ∷ end ∷ []
+continuation WidthEnd = closing ∷ end ∷ []
+continuation PeriodBody = letter ∷ end ∷ []
+continuation PeriodTerm = end ∷ []
+continuation PeriodSign = letter ∷ end ∷ []
+continuation PeriodFactor = letter ∷ end ∷ []
+continuation TonesTerm = closing ∷ end ∷ []
+continuation TonesSign = letter ∷ closing ∷ end ∷ []
+continuation TonesFactor = letter ∷ closing ∷ end ∷ []
+continuation TonesComma = closing ∷ end ∷ []
+continuation LogicName = letter ∷ key ∷ letter ∷ equals ∷ opening ∷ closing ∷ end ∷ []
+continuation LogicKey = key ∷ letter ∷ equals ∷ opening ∷ closing ∷ end ∷ []
+continuation LogicLetter = letter ∷ equals ∷ opening ∷ closing ∷ end ∷ []
+continuation LogicEquals = equals ∷ opening ∷ closing ∷ end ∷ []
+continuation LogicStart = opening ∷ closing ∷ end ∷ []
+continuation LogicOpen = opening ∷ closing ∷ end ∷ []
+continuation OrdersOpen = closing ∷ end ∷ []
+continuation OrderKey = letter ∷ arrow ∷ letter ∷ closing ∷ end ∷ []
+continuation OrderLetter = arrow ∷ letter ∷ closing ∷ end ∷ []
+continuation OrderArrow = letter ∷ closing ∷ end ∷ []
+continuation LogicDone = end ∷ []
+
+finishes : Option Node → Bool
+finishes none = false
+finishes (some n) = eqb (nodeNumber n) (nodeNumber Finish)
+
+test : Node → Bool
+test n = finishes (walked n (continuation n))
+
+-- a node comes back from its number
+node-back : (n : Node) → nodeAt (nodeNumber n) ≡ n
+node-back Begin = refl
+node-back Finish = refl
+node-back IntervalName = refl
+node-back IntervalEquals = refl
+node-back IntervalBody = refl
+node-back FirstNumber = refl
+node-back RatioColon = refl
+node-back RootWord = refl
+node-back IntervalTerm = refl
+node-back IntervalSign = refl
+node-back IntervalFactor = refl
+node-back IntervalDone = refl
+node-back ToneName = refl
+node-back ToneEquals = refl
+node-back ToneBody = refl
+node-back ToneTerm = refl
+node-back ToneSign = refl
+node-back ToneFactor = refl
+node-back ToneDone = refl
+node-back SystemName = refl
+node-back SystemEquals = refl
+node-back SystemAnchor = refl
+node-back SystemOpen = refl
+node-back SystemFirst = refl
+node-back SystemComma = refl
+node-back SystemTone = refl
+node-back SystemPeriod = refl
+node-back SystemTerm = refl
+node-back SystemSign = refl
+node-back SystemFactor = refl
+node-back RetuningName = refl
+node-back RetuningEquals = refl
+node-back RetuningBody = refl
+node-back RetuningOpen = refl
+node-back RetuningDone = refl
+node-back AnchorAt = refl
+node-back AnchorPlus = refl
+node-back AnchorMinus = refl
+node-back AnchorOpen = refl
+node-back AnchorClose = refl
+node-back WidthBody = refl
+node-back WidthAt = refl
+node-back WidthPlus = refl
+node-back WidthMinus = refl
+node-back WidthAsterisk = refl
+node-back WidthSlash = refl
+node-back WidthClose = refl
+node-back WidthEnd = refl
+node-back PeriodBody = refl
+node-back PeriodTerm = refl
+node-back PeriodSign = refl
+node-back PeriodFactor = refl
+node-back TonesTerm = refl
+node-back TonesSign = refl
+node-back TonesFactor = refl
+node-back TonesComma = refl
+node-back LogicName = refl
+node-back LogicKey = refl
+node-back LogicLetter = refl
+node-back LogicEquals = refl
+node-back LogicStart = refl
+node-back LogicOpen = refl
+node-back OrdersOpen = refl
+node-back OrderKey = refl
+node-back OrderLetter = refl
+node-back OrderArrow = refl
+node-back LogicDone = refl
+
+finished : (o : Option Node) → T (finishes o) → o ≡ some Finish
+unfolding finishes
+finished none t = absurd t
+finished (some n) t = ap some (sym (node-back n) ∙ ap nodeAt (eqb→eq (nodeNumber n) (nodeNumber Finish) t))
+
+live : (n : Node) → (ts : List Terminal) × (walked n ts ≡ some Finish)
+unfolding continuation test finishes walked picked rules
+live n = (continuation n, finished (walked n (continuation n)) (subst (λ (q : Node). T (test q)) (node-back n) (read-of test nodes Finish tt tt (nodeNumber n))))
+
+-- ---- progress is at the node that the symbols so far lead to
+
+-- where o is no refusal, its progress is at the node n
+abbrev At : Node → Outcome → Type 0
+At n (Refuse k p) = Unit {0}
+At n (Go t) = nodeAt (t .node) ≡ n
+At n (Give t i) = nodeAt (t .node) ≡ n
+
+then-at : (n : Node) (o : Outcome) → At n (thenAt (nodeNumber n) o)
+then-at n (Refuse k p) = tt
+then-at n (Go t) = node-back n
+then-at n (Give t i) = node-back n
+
+-- what a step by a rule, or by none, is
+walked-on : (n : Node) (t : Terminal) (ts : List Terminal) {r : Rule} → picked (rules n) (terminalNumber t) ≡ some r → walked n (t ∷ ts) ≡ walked (r .next) ts
+unfolding walked
+walked-on n t ts e = rw (walked, e)
+
+walked-off : (n : Node) (t : Terminal) (ts : List Terminal) → picked (rules n) (terminalNumber t) ≡ none → walked n (t ∷ ts) ≡ none
+unfolding walked
+walked-off n t ts e = rw (walked, e)
+
+-- where a step goes on with progress t, the diagrams go on from t's node
+abbrev Follows : List ℕ → Progress → Symbol → List Terminal → Outcome → Type 0
+Follows text s y ts (Refuse k p) = Unit {0}
+Follows text s y ts (Go t) = walked (nodeAt (s .node)) (terminalOf text y ∷ ts) ≡ walked (nodeAt (t .node)) ts
+Follows text s y ts (Give t i) = walked (nodeAt (s .node)) (terminalOf text y ∷ ts) ≡ walked (nodeAt (t .node)) ts
+
+follows : (text : List ℕ) (s : Progress) (y : Symbol) (ts : List Terminal) → Follows text s y ts (stepped text s (placed text y))
+unfolding stepped
+follows text s y ts = go (picked (rules (nodeAt (s .node))) (terminalNumber (terminalOf text y))) refl
+  where
+    by : (n : Node) → walked (nodeAt (s .node)) (terminalOf text y ∷ ts) ≡ walked n ts → (o : Outcome) → At n o → Follows text s y ts o
+    by n e (Refuse k p) a = tt
+    by n e (Go t) a = e ∙ ap (λ (q : Node). walked q ts) (sym a)
+    by n e (Give t i) a = e ∙ ap (λ (q : Node). walked q ts) (sym a)
+
+    go : (o : Option Rule) → picked (rules (nodeAt (s .node))) (terminalNumber (terminalOf text y)) ≡ o → Follows text s y ts (byRule text s (placed text y) o)
+    go none e = refusal (Follows text s y ts) (placed text y) (λ k. tt)
+    go (some r) e =
+        by (r .next) (walked-on (nodeAt (s .node)) (terminalOf text y) ts e) (thenAt (nodeNumber (r .next)) (acted text s (r .action) (placed text y)))
+        (then-at (r .next) (acted text s (r .action) (placed text y)))
+
+walk-reached : (text : List ℕ) (s : Progress) (ys : List Symbol) {t : Progress} (ts : List Terminal) → reached text s ys ≡ some t
+    → walked (nodeAt (s .node)) (map (terminalOf text) ys ++ ts) ≡ walked (nodeAt (t .node)) ts
+unfolding reached
+walk-reached text s [] ts e = ap (λ (o : Option Progress). elim o [ none ↦ walked (nodeAt (s .node)) ts | some u ↦ walked (nodeAt (u .node)) ts ]) e
+walk-reached text s (y ∷ ys) {t} ts e =
+    go (stepped text s (placed text y)) (follows text s y (map (terminalOf text) ys ++ ts)) (λ u. walk-reached text u ys ts) e
+  where
+    go : (o : Outcome) → Follows text s y (map (terminalOf text) ys ++ ts) o
+        → ((u : Progress) → reached text u ys ≡ some t → walked (nodeAt (u .node)) (map (terminalOf text) ys ++ ts) ≡ walked (nodeAt (t .node)) ts)
+        → elim o [ Refuse n p ↦ none | Go u ↦ reached text u ys | Give u i ↦ reached text u ys ] ≡ some t
+        → walked (nodeAt (s .node)) (terminalOf text y ∷ (map (terminalOf text) ys ++ ts)) ≡ walked (nodeAt (t .node)) ts
+    go (Refuse n p) f later q = let z : _≡_ {A = ℕ} 0 1 = cc in absurd (omega arith)
+    go (Go u) f later q = f ∙ later u q
+    go (Give u i) f later q = f ∙ later u q
+
+-- ---- three
+
+map-append : (f : Symbol → Terminal) (xs ys : List Symbol) → map f (xs ++ ys) ≡ map f xs ++ map f ys
+map-append f [] ys = refl
+map-append f (x ∷ xs) ys = ap (λ (l : List Terminal). f x ∷ l) (map-append f xs ys)
+
+-- the symbols and a continuation, from the first node or from where the last symbol is looked at
+from-there : (text : List ℕ) (ys : List Symbol) (y : Symbol) {s : Progress} → reached text begun ys ≡ some s → (more : List Terminal)
+    → walked Begin (map (terminalOf text) (ys ++ y ∷ []) ++ more) ≡ walked (nodeAt (s .node)) (terminalOf text y ∷ more)
+from-there text ys y e more =
+    ap (walked Begin) (ap (λ (l : List Terminal). l ++ more) (map-append (terminalOf text) ys (y ∷ [])) ∙ append-assoc (map (terminalOf text) ys) (terminalOf text y ∷ []) more)
+    ∙ walk-reached text begun ys (terminalOf text y ∷ more) e
+
+-- a step that refuses with 3 has no rule
+no-rule : (text : List ℕ) (s : Progress) (x : Placed) {p : ℕ} → stepped text s x ≡ Refuse symbolNotAllowed p → picked (rules (nodeAt (s .node))) (x .terminal) ≡ none
+unfolding stepped
+no-rule text s x {p} e = go (picked (rules (nodeAt (s .node))) (x .terminal)) e
+  where
+    acts : (n k : ℕ) (o : Outcome) → Grown n o → thenAt k o ≡ Refuse symbolNotAllowed p → ⊥
+    acts n k (Refuse m q) g f = g (let z : m ≡ symbolNotAllowed = cc in z)
+    acts n k (Go t) g f = let z : _≡_ {A = ℕ} 0 1 = cc in omega arith
+    acts n k (Give t i) g f = let z : _≡_ {A = ℕ} 0 1 = cc in omega arith
+
+    go : (o : Option Rule) → byRule text s x o ≡ Refuse symbolNotAllowed p → o ≡ none
+    go none f = refl
+    go (some r) f = absurd (acts (s .term .before) (nodeNumber (r .next)) (acted text s (r .action) x) (acted-grown text s (r .action) x) f)
+
+-- where there is no rule, a symbol is refused with 3
+no-rule-back : (text : List ℕ) (s : Progress) (x : Placed) → picked (rules (nodeAt (s .node))) (x .terminal) ≡ none → isNothing x ≡ false
+    → stepped text s x ≡ Refuse symbolNotAllowed (x .start)
+unfolding stepped
+no-rule-back text s x e n = rw (e, n)
+
+pub three : ThreeExactly
+three text ys y s e n = (forth, back)
+  where
+    forth : stepped text s (placed text y) ≡ Refuse symbolNotAllowed (startOf y) → NoContinuation (map (terminalOf text) (ys ++ y ∷ []))
+    forth f more w =
+        let r = no-rule text s (placed text y) f in
+        let q = sym (walked-off (nodeAt (s .node)) (terminalOf text y) more r) ∙ sym (from-there text ys y e more) ∙ w in
+        let z : _≡_ {A = ℕ} 0 1 = cc in
+        omega arith
+
+    back : NoContinuation (map (terminalOf text) (ys ++ y ∷ [])) → stepped text s (placed text y) ≡ Refuse symbolNotAllowed (startOf y)
+    back f = no-rule-back text s (placed text y) (go (picked (rules (nodeAt (s .node))) (terminalNumber (terminalOf text y))) refl) n
+      where
+        go : (o : Option Rule) → picked (rules (nodeAt (s .node))) (terminalNumber (terminalOf text y)) ≡ o → o ≡ none
+        go none g = refl
+        go (some r) g =
+            let l = live (r .next) in
+            absurd (f (l .0) (from-there text ys y e (l .0) ∙ walked-on (nodeAt (s .node)) (terminalOf text y) (l .0) g ∙ l .1))

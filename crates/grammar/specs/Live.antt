@@ -1,0 +1,39 @@
+-- "symbol that no continuation allows": 3 is given for such a symbol, and for no other (`three` of proofs/Live.antt).
+use mathlib.Core.Bool.{false}
+use mathlib.Core.List.{List, [], _∷_, _++_, map}
+use mathlib.Core.Logic.{_↔_}
+use mathlib.Core.Option.{Option, some, none}
+use mathlib.Core.Path.{_≡_}
+use Prim.Native.Nat.{ℕ}
+use Rattle.status.specs.Status.{symbolNotAllowed}
+use Rattle.symbols.specs.declared.Symbol.{Symbol}
+use Rattle.grammar.specs.declared.Progress.{Progress}
+use Rattle.grammar.specs.declared.Outcome.the-variants.{Go, Give, Refuse}
+use Rattle.grammar.specs.Syntax.{Terminal, Node, Begin, Finish, rules}
+use Rattle.grammar.specs.Terminals.{terminalNumber, terminalOf, startOf, placed, isNothing, picked}
+use Rattle.grammar.specs.Reading.{stepped, begun}
+
+-- the node that symbols lead to along the diagrams, if each of them may follow
+unfoldable pub walked : Node → List Terminal → Option Node
+walked n [] = some n
+walked n (t ∷ ts) = elim (picked (rules n) (terminalNumber t)) [ none ↦ none | some r ↦ walked (r .next) ts ]
+
+-- the symbols of a whole text, its end the last of them
+abbrev pub Whole : List Terminal → Type 0
+Whole ts = walked Begin ts ≡ some Finish
+
+-- no continuation makes these the symbols of a whole text
+abbrev pub NoContinuation : List Terminal → Type 0
+NoContinuation ts = (more : List Terminal) → Whole (ts ++ more) → ⊥
+
+-- the progress that symbols lead to, if none of them is refused
+unfoldable pub reached : List ℕ → Progress → List Symbol → Option Progress
+reached text s [] = some s
+reached text s (y ∷ ys) =
+    elim (stepped text s (placed text y)) [ Refuse n p ↦ none | Go t ↦ reached text t ys | Give t i ↦ reached text t ys ]
+
+-- after symbols of which none is refused, a further symbol y is refused with 3, at its place, just where with it there is no continuation
+abbrev pub ThreeExactly : Type 0
+ThreeExactly =
+    (text : List ℕ) (ys : List Symbol) (y : Symbol) (s : Progress) → reached text begun ys ≡ some s → isNothing (placed text y) ≡ false
+    → (stepped text s (placed text y) ≡ Refuse symbolNotAllowed (startOf y)) ↔ NoContinuation (map (terminalOf text) (ys ++ y ∷ []))

@@ -1,0 +1,293 @@
+-- Reading a text symbol by symbol into items: document 01, "Declarations", "Numbers allowed", and the numbers 2, 3, 4 and 9.
+use mathlib.Core.Bool.{Bool, true, false, cond}
+use mathlib.Core.List.{List, [], _∷_}
+use mathlib.Core.Option.{Option, some, none}
+use Prim.Native.Nat.{ℕ, _+_}
+use lib.Dec.{leb, eqb}
+use lib.ListN.{length}
+use lib.Seq.{slice}
+use Rattle.status.specs.Status.{done, textTooLong, noSymbol, symbolNotAllowed, numberOutOfRange, itemTooMany}
+use Rattle.numerals.specs.Numbers.{decimalOf, wholeOf}
+use Rattle.numerals.specs.declared.Amount.{Amount}
+use Rattle.numerals.specs.declared.Amount.the-variants.{Outside, Value}
+use Rattle.grammar.specs.declared.Kind.{Kind}
+use Rattle.grammar.specs.declared.Kind.the-variants.{Interval, Tone, System, Retuning, Logic, Order as AnOrder}
+use Rattle.grammar.specs.declared.NumberUse.{NumberUse}
+use Rattle.grammar.specs.declared.NumberUse.the-variants.{RatioFirst, RatioSecond, Degree, Radicand, FirstFactor, Factor, Frequency, AnchorKey, AnchorTo, AnchorUp, AnchorDown, WidthTo, WidthUp, WidthDown, WidthTimes, WidthOver}
+use Rattle.grammar.specs.declared.NumberRange.{NumberRange}
+use Rattle.grammar.specs.declared.NumberRange.the-variants.{Decimal, Whole}
+use Rattle.grammar.specs.declared.NameUse.{NameUse}
+use Rattle.grammar.specs.declared.NameUse.the-variants.{Term, Base, Position, Start, Order}
+use Rattle.grammar.specs.declared.MarkUse.{MarkUse}
+use Rattle.grammar.specs.declared.MarkUse.the-variants.{MutedPosition, KeptPosition, KeptAnchor, KeptWidth, Period, Onward}
+use Rattle.grammar.specs.declared.LetterUse.{LetterUse}
+use Rattle.grammar.specs.declared.LetterUse.the-variants.{LogicLetter, OrderLetter}
+use Rattle.grammar.specs.declared.Action.{Action}
+use Rattle.grammar.specs.declared.Action.the-variants.{Pass, Declare, Hold, Held, Number, Sign, Name, Mark, Letter, CountOrder}
+use Rattle.grammar.specs.declared.Item.{Item}
+use Rattle.grammar.specs.declared.Item.the-variants as item
+use Rattle.grammar.specs.declared.Counts.{Counts}
+use Rattle.grammar.specs.declared.FirstNumber.{FirstNumber}
+use Rattle.grammar.specs.declared.NextTerm.{NextTerm}
+use Rattle.grammar.specs.declared.Progress.{Progress}
+use Rattle.grammar.specs.declared.Placed.{Placed}
+use Rattle.grammar.specs.declared.Outcome.{Outcome}
+use Rattle.grammar.specs.declared.Outcome.the-variants.{Go, Give, Refuse}
+use Rattle.symbols.specs.Symbols.{symbols}
+use Rattle.symbols.specs.declared.Symbol.{Symbol}
+use Rattle.grammar.specs.declared.reading.Reading.{Reading}
+use Rattle.grammar.specs.Syntax.{Begin, Finish, Rule, rules}
+use Rattle.grammar.specs.Terminals.{placed, picked, nodeAt, nodeNumber, isNothing, letterAt}
+
+-- ---- "Numbers allowed"
+
+-- a number by its use: "ratio parts, radicand, frequency .. at most four places", "root degree: whole, 1 to 65,535", "factor: whole, 0 to 999",
+-- "anchor in a tone system: whole, 0 to 127", "n in anchor and width retunings: whole, 0 to 9,999; after `/` from 1"
+abbrev pub allowed : NumberUse → NumberRange
+allowed RatioFirst = Decimal
+allowed RatioSecond = Decimal
+allowed Radicand = Decimal
+allowed Frequency = Decimal
+allowed Degree = Whole 1 65535
+allowed FirstFactor = Whole 0 999
+allowed Factor = Whole 0 999
+allowed AnchorKey = Whole 0 127
+allowed AnchorTo = Whole 0 9999
+allowed AnchorUp = Whole 0 9999
+allowed AnchorDown = Whole 0 9999
+allowed WidthTo = Whole 0 9999
+allowed WidthUp = Whole 0 9999
+allowed WidthDown = Whole 0 9999
+allowed WidthTimes = Whole 0 9999
+allowed WidthOver = Whole 1 9999
+
+-- the value of the number that these bytes write, if it is in a range
+abbrev pub within : NumberRange → List ℕ → Amount
+within Decimal bytes = decimalOf bytes
+within (Whole low high) bytes = wholeOf low high bytes
+
+abbrev pub judged : NumberUse → List ℕ → Amount
+judged u bytes = within (allowed u) bytes
+
+-- "intervals, tones: 256 each; tone systems, logics: 32 each; retunings: 128; orders in all logics together: 512"
+abbrev pub limit : Kind → ℕ
+limit Interval = 256
+limit Tone = 256
+limit System = 32
+limit Retuning = 128
+limit Logic = 32
+limit AnOrder = 512
+
+-- "terms in one sequence, tone or expression: 16", "positions in one list: 60"
+abbrev pub mostTerms : ℕ
+mostTerms = 16
+
+abbrev pub mostPositions : ℕ
+mostPositions = 60
+
+-- ---- progress, with one part changed
+
+abbrev pub soFar : Kind → Counts → ℕ
+soFar Interval c = c .intervals
+soFar Tone c = c .tones
+soFar System c = c .systems
+soFar Retuning c = c .retunings
+soFar Logic c = c .logics
+soFar AnOrder c = c .orders
+
+abbrev pub oneMore : Kind → Counts → Counts
+oneMore Interval c = record { intervals = c .intervals + 1; tones = c .tones; systems = c .systems; retunings = c .retunings; logics = c .logics; orders = c .orders }
+oneMore Tone c = record { intervals = c .intervals; tones = c .tones + 1; systems = c .systems; retunings = c .retunings; logics = c .logics; orders = c .orders }
+oneMore System c = record { intervals = c .intervals; tones = c .tones; systems = c .systems + 1; retunings = c .retunings; logics = c .logics; orders = c .orders }
+oneMore Retuning c = record { intervals = c .intervals; tones = c .tones; systems = c .systems; retunings = c .retunings + 1; logics = c .logics; orders = c .orders }
+oneMore Logic c = record { intervals = c .intervals; tones = c .tones; systems = c .systems; retunings = c .retunings; logics = c .logics + 1; orders = c .orders }
+oneMore AnOrder c = record { intervals = c .intervals; tones = c .tones; systems = c .systems; retunings = c .retunings; logics = c .logics; orders = c .orders + 1 }
+
+abbrev pub atNode : ℕ → Progress → Progress
+atNode n s = record { node = n; first = s .first; term = s .term; positions = s .positions; letter = s .letter; counts = s .counts }
+
+abbrev pub withFirst : FirstNumber → Progress → Progress
+withFirst n s = record { node = s .node; first = n; term = s .term; positions = s .positions; letter = s .letter; counts = s .counts }
+
+abbrev pub withTerm : NextTerm → Progress → Progress
+withTerm t s = record { node = s .node; first = s .first; term = t; positions = s .positions; letter = s .letter; counts = s .counts }
+
+abbrev pub withPositions : ℕ → Progress → Progress
+withPositions n s = record { node = s .node; first = s .first; term = s .term; positions = n; letter = s .letter; counts = s .counts }
+
+abbrev pub withLetter : ℕ → Progress → Progress
+withLetter c s = record { node = s .node; first = s .first; term = s .term; positions = s .positions; letter = c; counts = s .counts }
+
+abbrev pub withCounts : Counts → Progress → Progress
+withCounts c s = record { node = s .node; first = s .first; term = s .term; positions = s .positions; letter = s .letter; counts = c }
+
+-- an interval's first number: held from its place to the place after it, then judged
+abbrev pub heldFirst : Placed → Progress → Progress
+heldFirst x s = withFirst (record { start = x .start; end = x .end; value = 0 }) s
+
+abbrev pub judgedFirst : ℕ → Progress → Progress
+judgedFirst v s = withFirst (record { start = s .first .start; end = s .first .end; value = v }) s
+
+-- the term after n others, with its sign and its factor
+abbrev pub nextTerm : Bool → ℕ → ℕ → Progress → Progress
+nextTerm m v n s = withTerm (record { minus = m; factor = v; before = n }) s
+
+-- no term yet: a plus and the factor 1, unless the text says otherwise
+abbrev pub noTerm : Progress → Progress
+noTerm s = nextTerm false 1 0 s
+
+-- ---- what each action does at the symbol x
+
+-- "one more item than allowed; its first symbol"
+abbrev pub unlessFull : ℕ → ℕ → Placed → Outcome → Outcome
+unlessFull most n x o = cond (leb most n) (Refuse itemTooMany (x .start)) o
+
+-- a declaration begins with its name; there is no term and no position yet
+abbrev pub counted : Progress → Kind → Item → Placed → Outcome
+counted s k i x =
+    unlessFull (limit k) (soFar k (s .counts)) x (Give (withCounts (oneMore k (s .counts)) (withPositions 0 (noTerm s))) i)
+
+-- an order begins with KEY
+abbrev pub orderCounted : Progress → Placed → Outcome
+orderCounted s x = unlessFull (limit AnOrder) (soFar AnOrder (s .counts)) x (Go (withCounts (oneMore AnOrder (s .counts)) s))
+
+-- a sign belongs to its term
+abbrev pub signed : Progress → Bool → Placed → Outcome
+signed s m x = unlessFull mostTerms (s .term .before) x (Go (nextTerm m 1 (s .term .before) s))
+
+abbrev pub termItem : Bool → ℕ → ℕ → Item
+termItem true factor place = item.Subtract factor place
+termItem false factor place = item.Add factor place
+
+-- a term ends with its interval's name
+abbrev pub termed : Progress → ℕ → Placed → Outcome
+termed s factor x = Give (nextTerm false 1 (s .term .before + 1) s) (termItem (s .term .minus) factor (x .start))
+
+-- a position of a list, with no terms yet; "(empty: the mark after)"
+abbrev pub positioned : Progress → Item → Placed → Outcome
+positioned s i x = unlessFull mostPositions (s .positions) x (Give (withPositions (s .positions + 1) (noTerm s)) i)
+
+abbrev pub named : Progress → NameUse → Placed → Outcome
+named s Term x = termed s (s .term .factor) x
+named s Base x = Give s (item.Base (x .start))
+named s Position x = positioned s (item.TonePosition (x .start)) x
+named s Start x = Give s (item.Start (x .start))
+named s Order x = Give s (item.Order (s .letter) (x .start))
+
+abbrev pub marked : Progress → MarkUse → Placed → Outcome
+marked s MutedPosition x = positioned s item.MutedPosition x
+marked s KeptPosition x = positioned s item.KeptPosition x
+marked s KeptAnchor x = Give s item.AnchorKept
+marked s KeptWidth x = Give s item.WidthKept
+marked s Period x = Give s item.Period
+marked s Onward x = Give s item.Onward
+
+abbrev pub lettered : Progress → LetterUse → ℕ → Outcome
+lettered s LogicLetter c = Give s (item.Letter c)
+lettered s OrderLetter c = Go (withLetter c s)
+
+-- a number of which the value is allowed, at the symbol x
+abbrev pub used : Progress → NumberUse → ℕ → Placed → Outcome
+used s RatioFirst v x = Go (judgedFirst v s)
+used s RatioSecond v x = Give s (item.Ratio (s .first .value) v)
+used s Degree v x = Go (judgedFirst v s)
+used s Radicand v x = Give s (item.Root (s .first .value) v)
+used s FirstFactor v x = termed s v x
+used s Factor v x = Go (nextTerm (s .term .minus) v (s .term .before) s)
+used s Frequency v x = Give s (item.Frequency v)
+used s AnchorKey v x = Give s (item.AnchorKey v)
+used s AnchorTo v x = Give s (item.AnchorTo v)
+used s AnchorUp v x = Give s (item.AnchorUp v)
+used s AnchorDown v x = Give s (item.AnchorDown v)
+used s WidthTo v x = Give s (item.WidthTo v)
+used s WidthUp v x = Give s (item.WidthUp v)
+used s WidthDown v x = Give s (item.WidthDown v)
+used s WidthTimes v x = Give s (item.WidthTimes v)
+used s WidthOver v x = Give s (item.WidthOver v)
+
+-- "number out of range, too many places, or a point where whole is asked; its place": the number from `start` to `end`
+abbrev pub ifAllowed : Progress → NumberUse → ℕ → Placed → Amount → Outcome
+ifAllowed s u start x Outside = Refuse numberOutOfRange start
+ifAllowed s u start x (Value v) = used s u v x
+
+abbrev pub numbered : List ℕ → Progress → NumberUse → ℕ → ℕ → Placed → Outcome
+numbered text s u start end x = ifAllowed s u start x (judged u (slice start end text))
+
+-- what is done at the symbol x, before the next node
+unfoldable pub acted : List ℕ → Progress → Action → Placed → Outcome
+acted text s Pass x = Go s
+acted text s (Declare k) x = counted s k (item.Declared k (x .start)) x
+acted text s Hold x = Go (heldFirst x s)
+acted text s (Held u) x = numbered text s u (s .first .start) (s .first .end) x
+acted text s (Number u) x = numbered text s u (x .start) (x .end) x
+acted text s (Sign m) x = signed s m x
+acted text s (Name u) x = named s u x
+acted text s (Mark u) x = marked s u x
+acted text s (Letter u) x = lettered s u (letterAt text x)
+acted text s CountOrder x = orderCounted s x
+
+-- then the next node
+abbrev pub thenAt : ℕ → Outcome → Outcome
+thenAt n (Go s) = Go (atNode n s)
+thenAt n (Give s i) = Give (atNode n s) i
+thenAt n (Refuse k p) = Refuse k p
+
+-- "symbol that no continuation allows; its place", or 2 where there is no symbol
+abbrev pub notAllowed : Placed → Outcome
+notAllowed x = cond (isNothing x) (Refuse noSymbol (x .start)) (Refuse symbolNotAllowed (x .start))
+
+abbrev pub byRule : List ℕ → Progress → Placed → Option Rule → Outcome
+byRule text s x none = notAllowed x
+byRule text s x (some r) = thenAt (nodeNumber (r .next)) (acted text s (r .action) x)
+
+-- one symbol
+unfoldable pub stepped : List ℕ → Progress → Placed → Outcome
+stepped text s x = byRule text s x (picked (rules (nodeAt (s .node))) (x .terminal))
+
+-- ---- a whole text
+
+-- what is read: the items, and the refusal's number and place, or 0 and 0
+pub record Read : Type 0 where
+  pub items : List Item
+  pub number : ℕ
+  pub place : ℕ
+
+abbrev pub begun : Progress
+begun = record {
+  node = nodeNumber Begin;
+  first = record { start = 0; end = 0; value = 0 };
+  term = record { minus = false; factor = 1; before = 0 };
+  positions = 0;
+  letter = 0;
+  counts = record { intervals = 0; tones = 0; systems = 0; retunings = 0; logics = 0; orders = 0 };
+}
+
+abbrev pub with : Item → Read → Read
+with i r = record { items = i ∷ r .items; number = r .number; place = r .place }
+
+abbrev pub refusedAt : ℕ → ℕ → Read
+refusedAt n p = record { items = []; number = n; place = p }
+
+abbrev pub isFinished : Progress → Bool
+isFinished s = eqb (s .node) (nodeNumber Finish)
+
+-- the rest of the symbols, of which the last is the text's end, or a place where no symbol begins
+unfoldable pub readFrom : List ℕ → Progress → List Symbol → Read
+readFrom text s [] = refusedAt done 0
+readFrom text s (x ∷ xs) =
+    elim (stepped text s (placed text x)) [
+      | Refuse n p ↦ refusedAt n p
+      | Go s′ ↦ elim (isFinished s′) [ true ↦ refusedAt done 0 | false ↦ readFrom text s′ xs ]
+      | Give s′ i ↦ with i (readFrom text s′ xs)
+    ]
+
+-- "text: 0 to 32,768 bytes"
+abbrev pub mostBytes : ℕ
+mostBytes = 32768
+
+unfoldable pub readItems : List ℕ → Read
+readItems text = cond (leb (length text) mostBytes) (readFrom text begun (symbols text)) (refusedAt textTooLong 0)
+
+-- as a call answers it: how many items, and the refusal's number and place, or 0 and 0
+abbrev pub answered : Read → Reading
+answered r = record { count = length (r .items); number = r .number; place = r .place }

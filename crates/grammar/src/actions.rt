@@ -1,0 +1,341 @@
+// What is done at a symbol: each action answers more progress, perhaps with an item, or a refusal.
+use crate::Action;
+use crate::Counts;
+use crate::FirstNumber;
+use crate::Item;
+use crate::Kind;
+use crate::LetterUse;
+use crate::MarkUse;
+use crate::NameUse;
+use crate::NextTerm;
+use crate::NumberRange;
+use crate::NumberUse;
+use crate::Outcome;
+use crate::Placed;
+use crate::Progress;
+use numerals::Amount;
+use symbols::names;
+use symbols::names::Letter;
+ghost use mathlib.Core.Path.{_≡_};
+ghost use Prim.Native.Nat.{_<_};
+ghost use lib.Dec.{leb};
+ghost use lib.Seq.{slice};
+ghost use Rattle.status.specs.Status.{itemTooMany};
+ghost use Rattle.grammar.specs.Terminals.{letterAt};
+ghost use Rattle.grammar.specs.Reading.{allowed, judged, limit, soFar, oneMore, heldFirst, judgedFirst, noTerm, nextTerm, counted, signed, termed, positioned, named, marked, lettered, used, numbered, orderCounted, acted};
+ghost use Rattle.grammar.specs.Inner.{roomForTerm};
+
+const MOST_TERMS: u32 = 16;
+
+const MOST_POSITIONS: u8 = 60;
+
+const MOST_DEGREE: u32 = 65535;
+
+const MOST_FACTOR: u32 = 999;
+
+const MOST_ANCHOR_KEY: u32 = 127;
+
+const MOST_IN_RETUNING: u32 = 9999;
+
+fn limit_of(kind: Kind) -> u16
+    ensures { λ r. ⌜ r ≡ limit kind ⌝ }
+{
+    match kind {
+        Kind::Interval => 256,
+        Kind::Tone => 256,
+        Kind::System => 32,
+        Kind::Retuning => 128,
+        Kind::Logic => 32,
+        Kind::Order => 512,
+    }
+}
+
+fn count_of(counts: Counts, kind: Kind) -> u16
+    ensures { λ r. ⌜ r ≡ soFar kind counts ⌝ }
+{
+    match kind {
+        Kind::Interval => counts.intervals,
+        Kind::Tone => counts.tones,
+        Kind::System => counts.systems,
+        Kind::Retuning => counts.retunings,
+        Kind::Logic => counts.logics,
+        Kind::Order => counts.orders,
+    }
+}
+
+// Whether there are as many of a kind as there may be.
+fn is_full(counts: Counts, kind: Kind) -> bool
+    ensures { λ r. ⌜ r ≡ leb (limit kind) (soFar kind counts) ⌝ }
+{
+    limit_of(kind) <= count_of(counts, kind)
+}
+
+fn count_one_more(mut counts: Counts, kind: Kind) -> Counts
+    requires { ⌜ soFar kind counts < limit kind ⌝ }
+    ensures { λ r. ⌜ r ≡ oneMore kind counts ⌝ }
+{
+    match kind {
+        Kind::Interval => counts.intervals += 1,
+        Kind::Tone => counts.tones += 1,
+        Kind::System => counts.systems += 1,
+        Kind::Retuning => counts.retunings += 1,
+        Kind::Logic => counts.logics += 1,
+        Kind::Order => counts.orders += 1,
+    }
+    counts
+}
+
+// One item more than allowed.
+fn refuse_item(x: Placed) -> Outcome
+    ensures { λ r. ⌜ r ≡ Outcome.Refuse itemTooMany (x .start) ⌝ }
+{
+    Outcome::Refuse {
+        number: status::ITEM_TOO_MANY,
+        place: x.start,
+    }
+}
+
+// The next term stands after `before` others.
+fn await_term(mut s: Progress, minus: bool, factor: u32, before: u32) -> Progress
+    ensures { λ r. ⌜ r ≡ nextTerm minus factor before s ⌝ }
+{
+    let term = NextTerm {
+        minus,
+        factor,
+        before,
+    };
+    s.term = term;
+    s
+}
+
+fn await_first_term(s: Progress) -> Progress
+    ensures { λ r. ⌜ r ≡ noTerm s ⌝ }
+{
+    await_term(s, false, 1, 0)
+}
+
+// A declaration begins with its name.
+fn declare(s: Progress, kind: Kind, x: Placed) -> Outcome
+    ensures { λ r. ⌜ r ≡ counted s kind (Item.Declared kind (x .start)) x ⌝ }
+{
+    let counts = s.counts;
+    if is_full(counts, kind) {
+        return refuse_item(x);
+    }
+    let mut next = await_first_term(s);
+    next.positions = 0;
+    next.counts = count_one_more(counts, kind);
+    Outcome::Give(next, Item::Declared(kind, x.start))
+}
+
+// An order begins with KEY.
+fn count_order(mut s: Progress, x: Placed) -> Outcome
+    ensures { λ r. ⌜ r ≡ orderCounted s x ⌝ }
+{
+    let counts = s.counts;
+    if is_full(counts, Kind::Order) {
+        return refuse_item(x);
+    }
+    s.counts = count_one_more(counts, Kind::Order);
+    Outcome::Go(s)
+}
+
+// A term begins with its sign.
+fn begin_term(s: Progress, minus: bool, x: Placed) -> Outcome
+    ensures { λ r. ⌜ r ≡ signed s minus x ⌝ }
+{
+    let before = s.term.before;
+    if MOST_TERMS <= before {
+        return refuse_item(x);
+    }
+    Outcome::Go(await_term(s, minus, 1, before))
+}
+
+// A term ends with its interval's name.
+fn end_term(s: Progress, factor: u32, x: Placed) -> Outcome
+    requires { ⌜ roomForTerm s ⌝ }
+    ensures { λ r. ⌜ r ≡ termed s factor x ⌝ }
+{
+    let next = await_term(s, false, 1, s.term.before + 1);
+    if s.term.minus {
+        return Outcome::Give(next, Item::Subtract(factor, x.start));
+    }
+    Outcome::Give(next, Item::Add(factor, x.start))
+}
+
+fn add_position(s: Progress, item: Item, x: Placed) -> Outcome
+    ensures { λ r. ⌜ r ≡ positioned s item x ⌝ }
+{
+    let positions = s.positions;
+    if MOST_POSITIONS <= positions {
+        return refuse_item(x);
+    }
+    let mut next = await_first_term(s);
+    next.positions = positions + 1;
+    Outcome::Give(next, item)
+}
+
+fn use_name(s: Progress, purpose: NameUse, x: Placed) -> Outcome
+    requires { ⌜ roomForTerm s ⌝ }
+    ensures { λ r. ⌜ r ≡ named s purpose x ⌝ }
+{
+    match purpose {
+        NameUse::Term => end_term(s, s.term.factor, x),
+        NameUse::Base => Outcome::Give(s, Item::Base(x.start)),
+        NameUse::Position => add_position(s, Item::TonePosition(x.start), x),
+        NameUse::Start => Outcome::Give(s, Item::Start(x.start)),
+        NameUse::Order => Outcome::Give(s, Item::Order(s.letter, x.start)),
+    }
+}
+
+fn use_mark(s: Progress, purpose: MarkUse, x: Placed) -> Outcome
+    ensures { λ r. ⌜ r ≡ marked s purpose x ⌝ }
+{
+    match purpose {
+        MarkUse::MutedPosition => add_position(s, Item::MutedPosition, x),
+        MarkUse::KeptPosition => add_position(s, Item::KeptPosition, x),
+        MarkUse::KeptAnchor => Outcome::Give(s, Item::AnchorKept),
+        MarkUse::KeptWidth => Outcome::Give(s, Item::WidthKept),
+        MarkUse::Period => Outcome::Give(s, Item::Period),
+        MarkUse::Onward => Outcome::Give(s, Item::Onward),
+    }
+}
+
+// The capital of the letter that the symbol is, or 0.
+fn read_letter(text: &[u8], x: Placed) -> u8
+    ensures { λ r. ⌜ r ≡ letterAt (now (text .entry)) x ⌝ }
+{
+    let Letter::Capital(letter) = names::letter_at(text, x.start as usize, x.end as usize) else {
+        return 0;
+    };
+    letter
+}
+
+fn use_letter(mut s: Progress, purpose: LetterUse, letter: u32) -> Outcome
+    ensures { λ r. ⌜ r ≡ lettered s purpose letter ⌝ }
+{
+    match purpose {
+        LetterUse::LogicLetter => Outcome::Give(s, Item::Letter(letter)),
+        LetterUse::OrderLetter => {
+            s.letter = letter;
+            Outcome::Go(s)
+        }
+    }
+}
+
+// An interval's first number is judged later.
+fn hold_number(mut s: Progress, x: Placed) -> Progress
+    ensures { λ r. ⌜ r ≡ heldFirst x s ⌝ }
+{
+    let first = FirstNumber {
+        start: x.start,
+        end: x.end,
+        value: 0,
+    };
+    s.first = first;
+    s
+}
+
+fn keep_first(mut s: Progress, value: u32) -> Progress
+    ensures { λ r. ⌜ r ≡ judgedFirst value s ⌝ }
+{
+    s.first.value = value;
+    s
+}
+
+fn range_of(purpose: NumberUse) -> NumberRange
+    ensures { λ r. ⌜ r ≡ allowed purpose ⌝ }
+{
+    match purpose {
+        NumberUse::RatioFirst => NumberRange::Decimal,
+        NumberUse::RatioSecond => NumberRange::Decimal,
+        NumberUse::Degree => NumberRange::Whole(1, MOST_DEGREE),
+        NumberUse::Radicand => NumberRange::Decimal,
+        NumberUse::FirstFactor => NumberRange::Whole(0, MOST_FACTOR),
+        NumberUse::Factor => NumberRange::Whole(0, MOST_FACTOR),
+        NumberUse::Frequency => NumberRange::Decimal,
+        NumberUse::AnchorKey => NumberRange::Whole(0, MOST_ANCHOR_KEY),
+        NumberUse::AnchorTo => NumberRange::Whole(0, MOST_IN_RETUNING),
+        NumberUse::AnchorUp => NumberRange::Whole(0, MOST_IN_RETUNING),
+        NumberUse::AnchorDown => NumberRange::Whole(0, MOST_IN_RETUNING),
+        NumberUse::WidthTo => NumberRange::Whole(0, MOST_IN_RETUNING),
+        NumberUse::WidthUp => NumberRange::Whole(0, MOST_IN_RETUNING),
+        NumberUse::WidthDown => NumberRange::Whole(0, MOST_IN_RETUNING),
+        NumberUse::WidthTimes => NumberRange::Whole(0, MOST_IN_RETUNING),
+        NumberUse::WidthOver => NumberRange::Whole(1, MOST_IN_RETUNING),
+    }
+}
+
+// The number from `start` to `end`, where its use allows it.
+fn judge(text: &[u8], purpose: NumberUse, start: usize, end: usize) -> Amount
+    ensures { λ r. ⌜ r ≡ judged purpose (slice start end (now (text .entry))) ⌝ }
+{
+    match range_of(purpose) {
+        NumberRange::Decimal => numerals::read_decimal(text, start, end),
+        NumberRange::Whole(low, high) => numerals::read_whole(text, start, end, low, high),
+    }
+}
+
+fn use_number(s: Progress, purpose: NumberUse, value: u32, x: Placed) -> Outcome
+    requires { ⌜ roomForTerm s ⌝ }
+    ensures { λ r. ⌜ r ≡ used s purpose value x ⌝ }
+{
+    match purpose {
+        NumberUse::RatioFirst => Outcome::Go(keep_first(s, value)),
+        NumberUse::RatioSecond => Outcome::Give(s, Item::Ratio(s.first.value, value)),
+        NumberUse::Degree => Outcome::Go(keep_first(s, value)),
+        NumberUse::Radicand => Outcome::Give(s, Item::Root(s.first.value, value)),
+        NumberUse::FirstFactor => end_term(s, value, x),
+        NumberUse::Factor => Outcome::Go(await_term(s, s.term.minus, value, s.term.before)),
+        NumberUse::Frequency => Outcome::Give(s, Item::Frequency(value)),
+        NumberUse::AnchorKey => Outcome::Give(s, Item::AnchorKey(value)),
+        NumberUse::AnchorTo => Outcome::Give(s, Item::AnchorTo(value)),
+        NumberUse::AnchorUp => Outcome::Give(s, Item::AnchorUp(value)),
+        NumberUse::AnchorDown => Outcome::Give(s, Item::AnchorDown(value)),
+        NumberUse::WidthTo => Outcome::Give(s, Item::WidthTo(value)),
+        NumberUse::WidthUp => Outcome::Give(s, Item::WidthUp(value)),
+        NumberUse::WidthDown => Outcome::Give(s, Item::WidthDown(value)),
+        NumberUse::WidthTimes => Outcome::Give(s, Item::WidthTimes(value)),
+        NumberUse::WidthOver => Outcome::Give(s, Item::WidthOver(value)),
+    }
+}
+
+// The number from `start` to `end` is used at the symbol `x`.
+fn read_number(
+    text: &[u8],
+    s: Progress,
+    purpose: NumberUse,
+    start: u32,
+    end: u32,
+    x: Placed,
+) -> Outcome
+    requires { ⌜ roomForTerm s ⌝ }
+    ensures { λ r. ⌜ r ≡ numbered (now (text .entry)) s purpose start end x ⌝ }
+{
+    let Amount::Value(value) = judge(text, purpose, start as usize, end as usize) else {
+        return Outcome::Refuse {
+            number: status::NUMBER_OUT_OF_RANGE,
+            place: start,
+        };
+    };
+    use_number(s, purpose, value, x)
+}
+
+// What an action does at the symbol `x`.
+pub fn act(text: &[u8], s: Progress, action: Action, x: Placed) -> Outcome
+    requires { ⌜ roomForTerm s ⌝ }
+    ensures { λ r. ⌜ r ≡ acted (now (text .entry)) s action x ⌝ }
+{
+    match action {
+        Action::Pass => Outcome::Go(s),
+        Action::Declare(kind) => declare(s, kind, x),
+        Action::Hold => Outcome::Go(hold_number(s, x)),
+        Action::Held(purpose) => read_number(text, s, purpose, s.first.start, s.first.end, x),
+        Action::Number(purpose) => read_number(text, s, purpose, x.start, x.end, x),
+        Action::Sign(minus) => begin_term(s, minus, x),
+        Action::Name(purpose) => use_name(s, purpose, x),
+        Action::Mark(purpose) => use_mark(s, purpose, x),
+        Action::Letter(purpose) => use_letter(s, purpose, read_letter(text, x) as u32),
+        Action::CountOrder => count_order(s, x),
+    }
+}

@@ -1,0 +1,168 @@
+// The syntax of a text: its symbols are read one by one into items, the parts of its declarations in the order of the text.
+mod actions;
+pub mod items;
+mod moves;
+pub mod reading;
+mod terminals;
+
+// What is counted: declarations by their kind, and orders.
+pub enum Kind {
+    Interval,
+    Tone,
+    System,
+    Retuning,
+    Logic,
+    Order,
+}
+
+// What a number is for.
+pub enum NumberUse {
+    RatioFirst,
+    RatioSecond,
+    Degree,
+    Radicand,
+    FirstFactor,
+    Factor,
+    Frequency,
+    AnchorKey,
+    AnchorTo,
+    AnchorUp,
+    AnchorDown,
+    WidthTo,
+    WidthUp,
+    WidthDown,
+    WidthTimes,
+    WidthOver,
+}
+
+// The numbers that a use allows: 0.0001 to 429496.7295 with at most four places, or whole ones from the first to the second.
+pub enum NumberRange {
+    Decimal,
+    Whole(u32, u32),
+}
+
+// What a name is used for.
+pub enum NameUse {
+    Term,
+    Base,
+    Position,
+    Start,
+    Order,
+}
+
+// What a mark stands for, where it says more than that the syntax goes on.
+pub enum MarkUse {
+    MutedPosition,
+    KeptPosition,
+    KeptAnchor,
+    KeptWidth,
+    Period,
+    Onward,
+}
+
+pub enum LetterUse {
+    LogicLetter,
+    OrderLetter,
+}
+
+// What is done at a symbol.
+pub enum Action {
+    Pass,
+    Declare(Kind),
+    // An interval's first number, which is judged once `:`, ROOT or a name follows.
+    Hold,
+    Held(NumberUse),
+    Number(NumberUse),
+    Sign(bool),
+    Name(NameUse),
+    Mark(MarkUse),
+    Letter(LetterUse),
+    CountOrder,
+}
+
+// A part of a declaration. A name is given by its place in the text.
+pub enum Item {
+    Declared(Kind, u32),
+    Ratio(u32, u32),
+    Root(u32, u32),
+    // A factor and an interval's name.
+    Add(u32, u32),
+    Subtract(u32, u32),
+    Frequency(u32),
+    // The tone that a tone starts from.
+    Base(u32),
+    AnchorKey(u32),
+    MutedPosition,
+    KeptPosition,
+    TonePosition(u32),
+    AnchorKept,
+    AnchorTo(u32),
+    AnchorUp(u32),
+    AnchorDown(u32),
+    WidthKept,
+    WidthTo(u32),
+    WidthUp(u32),
+    WidthDown(u32),
+    WidthTimes(u32),
+    WidthOver(u32),
+    // A period retuning: a sequence follows, or, with `@`, terms onto the old period.
+    Period,
+    Onward,
+    // The letter of a logic.
+    Letter(u32),
+    // What a logic's start calls.
+    Start(u32),
+    // A letter, and the name that it calls.
+    Order(u32, u32),
+}
+
+// How many declarations and orders there are so far.
+pub struct Counts {
+    pub intervals: u16,
+    pub tones: u16,
+    pub systems: u16,
+    pub retunings: u16,
+    pub logics: u16,
+    pub orders: u16,
+}
+
+// An interval's first number: its place, the place after it, and its value once it is judged.
+pub struct FirstNumber {
+    pub start: u32,
+    pub end: u32,
+    pub value: u32,
+}
+
+// The sign and the factor of the term under way, and how many terms stand before it.
+pub struct NextTerm {
+    pub minus: bool,
+    pub factor: u32,
+    pub before: u32,
+}
+
+// Where reading stands.
+pub struct Progress {
+    // The node of the diagrams.
+    pub node: u8,
+    pub first: FirstNumber,
+    pub term: NextTerm,
+    // How many positions the list under way has.
+    pub positions: u8,
+    // The letter of the order under way.
+    pub letter: u32,
+    pub counts: Counts,
+}
+
+// A symbol as the syntax has it: its terminal's number, its place and the place after it.
+pub struct Placed {
+    pub terminal: u8,
+    pub start: u32,
+    pub end: u32,
+}
+
+// What a symbol leads to: a refusal, or more progress, perhaps with an item.
+pub enum Outcome {
+    Refuse { number: u8, place: u32 },
+    Go(Progress),
+    Give(Progress, Item),
+}
