@@ -1,0 +1,91 @@
+-- Laws of both passes together.
+-- Assumes nothing.
+use Prim.Native.Nat.{ℕ, _≤_}
+use mathlib.Core.Path.{_≡_, refl, sym, _∙_, ap, subst}
+use mathlib.Core.List.{List, [], _∷_, map}
+use native.Mathlib.Nat.{le-refl}
+use native.Mathlib.Omega.{arith}
+use lib.ListN.{length, take}
+use lib.Seq.{take-length}
+use Rattle.status.specs.Status.{done, nameTwice}
+use Rattle.symbols.specs.declared.names.Found.{Found}
+use Rattle.symbols.specs.declared.names.Found.the-variants.{Nothing, Row}
+use Rattle.grammar.specs.declared.Item.{Item}
+use Rattle.grammar.specs.Items.{holding}
+use Rattle.names.specs.declared.Naming.{Naming}
+use Rattle.names.specs.Names.{Named, declared, twiceFrom, resolved, unlessMissing, unlessTwice, Meant, meanings}
+use Rattle.names.specs.Inner.{namedOf, packed, distinct, distinctFrom, begunWith, rewritten, unlessTwiceRewritten, leftItems, numberIf, placeIf, Declarable, mostDeclarations, FirstPass, SecondPass, BothPasses}
+use Rattle.names.proofs.FirstPass.{kept-names, distinct-few, distinct-all}
+
+module _ (text : List ℕ) (is : List Item) where
+  -- a name stands twice in a kind
+  module _ {p : ℕ} (t : twiceFrom text [] (declared is) ≡ Row p) where
+    twice-number : meanings text is .number ≡ nameTwice
+    unfolding meanings
+    twice-number = rw t
+
+    twice-place : meanings text is .place ≡ p
+    unfolding meanings
+    twice-place = rw t
+
+    twice-left : leftItems text is ≡ is
+    twice-left = rw t
+
+  -- none does
+  module _ (t : twiceFrom text [] (declared is) ≡ Nothing) where
+    once : meanings text is ≡ unlessMissing (resolved text (declared is) is)
+    unfolding meanings
+    once = rw t
+
+    once-left : leftItems text is ≡ rewritten text (declared is) is
+    once-left = rw t
+
+  -- the first pass tells which
+  told : (n : ℕ) → n ≡ numberIf nameTwice (twiceFrom text [] (declared is)) → n ≡ 0 → twiceFrom text [] (declared is) ≡ Nothing
+  told n e z = go (twiceFrom text [] (declared is)) (sym e ∙ z)
+    where
+      go : (f : Found) → numberIf nameTwice f ≡ 0 → f ≡ Nothing
+      go Nothing q = refl
+      go (Row p) q = absurd (omega arith)
+
+  pub first-few : {names starts : List ℕ} {r : Naming} {names′ starts′ : List ℕ} → FirstPass text is names starts r names′ starts′ → Declarable is
+      → r .declarations ≤ mostDeclarations
+  first-few first h = omega (arith, first .count, distinct-few text [] (declared is), h .few)
+
+  module _ (items names starts : List ℕ) where
+    pub both-stop : items ≡ holding is items → {r : Naming} {names′ starts′ : List ℕ} → FirstPass text is names starts r names′ starts′ → (r .number ≡ 0 → ⊥)
+        → BothPasses text is items names starts r items names′ starts′
+    both-stop held {r} {names′} {starts′} first n = go _ refl
+      where
+        go : (f : Found) → twiceFrom text [] (declared is) ≡ f
+            → BothPasses text is items names starts r items names′ starts′
+        go Nothing t = absurd (n (first .number ∙ ap (numberIf nameTwice) t))
+        go (Row p) t =
+            record {
+              number = first .number ∙ ap (numberIf nameTwice) t ∙ sym (twice-number t);
+              place = first .place ∙ ap placeIf t ∙ sym (twice-place t);
+              count = first .count;
+              left = held ∙ ap (λ xs. holding xs items) (sym (twice-left t));
+              kept = first .kept;
+              begun = first .begun;
+            }
+
+    pub both-done : {r : Naming} {names′ starts′ : List ℕ} → FirstPass text is names starts r names′ starts′ → r .number ≡ 0
+        → {q : Naming} {items′ : List ℕ} → SecondPass text (namedOf (take (r .declarations) names′)) (r .declarations) is items q items′
+        → BothPasses text is items names starts q items′ names′ starts′
+    both-done {r} {names′} first z {q} {items′} second =
+        let ds = declared is in
+        let t = told (r .number) (first .number) z in
+        let n : r .declarations ≡ length ds = first .count ∙ distinct-all text [] ds t in
+        let k : names′ ≡ begunWith (r .declarations) (map packed ds) names = first .kept ∙ ap (λ m. begunWith m (map packed ds) names) (sym (first .count)) in
+        let d : namedOf (take (r .declarations) names′) ≡ ds =
+        kept-names ds names (r .declarations) (omega arith) k ∙ ap (λ m. take m ds) n ∙ take-length ds in
+        let s : SecondPass text ds (r .declarations) is items q items′ = subst (λ es. SecondPass text es (r .declarations) is items q items′) d second in
+        record {
+          number = s .number ∙ ap (λ m. m .number) (sym (once t));
+          place = s .place ∙ ap (λ m. m .place) (sym (once t));
+          count = s .count ∙ first .count;
+          left = s .left ∙ ap (λ xs. holding xs items) (sym (once-left t));
+          kept = first .kept;
+          begun = first .begun;
+        }

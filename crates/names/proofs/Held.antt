@@ -1,0 +1,43 @@
+-- Laws of the items that a slice holds.
+-- Assumes nothing.
+use Prim.Native.Nat.{ℕ, zero, suc, _+_, _*_, _≤_, _<_}
+use mathlib.Core.Path.{_≡_, refl, sym, _∙_, ap}
+use mathlib.Core.List.{List, [], _∷_, _++_}
+use native.Mathlib.Omega.{arith}
+use lib.ListN.{length, getD, drop, length-append, length-drop}
+use lib.Seq.{drop-append-seam}
+use Rattle.grammar.specs.declared.Item.{Item}
+use Rattle.grammar.specs.Reading.{mostBytes}
+use Rattle.grammar.specs.Items.{rows, rowSize, holding, itemSlots, itemAt}
+use Rattle.grammar.proofs.Rows.{item-back, item-in, length-rows, length-holding}
+use Rattle.names.specs.Inner.{itemsIn, Held}
+
+pub length-items-in : (n : ℕ) (l : List ℕ) → length (itemsIn n l) ≡ n
+unfolding itemsIn
+length-items-in zero l = refl
+length-items-in (suc n) l = ap suc (length-items-in n (drop rowSize l))
+
+-- rows of items hold the items
+pub items-in-rows : (is : List Item) (rest : List ℕ) → itemsIn (length is) (rows is ++ rest) ≡ is
+unfolding itemsIn itemAt rows
+items-in-rows [] rest = refl
+items-in-rows (i ∷ is) rest = rw (item-back i, items-in-rows is rest)
+
+-- the items that a slice holds, one by one
+pub held-item : (is : List Item) (l : List ℕ) (i : ℕ) (none : Item) → Held is l → i < length is → itemAt l i ≡ getD is i none
+held-item is l i none h k = ap (λ t. itemAt t i) (h .rows) ∙ item-in is l i none k
+
+-- the slice has room for no more items than the longest text has bytes
+pub held-few : (is : List Item) (l : List ℕ) → Held is l → length is ≤ mostBytes
+held-few is l h = omega (arith, length-rows is, simp (length-append, length-drop) at (ap length (h .rows)), h .size)
+
+-- the items that were put into a slice are those that it holds
+pub held-after : (is : List Item) (l : List ℕ) → rowSize * length is ≤ length l → length l ≡ itemSlots → Held is (holding is l)
+held-after is l h e =
+    record {
+      rows = ap (λ t. rows is ++ t) (sym (drop-append-seam (rows is) (drop (length (rows is)) l)));
+      size = length-holding is l h ∙ e;
+    }
+
+pub items-after : (is : List Item) (l : List ℕ) {n : ℕ} → n ≡ length is → itemsIn n (holding is l) ≡ is
+items-after is l e = rw e (items-in-rows is (drop (length (rows is)) l))

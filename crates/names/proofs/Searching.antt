@@ -1,0 +1,135 @@
+-- Laws of the search for a declaration, and of the kinds that a use may mean.
+-- Assumes nothing.
+use Prim.Native.Nat.{ℕ, suc, _+_, _≤_, _<_}
+use mathlib.Core.Path.{_≡_, refl, sym, _∙_, ap}
+use mathlib.Core.List.{List, [], _∷_, _++_, map, List·Memᴰ, List·Memᴰ·head, List·Memᴰ·tail}
+use mathlib.Core.Bool.{Bool, true, false, _&&_, and-eq-true-iff}
+use native.Mathlib.Numerals.{add-one}
+use native.Mathlib.Omega.{arith}
+use borrow.Author.Tests.{eqb-true}
+use lib.Dec.{eqb}
+use lib.ListN.{length, getD}
+use lib.Seq.{slice}
+use Rattle.symbols.specs.Bytes.{same}
+use Rattle.symbols.specs.Names.{nameAt}
+use Rattle.symbols.specs.declared.names.Found.{Found}
+use Rattle.symbols.specs.declared.names.Found.the-variants.{Nothing, Row}
+use Rattle.symbols.proofs.Parts.{part-empty, part-out, part-cons}
+use Rattle.grammar.specs.declared.Kind.{Kind}
+use Rattle.grammar.specs.declared.Kind.the-variants.{Interval, Tone, System, Retuning, Logic, Order as AnOrder}
+use Rattle.grammar.specs.Moves.{kinds, kindNumber}
+use Rattle.names.specs.Names.{Named, numberFrom, numberOf, calledIn}
+use Rattle.names.specs.Inner.{unpacked, namedOf}
+
+-- kinds are told apart by their numbers
+pub kind-back : (k : Kind) → getD kinds (kindNumber k) AnOrder ≡ k
+kind-back Interval = refl
+kind-back Tone = refl
+kind-back System = refl
+kind-back Retuning = refl
+kind-back Logic = refl
+kind-back AnOrder = refl
+
+kind-told : (j k : Kind) → kindNumber j ≡ kindNumber k → j ≡ k
+kind-told j k e = sym (kind-back j) ∙ ap (λ n. getD kinds n AnOrder) e ∙ kind-back k
+
+pub nothing-no-row : {n : ℕ} → Nothing ≡ Row n → ⊥
+nothing-no-row e = let z : _≡_ {A = ℕ} 0 1 = cc in omega arith
+
+-- the kept declarations, up to the n-th
+module _ (text kept name : List ℕ) (k : Kind) (row n : ℕ) where
+  pub search-end : n ≤ row → Nothing ≡ numberFrom row text (namedOf (slice row n kept)) k name
+  unfolding numberFrom
+  search-end h = rw (part-empty kept row n h)
+
+  pub search-out : length kept ≤ row → Nothing ≡ numberFrom row text (namedOf (slice row n kept)) k name
+  unfolding numberFrom
+  search-out h = rw (part-out kept row n h)
+
+  module _ (h : row < n) (l : row < length kept) {b : Bool}
+      (e : b ≡ (eqb (kindNumber (unpacked (getD kept row 0) .kind)) (kindNumber k) && same (nameAt text (unpacked (getD kept row 0) .place)) name)) where
+    pub search-row : b ≡ true → Row row ≡ numberFrom row text (namedOf (slice row n kept)) k name
+    unfolding numberFrom
+    search-row q = rw (part-cons kept row n h l, numberFrom, ← e, q)
+
+    pub search-on : b ≡ false
+        → numberFrom (row + 1) text (namedOf (slice (row + 1) n kept)) k name ≡ numberFrom row text (namedOf (slice row n kept)) k name
+    unfolding numberFrom
+    search-on q = rw (part-cons kept row n h l, numberFrom, ← e, q, add-one)
+
+-- a name that is looked for in one kind after another
+module _ (text : List ℕ) (ds : List Named) (name : List ℕ) where
+  pub called-one : (k : Kind) → numberOf text ds k name ≡ calledIn text ds (k ∷ []) name
+  unfolding calledIn
+  called-one k = go (numberOf text ds k name)
+    where
+      go : (f : Found) → f ≡ elim f [ Row n ↦ Row n | Nothing ↦ Nothing ]
+      go (Row n) = refl
+      go Nothing = refl
+
+  pub called-here : (ks js : List Kind) {n : ℕ} → calledIn text ds ks name ≡ Row n → calledIn text ds (ks ++ js) name ≡ Row n
+  unfolding calledIn
+  called-here [] js e = absurd (nothing-no-row e)
+  called-here (k ∷ ks) js {n} e = go (called-here ks js) (numberOf text ds k name) e
+    where
+      go : (calledIn text ds ks name ≡ Row n → calledIn text ds (ks ++ js) name ≡ Row n) → (f : Found)
+          → elim f [ Row m ↦ Row m | Nothing ↦ calledIn text ds ks name ] ≡ Row n
+          → elim f [ Row m ↦ Row m | Nothing ↦ calledIn text ds (ks ++ js) name ] ≡ Row n
+      go later (Row m) q = q
+      go later Nothing q = later q
+
+  pub called-on : (ks js : List Kind) → calledIn text ds ks name ≡ Nothing → calledIn text ds (ks ++ js) name ≡ calledIn text ds js name
+  unfolding calledIn
+  called-on [] js e = refl
+  called-on (k ∷ ks) js e = go (called-on ks js) (numberOf text ds k name) e
+    where
+      go : (calledIn text ds ks name ≡ Nothing → calledIn text ds (ks ++ js) name ≡ calledIn text ds js name) → (f : Found)
+          → elim f [ Row m ↦ Row m | Nothing ↦ calledIn text ds ks name ] ≡ Nothing
+          → elim f [ Row m ↦ Row m | Nothing ↦ calledIn text ds (ks ++ js) name ] ≡ calledIn text ds js name
+      go later (Row m) q = absurd (nothing-no-row (sym q))
+      go later Nothing q = later q
+
+-- ---- what is found
+
+-- the number r, counted from n, is that of a declaration of the kind k
+record Numbered (n : ℕ) (ds : List Named) (k : Kind) (r : ℕ) : Type 0 where
+  index : ℕ
+  counted : r ≡ n + index
+  below : index < length ds
+  kind : (d : Named) → getD ds index d .kind ≡ k
+
+number-found : (n : ℕ) (text : List ℕ) (ds : List Named) (k : Kind) (name : List ℕ) {r : ℕ} → numberFrom n text ds k name ≡ Row r → Numbered n ds k r
+unfolding numberFrom
+number-found n text [] k name e = absurd (nothing-no-row e)
+number-found n text (d ∷ ds) k name {r} e = go _ refl (number-found (suc n) text ds k name) e
+  where
+    go : (b : Bool) → (eqb (kindNumber (d .kind)) (kindNumber k) && same (nameAt text (d .place)) name) ≡ b → (numberFrom (suc n) text ds k name ≡ Row r → Numbered (suc n) ds k r)
+        → elim b [ true ↦ Row n | false ↦ numberFrom (suc n) text ds k name ] ≡ Row r → Numbered n (d ∷ ds) k r
+    go true t later q =
+        let h = eqb-true _ _ (and-eq-true-iff _ _ .0 t .0) in
+        let z : n ≡ r = cc in
+        record { index = 0; counted = omega arith; below = omega arith; kind = λ _. kind-told (d .kind) k h }
+    go false t later q =
+        let w = later q in
+        let c = w .counted in
+        let b = w .below in
+        record { index = suc (w .index); counted = omega arith; below = omega arith; kind = w .kind }
+
+-- the n-th declaration is of one of the kinds ks
+pub record OfKinds (ds : List Named) (ks : List Kind) (n : ℕ) : Type 0 where
+  pub below : n < length ds
+  pub kind : (d : Named) → List·Memᴰ (getD ds n d .kind) ks
+
+pub called-found : (text : List ℕ) (ds : List Named) (ks : List Kind) (name : List ℕ) {r : ℕ} → calledIn text ds ks name ≡ Row r → OfKinds ds ks r
+unfolding calledIn
+called-found text ds [] name e = absurd (nothing-no-row e)
+called-found text ds (k ∷ ks) name {r} e = go _ refl (called-found text ds ks name) e
+  where
+    go : (f : Found) → numberOf text ds k name ≡ f → (calledIn text ds ks name ≡ Row r → OfKinds ds ks r)
+        → elim f [ Row n ↦ Row n | Nothing ↦ calledIn text ds ks name ] ≡ Row r → OfKinds ds (k ∷ ks) r
+    go (Row n) t later q =
+        let w = number-found 0 text ds k name (t ∙ q) in
+        let i : r ≡ w .index = let c = w .counted in omega arith in
+        let b = w .below in
+        record { below = omega arith; kind = λ d. List·Memᴰ·head (ap (λ j. getD ds j d .kind) i ∙ w .kind d) }
+    go Nothing t later q = let w = later q in record { below = w .below; kind = λ d. List·Memᴰ·tail (w .kind d) }

@@ -1,0 +1,184 @@
+-- What the passes over the items keep, and what they leave: for the contracts of functions.
+use mathlib.Core.Path.{_≡_}
+use mathlib.Core.List.{List, [], _∷_, _++_, map}
+use Prim.Native.Nat.{ℕ, zero, suc, _+_, _*_, _/_, _%_, _≤_}
+use lib.ListN.{length, getD, take, drop}
+use Rattle.symbols.specs.Names.{nameAt}
+use Rattle.symbols.specs.declared.names.Found.{Found}
+use Rattle.symbols.specs.declared.names.Found.the-variants.{Nothing, Row}
+use Rattle.grammar.specs.declared.Kind.{Kind}
+use Rattle.grammar.specs.declared.Kind.the-variants.{Interval, Tone, System, Retuning, Logic, Order as AnOrder}
+use Rattle.grammar.specs.declared.Item.{Item}
+use Rattle.grammar.specs.Moves.{kinds, kindNumber}
+use Rattle.grammar.specs.Reading.{limit, mostBytes}
+use Rattle.grammar.specs.Items.{itemAt, rowSize, holding, itemSlots}
+use Rattle.status.specs.Status.{done, nameTwice}
+use Rattle.names.specs.declared.Naming.{Naming}
+use Rattle.names.specs.declared.Role.{Role}
+use Rattle.names.specs.declared.Role.the-variants as role
+use Rattle.names.specs.declared.Scope.{Scope}
+use Rattle.names.specs.declared.Scope.the-variants.{Intervals, Tones, Starts, Orders}
+use Rattle.names.specs.Parts.{Part, declares, gives, uses, says, part, Use, add, subtract, base, position, start, order}
+use Rattle.names.specs.Names.{Named, declared, numberOf, calledIn, meant, numbered, twiceFrom, resolved, unlessMissing, meanings}
+
+-- ---- what an item does with a name
+
+abbrev pub scope : Use → Scope
+scope add = Intervals
+scope subtract = Intervals
+scope base = Tones
+scope position = Tones
+scope start = Starts
+scope order = Orders
+
+abbrev pub roleOf : Part → Role
+roleOf (declares k p) = role.Declares k p
+roleOf (gives g a b) = role.Nothing
+roleOf (uses u a p) = role.Uses (scope u) p
+roleOf (says m) = role.Nothing
+
+-- the kinds that are meant, in their order
+abbrev pub kindsIn : Scope → List Kind
+kindsIn Intervals = meant add
+kindsIn Tones = meant base
+kindsIn Starts = meant start
+kindsIn Orders = meant order
+
+-- ---- a declared name as one number: its place, with room for its kind's number below it
+
+abbrev pub kindRoom : ℕ
+kindRoom = 8
+
+abbrev pub packed : Named → ℕ
+packed d = d .place * kindRoom + kindNumber (d .kind)
+
+-- and back (`named-packed` of proofs/FirstPass.antt)
+abbrev pub unpacked : ℕ → Named
+unpacked x = record { kind = getD kinds (x % kindRoom) AnOrder; place = x / kindRoom }
+
+abbrev pub namedOf : List ℕ → List Named
+namedOf xs = map unpacked xs
+
+-- ---- what the first pass leaves
+
+-- the indexes of the items that declare a name, counted from i
+abbrev pub beginningBy : ℕ → Part → List ℕ → List ℕ
+beginningBy i (declares k p) rest = i ∷ rest
+beginningBy i (gives g a b) rest = rest
+beginningBy i (uses u a p) rest = rest
+beginningBy i (says m) rest = rest
+
+unfoldable pub beginningsFrom : ℕ → List Item → List ℕ
+beginningsFrom i [] = []
+beginningsFrom i (x ∷ xs) = beginningBy i (part x) (beginningsFrom (suc i) xs)
+
+abbrev pub beginnings : List Item → List ℕ
+beginnings is = beginningsFrom 0 is
+
+-- how many of ds stand before the first whose name stood before in its kind, `before` being those in front
+unfoldable pub distinctFrom : List ℕ → List Named → List Named → ℕ
+distinctFrom text before [] = 0
+distinctFrom text before (d ∷ ds) =
+    elim (numberOf text before (d .kind) (nameAt text (d .place))) [
+      | Row n ↦ 0
+      | Nothing ↦ suc (distinctFrom text (before ++ d ∷ []) ds)
+    ]
+
+-- how many declarations are kept: all, where no name stands twice (`accepted` of proofs/Meanings.antt)
+abbrev pub distinct : List ℕ → List Item → ℕ
+distinct text is = distinctFrom text [] (declared is)
+
+-- the first n of a list, and then what stood there before
+abbrev pub begunWith : {A : Type 0} → ℕ → List A → List A → List A
+begunWith n xs before = take n xs ++ drop n before
+
+-- ---- what the second pass leaves
+
+-- the items, with the names that are used in front of the first that is not declared replaced by numbers
+abbrev pub ifCalled : Use → ℕ → Found → Item → List Item → List Item → List Item
+ifCalled u a (Row n) i is rest = numbered u a n ∷ rest
+ifCalled u a Nothing i is rest = i ∷ is
+
+abbrev pub rewrittenBy : List ℕ → List Named → Part → Item → List Item → List Item → List Item
+rewrittenBy text ds (declares k p) i is rest = i ∷ rest
+rewrittenBy text ds (gives g a b) i is rest = i ∷ rest
+rewrittenBy text ds (uses u a p) i is rest = ifCalled u a (calledIn text ds (meant u) (nameAt text p)) i is rest
+rewrittenBy text ds (says m) i is rest = i ∷ rest
+
+unfoldable pub rewritten : List ℕ → List Named → List Item → List Item
+rewritten text ds [] = []
+rewritten text ds (i ∷ is) = rewrittenBy text ds (part i) i is (rewritten text ds is)
+
+-- the items after both passes: as they were where a name is used twice in a kind, those of `meanings` where the number is 0 (`accepted`)
+abbrev pub unlessTwiceRewritten : Found → List Item → List Item → List Item
+unlessTwiceRewritten Nothing is new = new
+unlessTwiceRewritten (Row p) is new = is
+
+abbrev pub leftItems : List ℕ → List Item → List Item
+leftItems text is = unlessTwiceRewritten (twiceFrom text [] (declared is)) is (rewritten text (declared is) is)
+
+-- ---- what the passes are lent
+
+-- the first n items of a slice
+unfoldable pub itemsIn : ℕ → List ℕ → List Item
+itemsIn zero l = []
+itemsIn (suc n) l = itemAt l 0 ∷ itemsIn n (drop rowSize l)
+
+-- a slice for the items of the longest text begins with the rows of these items
+pub record Held (is : List Item) (items : List ℕ) : Type 0 where
+  pub rows : items ≡ holding is items
+  pub size : length items ≡ itemSlots
+
+-- "intervals, tones: 256 each; tone systems, logics: 32 each; retunings: 128"
+abbrev pub mostDeclarations : ℕ
+mostDeclarations = limit Interval + limit Tone + limit System + limit Retuning + limit Logic
+
+-- each name stands at a place of a text
+abbrev pub InText : List Named → Type 0
+InText [] = Unit
+InText (d ∷ ds) = (d .place ≤ mostBytes) × InText ds
+
+-- the declared names are no more than a text may have, and stand in it
+pub record Declarable (is : List Item) : Type 0 where
+  pub few : length (declared is) ≤ mostDeclarations
+  pub in-text : InText (declared is)
+
+-- room for a number for each declaration
+pub record Room (kept begun : List ℕ) : Type 0 where
+  pub names : mostDeclarations ≤ length kept
+  pub starts : mostDeclarations ≤ length begun
+
+-- ---- what each pass does
+
+-- the number and the place of a refusal, or 0 and 0
+abbrev pub numberIf : ℕ → Found → ℕ
+numberIf number Nothing = done
+numberIf number (Row p) = number
+
+abbrev pub placeIf : Found → ℕ
+placeIf Nothing = 0
+placeIf (Row p) = p
+
+-- the first pass: names used twice in a kind; `names` and `starts` before and after it
+pub record FirstPass (text : List ℕ) (is : List Item) (names starts : List ℕ) (r : Naming) (names′ starts′ : List ℕ) : Type 0 where
+  pub number : r .number ≡ numberIf nameTwice (twiceFrom text [] (declared is))
+  pub place : r .place ≡ placeIf (twiceFrom text [] (declared is))
+  pub count : r .declarations ≡ distinct text is
+  pub kept : names′ ≡ begunWith (distinct text is) (map packed (declared is)) names
+  pub begun : starts′ ≡ begunWith (distinct text is) (beginnings is) starts
+
+-- the second pass: names that are not among n declarations; `items` before and after it
+pub record SecondPass (text : List ℕ) (ds : List Named) (n : ℕ) (is : List Item) (items : List ℕ) (r : Naming) (items′ : List ℕ) : Type 0 where
+  pub number : r .number ≡ unlessMissing (resolved text ds is) .number
+  pub place : r .place ≡ unlessMissing (resolved text ds is) .place
+  pub count : r .declarations ≡ n
+  pub left : items′ ≡ holding (rewritten text ds is) items
+
+-- both passes
+pub record BothPasses (text : List ℕ) (is : List Item) (items names starts : List ℕ) (r : Naming) (items′ names′ starts′ : List ℕ) : Type 0 where
+  pub number : r .number ≡ meanings text is .number
+  pub place : r .place ≡ meanings text is .place
+  pub count : r .declarations ≡ distinct text is
+  pub left : items′ ≡ holding (leftItems text is) items
+  pub kept : names′ ≡ begunWith (distinct text is) (map packed (declared is)) names
+  pub begun : starts′ ≡ begunWith (distinct text is) (beginnings is) starts

@@ -1,0 +1,124 @@
+-- Declared names and their uses: document 01, "Names may be used before they are declared. A name may serve once for each kind",
+-- "A called name means the retuning of that name, else the tone system, else (orders only) the logic", and the numbers 5 and 6.
+use mathlib.Core.Bool.{Bool, true, false, _&&_}
+use mathlib.Core.List.{List, [], _∷_, _++_}
+use Prim.Native.Nat.{ℕ, suc}
+use lib.Dec.{eqb}
+use Rattle.status.specs.Status.{done, nameTwice, nameNotDeclared}
+use Rattle.symbols.specs.Bytes.{same}
+use Rattle.symbols.specs.Names.{nameAt}
+use Rattle.symbols.specs.declared.names.Found.{Found}
+use Rattle.symbols.specs.declared.names.Found.the-variants.{Nothing, Row}
+use Rattle.grammar.specs.declared.Kind.{Kind}
+use Rattle.grammar.specs.declared.Kind.the-variants.{Interval, Tone, System, Retuning, Logic}
+use Rattle.grammar.specs.declared.Item.{Item}
+use Rattle.grammar.specs.declared.Item.the-variants as item
+use Rattle.grammar.specs.Moves.{kindNumber}
+use Rattle.names.specs.Parts.{Part, declares, gives, uses, says, part, Use, add, subtract, base, position, start, order}
+
+-- a declared name: its kind and its place
+pub record Named : Type 0 where
+  pub kind : Kind
+  pub place : ℕ
+
+-- the declared names in the order of the text; a declaration's number is its place in this list
+abbrev pub namedBy : Part → List Named → List Named
+namedBy (declares k p) rest = record { kind = k; place = p } ∷ rest
+namedBy (gives g a b) rest = rest
+namedBy (uses u a p) rest = rest
+namedBy (says m) rest = rest
+
+unfoldable pub declared : List Item → List Named
+declared [] = []
+declared (i ∷ is) = namedBy (part i) (declared is)
+
+-- the number of the declaration of a kind and a name, counted from n
+unfoldable pub numberFrom : ℕ → List ℕ → List Named → Kind → List ℕ → Found
+numberFrom n text [] k name = Nothing
+numberFrom n text (d ∷ ds) k name =
+    elim (eqb (kindNumber (d .kind)) (kindNumber k) && same (nameAt text (d .place)) name) [
+      | true ↦ Row n
+      | false ↦ numberFrom (suc n) text ds k name
+    ]
+
+abbrev pub numberOf : List ℕ → List Named → Kind → List ℕ → Found
+numberOf text ds k name = numberFrom 0 text ds k name
+
+-- ---- 5: "name used twice in a kind; the second"
+
+-- the first of ds whose name stood before in its kind, `before` being those in front: its place
+unfoldable pub twiceFrom : List ℕ → List Named → List Named → Found
+twiceFrom text before [] = Nothing
+twiceFrom text before (d ∷ ds) =
+    elim (numberOf text before (d .kind) (nameAt text (d .place))) [
+      | Row n ↦ Row (d .place)
+      | Nothing ↦ twiceFrom text (before ++ d ∷ []) ds
+    ]
+
+-- ---- 6: "name not declared; the use"
+
+-- a name is looked for in one kind, else in the next
+unfoldable pub calledIn : List ℕ → List Named → List Kind → List ℕ → Found
+calledIn text ds [] name = Nothing
+calledIn text ds (k ∷ ks) name = elim (numberOf text ds k name) [ Row n ↦ Row n | Nothing ↦ calledIn text ds ks name ]
+
+-- the kinds that a use may mean: terms use intervals, tones and positions use tones,
+-- "start is a tone system or retuning name", and an order calls a logic as well
+abbrev pub meant : Use → List Kind
+meant add = Interval ∷ []
+meant subtract = Interval ∷ []
+meant base = Tone ∷ []
+meant position = Tone ∷ []
+meant start = Retuning ∷ System ∷ []
+meant order = Retuning ∷ System ∷ Logic ∷ []
+
+-- an item whose name is a number of a declaration
+abbrev pub numbered : Use → ℕ → ℕ → Item
+numbered add f n = item.Add f n
+numbered subtract f n = item.Subtract f n
+numbered base f n = item.Base n
+numbered position f n = item.TonePosition n
+numbered start f n = item.Start n
+numbered order c n = item.Order c n
+
+-- what becomes of the items: each name that is used replaced by the number of its declaration, or the place of the first that is not declared
+pub data Resolved : Type 0 where
+  all : List Item → Resolved
+  missing : ℕ → Resolved
+
+abbrev pub andThen : Item → Resolved → Resolved
+andThen i (all is) = all (i ∷ is)
+andThen i (missing p) = missing p
+
+abbrev pub ifFound : Use → ℕ → ℕ → Found → Resolved → Resolved
+ifFound u a p (Row n) rest = andThen (numbered u a n) rest
+ifFound u a p Nothing rest = missing p
+
+abbrev pub resolvedBy : List ℕ → List Named → Item → Part → Resolved → Resolved
+resolvedBy text ds i (declares k p) rest = andThen i rest
+resolvedBy text ds i (gives g a b) rest = andThen i rest
+resolvedBy text ds i (uses u a p) rest = ifFound u a p (calledIn text ds (meant u) (nameAt text p)) rest
+resolvedBy text ds i (says m) rest = andThen i rest
+
+unfoldable pub resolved : List ℕ → List Named → List Item → Resolved
+resolved text ds [] = all []
+resolved text ds (i ∷ is) = resolvedBy text ds i (part i) (resolved text ds is)
+
+-- ---- "Then the earliest 5, the earliest 6"
+
+-- the number and the place, and the items where the number is 0
+pub record Meant : Type 0 where
+  pub items : List Item
+  pub number : ℕ
+  pub place : ℕ
+
+abbrev pub unlessMissing : Resolved → Meant
+unlessMissing (all is) = record { items = is; number = done; place = 0 }
+unlessMissing (missing p) = record { items = []; number = nameNotDeclared; place = p }
+
+abbrev pub unlessTwice : Found → Meant → Meant
+unlessTwice Nothing m = m
+unlessTwice (Row p) m = record { items = []; number = nameTwice; place = p }
+
+unfoldable pub meanings : List ℕ → List Item → Meant
+meanings text is = unlessTwice (twiceFrom text [] (declared is)) (unlessMissing (resolved text (declared is) is))

@@ -1,0 +1,54 @@
+-- The items of a text by what they are: a declared name, a number given, a name used, or a mark's say.
+use Prim.Native.Nat.{ℕ}
+use Rattle.grammar.specs.declared.Kind.{Kind}
+use Rattle.grammar.specs.declared.Item.{Item}
+use Rattle.grammar.specs.declared.Item.the-variants as item
+
+-- the numbers that a declaration may give
+pub data Given : Type 0 where
+  ratio root frequency anchorKey : Given
+  anchorTo anchorUp anchorDown : Given
+  widthTo widthUp widthDown widthTimes widthOver : Given
+  letter : Given
+
+-- the uses of a name
+pub data Use : Type 0 where
+  add subtract base position start order : Use
+
+-- what is said by a mark alone
+pub data Said : Type 0 where
+  muted kept anchorKept widthKept period onward : Said
+
+pub data Part : Type 0 where
+  declares : Kind → ℕ → Part
+  gives : Given → ℕ → ℕ → Part
+  uses : Use → ℕ → ℕ → Part
+  says : Said → Part
+
+abbrev pub part : Item → Part
+part (item.Declared k p) = declares k p
+part (item.Ratio p q) = gives ratio p q
+part (item.Root a b) = gives root a b
+part (item.Frequency f) = gives frequency f 0
+part (item.AnchorKey n) = gives anchorKey n 0
+part (item.AnchorTo n) = gives anchorTo n 0
+part (item.AnchorUp n) = gives anchorUp n 0
+part (item.AnchorDown n) = gives anchorDown n 0
+part (item.WidthTo n) = gives widthTo n 0
+part (item.WidthUp n) = gives widthUp n 0
+part (item.WidthDown n) = gives widthDown n 0
+part (item.WidthTimes n) = gives widthTimes n 0
+part (item.WidthOver n) = gives widthOver n 0
+part (item.Letter c) = gives letter c 0
+part (item.Add f p) = uses add f p
+part (item.Subtract f p) = uses subtract f p
+part (item.Base p) = uses base 0 p
+part (item.TonePosition p) = uses position 0 p
+part (item.Start p) = uses start 0 p
+part (item.Order c p) = uses order c p
+part item.MutedPosition = says muted
+part item.KeptPosition = says kept
+part item.AnchorKept = says anchorKept
+part item.WidthKept = says widthKept
+part item.Period = says period
+part item.Onward = says onward

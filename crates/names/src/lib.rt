@@ -1,0 +1,242 @@
+// Names: each use of a name is replaced by the number of its declaration.
+use grammar::Item;
+use grammar::Kind;
+use grammar::items;
+use status::DONE;
+use status::NAME_NOT_DECLARED;
+use status::NAME_TWICE;
+use symbols::names;
+use symbols::names::Found;
+ghost use mathlib.Core.Path.{_≡_};
+ghost use mathlib.Core.Bool.{_&&_};
+ghost use mathlib.Core.List.{List};
+ghost use Prim.Native.Nat.{_≤_};
+ghost use lib.ListN.{take};
+ghost use lib.Dec.{eqb};
+ghost use Rattle.symbols.specs.Bytes.{same};
+ghost use Rattle.symbols.specs.Names.{nameAt};
+ghost use Rattle.grammar.specs.Moves.{kindNumber};
+ghost use Rattle.grammar.specs.Reading.{mostBytes};
+ghost use Rattle.names.specs.Parts.{part};
+ghost use Rattle.names.specs.Names.{numberOf, calledIn};
+ghost use Rattle.names.specs.Inner.{unpacked, roleOf, packed, namedOf, kindsIn, itemsIn, Held, Declarable, Room, FirstPass, SecondPass, BothPasses, mostDeclarations};
+
+// Room for a kind's number below a declaration's place.
+const KIND_ROOM: u32 = 8;
+
+// What a used name may mean.
+enum Scope {
+    Intervals,
+    Tones,
+    Starts,
+    Orders,
+}
+
+// What an item does with a name, and the name's place.
+enum Role {
+    Nothing,
+    Declares(Kind, u32),
+    Uses(Scope, u32),
+}
+
+// What the names of a text come to: the refusal's number and place, or 0 and 0, and how many declarations are kept.
+pub struct Naming {
+    pub number: u8,
+    pub place: u32,
+    pub declarations: usize,
+}
+
+fn kind_number(kind: Kind) -> u32
+    ensures { λ r. ⌜ r ≡ kindNumber kind ⌝ }
+{
+    match kind {
+        Kind::Interval => 0,
+        Kind::Tone => 1,
+        Kind::System => 2,
+        Kind::Retuning => 3,
+        Kind::Logic => 4,
+        Kind::Order => 5,
+    }
+}
+
+// The kind of a declaration that is kept as a number.
+fn kind_of(kept: u32) -> Kind
+    ensures { λ r. ⌜ r ≡ unpacked kept .kind ⌝ }
+{
+    match kept % KIND_ROOM {
+        0 => Kind::Interval,
+        1 => Kind::Tone,
+        2 => Kind::System,
+        3 => Kind::Retuning,
+        4 => Kind::Logic,
+        _ => Kind::Order,
+    }
+}
+
+fn role_of(item: Item) -> Role
+    ensures { λ r. ⌜ r ≡ roleOf (part item) ⌝ }
+{
+    match item {
+        Item::Declared(kind, place) => Role::Declares(kind, place),
+        Item::Add(_, place) => Role::Uses(Scope::Intervals, place),
+        Item::Subtract(_, place) => Role::Uses(Scope::Intervals, place),
+        Item::Base(place) => Role::Uses(Scope::Tones, place),
+        Item::TonePosition(place) => Role::Uses(Scope::Tones, place),
+        Item::Start(place) => Role::Uses(Scope::Starts, place),
+        Item::Order(_, place) => Role::Uses(Scope::Orders, place),
+        _ => Role::Nothing,
+    }
+}
+
+// A declaration as one number.
+fn pack(kind: Kind, place: u32) -> u32
+    requires { ⌜ place ≤ mostBytes ⌝ }
+    ensures { λ r. ⌜ r ≡ packed (record { kind = kind; place = place }) ⌝ }
+{
+    place * KIND_ROOM + kind_number(kind)
+}
+
+// Whether a kept declaration is of the kind, and its name the one at `at`.
+fn declares(text: &[u8], kept: u32, kind: Kind, at: usize) -> bool
+    ensures { λ r. ⌜ r ≡ (eqb (kindNumber (unpacked kept .kind)) (kindNumber kind) && same (nameAt (now (text .entry)) (unpacked kept .place)) (nameAt (now (text .entry)) at)) ⌝ }
+{
+    if kind_number(kind_of(kept)) != kind_number(kind) {
+        return false;
+    }
+    names::same_name(text, (kept / KIND_ROOM) as usize, at)
+}
+
+// The first of the first `n` declarations that is of the kind and has the name at `at`.
+pub fn find_declaration(text: &[u8], declared: &[u32], n: usize, kind: Kind, at: usize) -> Found
+    ensures { λ r. ⌜ r ≡ numberOf (now (text .entry)) (namedOf (take n (now (declared .entry)))) kind (nameAt (now (text .entry)) at) ⌝ }
+{
+    for row in 0..n {
+        if declared.len() <= row {
+            return Found::Nothing;
+        }
+        if declares(text, declared[row], kind, at) {
+            return Found::Row(row);
+        }
+    }
+    Found::Nothing
+}
+
+// The retuning of the name at `at`, else the tone system.
+fn find_start(text: &[u8], declared: &[u32], n: usize, at: usize) -> Found
+    ensures { λ r. ⌜ r ≡ calledIn (now (text .entry)) (namedOf (take n (now (declared .entry)))) (kindsIn Scope.Starts) (nameAt (now (text .entry)) at) ⌝ }
+{
+    let Found::Row(number) = find_declaration(text, declared, n, Kind::Retuning, at) else {
+        return find_declaration(text, declared, n, Kind::System, at);
+    };
+    Found::Row(number)
+}
+
+// The retuning or the tone system of the name at `at`, else the logic.
+fn find_order(text: &[u8], declared: &[u32], n: usize, at: usize) -> Found
+    ensures { λ r. ⌜ r ≡ calledIn (now (text .entry)) (namedOf (take n (now (declared .entry)))) (kindsIn Scope.Orders) (nameAt (now (text .entry)) at) ⌝ }
+{
+    let Found::Row(number) = find_start(text, declared, n, at) else {
+        return find_declaration(text, declared, n, Kind::Logic, at);
+    };
+    Found::Row(number)
+}
+
+// What the name at `at` means.
+fn find_meaning(text: &[u8], declared: &[u32], n: usize, scope: Scope, at: usize) -> Found
+    ensures { λ r. ⌜ r ≡ calledIn (now (text .entry)) (namedOf (take n (now (declared .entry)))) (kindsIn scope) (nameAt (now (text .entry)) at) ⌝ }
+{
+    match scope {
+        Scope::Intervals => find_declaration(text, declared, n, Kind::Interval, at),
+        Scope::Tones => find_declaration(text, declared, n, Kind::Tone, at),
+        Scope::Starts => find_start(text, declared, n, at),
+        Scope::Orders => find_order(text, declared, n, at),
+    }
+}
+
+// Keeps each declared name, and the index of its item, up to the first that stood before in its kind.
+fn declare_all(
+    text: &[u8],
+    items: &[u32],
+    count: usize,
+    declared: &mut [u32],
+    starts: &mut [u32],
+) -> Naming
+    ghost { List Item }
+    requires { λ is. ⌜ itemsIn count (now items) ≡ is ⌝ }
+    requires { λ is. ⌜ Held is (now items) ⌝ }
+    requires { λ is. ⌜ Declarable is ⌝ }
+    requires { λ is. ⌜ Room (now declared) (now starts) ⌝ }
+    ensures { λ is r. ⌜ FirstPass (now (text .entry)) is (now (declared .entry)) (now (starts .entry)) r (now (declared .exit)) (now (starts .exit)) ⌝ }
+{
+    let mut n = 0;
+    for i in 0..count {
+        let Role::Declares(kind, place) = role_of(items::item_at(items, i)) else {
+            continue;
+        };
+        if let Found::Row(_) = find_declaration(text, declared, n, kind, place as usize) {
+            return Naming {
+                number: NAME_TWICE,
+                place,
+                declarations: n,
+            };
+        }
+        declared[n] = pack(kind, place);
+        starts[n] = i as u32;
+        n += 1;
+    }
+    Naming {
+        number: DONE,
+        place: 0,
+        declarations: n,
+    }
+}
+
+// Replaces the place of each used name by the number of its declaration, up to the first that is not declared.
+fn resolve_uses(text: &[u8], items: &mut [u32], count: usize, declared: &[u32], n: usize) -> Naming
+    ghost { List Item }
+    requires { λ is. ⌜ itemsIn count (now items) ≡ is ⌝ }
+    requires { λ is. ⌜ Held is (now items) ⌝ }
+    requires { λ is. ⌜ n ≤ mostDeclarations ⌝ }
+    ensures { λ is r. ⌜ SecondPass (now (text .entry)) (namedOf (take n (now (declared .entry)))) n is (now (items .entry)) r (now (items .exit)) ⌝ }
+{
+    for i in 0..count {
+        let Role::Uses(scope, place) = role_of(items::item_at(items, i)) else {
+            continue;
+        };
+        let Found::Row(number) = find_meaning(text, declared, n, scope, place as usize) else {
+            return Naming {
+                number: NAME_NOT_DECLARED,
+                place,
+                declarations: n,
+            };
+        };
+        items::set_place(items, i, number as u32);
+    }
+    Naming {
+        number: DONE,
+        place: 0,
+        declarations: n,
+    }
+}
+
+// Keeps the declared names and the indexes of their items, and replaces each used name by the number of its declaration.
+pub fn resolve_names(
+    text: &[u8],
+    items: &mut [u32],
+    count: usize,
+    declared: &mut [u32],
+    starts: &mut [u32],
+) -> Naming
+    ghost { List Item }
+    requires { λ is. ⌜ itemsIn count (now items) ≡ is ⌝ }
+    requires { λ is. ⌜ Held is (now items) ⌝ }
+    requires { λ is. ⌜ Declarable is ⌝ }
+    requires { λ is. ⌜ Room (now declared) (now starts) ⌝ }
+    ensures { λ is r. ⌜ BothPasses (now (text .entry)) is (now (items .entry)) (now (declared .entry)) (now (starts .entry)) r (now (items .exit)) (now (declared .exit)) (now (starts .exit)) ⌝ }
+{
+    let first = declare_all(text, items, count, declared, starts);
+    if first.number != DONE {
+        return first;
+    }
+    resolve_uses(text, items, count, declared, first.declarations)
+}
