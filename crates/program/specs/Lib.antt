@@ -1,0 +1,6 @@
+-- What a text declares, and which texts are accepted.
+pub mod Program
+pub mod Meaning
+pub mod Text
+pub mod CaseS
+pub mod Verdicts

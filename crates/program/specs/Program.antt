@@ -1,0 +1,231 @@
+-- What a text declares: document 01, "Declarations". The declarations are numbered 0, 1, 2, .. in the order of the text, and refer to each other by
+-- these numbers. Ratio parts, radicands and frequencies are in ten-thousandths.
+use mathlib.Core.Bool.{Bool, true, false}
+use mathlib.Core.List.{List, [], _∷_}
+use mathlib.Core.Option.{Option, some, none}
+use Prim.Native.Nat.{ℕ}
+use Rattle.grammar.specs.declared.Kind.{Kind}
+use Rattle.grammar.specs.declared.Kind.the-variants.{Interval, Tone, System, Retuning, Logic, Order as AnOrder}
+use Rattle.grammar.specs.declared.Item.{Item}
+use Rattle.names.specs.Parts as parts
+use Rattle.names.specs.Parts.{Part, declares, gives, uses, says, part, Given, Use, Said}
+use Rattle.tuning.specs.declared.Operator.the-variants.{Plus, Minus, Times, Divide}
+use Rattle.tuning.specs.declared.Amount.{Amount}
+use Rattle.tuning.specs.declared.Amount.the-variants.{Kept, Absolute, Relative}
+use Rattle.values.specs.Values.{Term}
+
+-- ---- declarations
+
+-- a position of a tone system: "a tone name or nothing"
+-- a position of a tones retuning: "nothing, or `@` or a tone name, with signed terms"
+pub data Position : Type 0 where
+  mute : Position
+  same : List Term → Position
+  named : ℕ → List Term → Position
+
+-- "orders, if any, are each `KEY letter -> name`"
+pub record Order : Type 0 where
+  pub letter : ℕ
+  pub calls : ℕ
+
+pub data Declaration : Type 0 where
+  -- an interval: "`p : q`, or `A ROOT B`, or a sequence"
+  ratio root : ℕ → ℕ → Declaration
+  sequence : List Term → Declaration
+  -- a tone: "a frequency in hertz, or a tone name followed by any number of signed terms"
+  frequency : ℕ → Declaration
+  from : ℕ → List Term → Declaration
+  -- a tone system: "anchor key, positions, period as a sequence"
+  system : ℕ → List (Option ℕ) → List Term → Declaration
+  -- a retuning of one of the four kinds
+  anchor width : Amount → Declaration
+  freshPeriod onwardPeriod : List Term → Declaration
+  tones : List Position → Declaration
+  -- a logic: its letter, its start, its orders
+  logic : ℕ → Option ℕ → List Order → Declaration
+
+-- a declaration and the place of its name
+pub record Placed : Type 0 where
+  pub place : ℕ
+  pub is : Declaration
+
+abbrev pub Program : Type 0
+Program = List Placed
+
+-- ---- the parts of a declaration, in the order of the text
+
+-- "terms joined by `+` or `-`, each an optional whole factor and an interval name"
+abbrev pub termThen : Part → List Term → List Term
+termThen (declares k p) ts = ts
+termThen (gives g a b) ts = ts
+termThen (says m) ts = ts
+termThen (uses parts.add f n) ts = record { minus = false; factor = f; of = n } ∷ ts
+termThen (uses parts.subtract f n) ts = record { minus = true; factor = f; of = n } ∷ ts
+termThen (uses parts.base f n) ts = ts
+termThen (uses parts.position f n) ts = ts
+termThen (uses parts.start f n) ts = ts
+termThen (uses parts.order f n) ts = ts
+
+unfoldable pub termsOf : List Item → List Term
+termsOf [] = []
+termsOf (i ∷ is) = termThen (part i) (termsOf is)
+
+-- the positions of a tone system
+abbrev pub placeThen : Part → List (Option ℕ) → List (Option ℕ)
+placeThen (declares k p) l = l
+placeThen (gives g a b) l = l
+placeThen (says parts.muted) l = none ∷ l
+placeThen (says parts.kept) l = l
+placeThen (says parts.anchorKept) l = l
+placeThen (says parts.widthKept) l = l
+placeThen (says parts.period) l = l
+placeThen (says parts.onward) l = l
+placeThen (uses parts.position f n) l = some n ∷ l
+placeThen (uses parts.add f n) l = l
+placeThen (uses parts.subtract f n) l = l
+placeThen (uses parts.base f n) l = l
+placeThen (uses parts.start f n) l = l
+placeThen (uses parts.order f n) l = l
+
+unfoldable pub placesOf : List Item → List (Option ℕ)
+placesOf [] = []
+placesOf (i ∷ is) = placeThen (part i) (placesOf is)
+
+-- the positions of a tones retuning, each with the terms up to the next
+pub record Grouped : Type 0 where
+  pub before : List Term
+  pub positions : List Position
+
+abbrev pub groupThen : Part → Grouped → Grouped
+groupThen (declares k p) g = g
+groupThen (gives x a b) g = g
+groupThen (says parts.muted) g = record { before = []; positions = mute ∷ g .positions }
+groupThen (says parts.kept) g = record { before = []; positions = same (g .before) ∷ g .positions }
+groupThen (says parts.anchorKept) g = g
+groupThen (says parts.widthKept) g = g
+groupThen (says parts.period) g = g
+groupThen (says parts.onward) g = g
+groupThen (uses parts.position f n) g = record { before = []; positions = named n (g .before) ∷ g .positions }
+groupThen (uses parts.add f n) g = record { before = termThen (uses parts.add f n) (g .before); positions = g .positions }
+groupThen (uses parts.subtract f n) g = record { before = termThen (uses parts.subtract f n) (g .before); positions = g .positions }
+groupThen (uses parts.base f n) g = g
+groupThen (uses parts.start f n) g = g
+groupThen (uses parts.order f n) g = g
+
+unfoldable pub grouped : List Item → Grouped
+grouped [] = record { before = []; positions = [] }
+grouped (i ∷ is) = groupThen (part i) (grouped is)
+
+abbrev pub orderThen : Part → List Order → List Order
+orderThen (declares k p) l = l
+orderThen (gives g a b) l = l
+orderThen (says m) l = l
+orderThen (uses parts.add f n) l = l
+orderThen (uses parts.subtract f n) l = l
+orderThen (uses parts.base f n) l = l
+orderThen (uses parts.position f n) l = l
+orderThen (uses parts.start f n) l = l
+orderThen (uses parts.order c n) l = record { letter = c; calls = n } ∷ l
+
+unfoldable pub ordersOf : List Item → List Order
+ordersOf [] = []
+ordersOf (i ∷ is) = orderThen (part i) (ordersOf is)
+
+-- what a logic's start calls
+abbrev pub startThen : Part → Option ℕ → Option ℕ
+startThen (declares k p) s = s
+startThen (gives g a b) s = s
+startThen (says m) s = s
+startThen (uses parts.add f n) s = s
+startThen (uses parts.subtract f n) s = s
+startThen (uses parts.base f n) s = s
+startThen (uses parts.position f n) s = s
+startThen (uses parts.start f n) s = some n
+startThen (uses parts.order c n) s = s
+
+unfoldable pub startOf : List Item → Option ℕ
+startOf [] = none
+startOf (i ∷ is) = startThen (part i) (startOf is)
+
+-- ---- a declaration from its parts, of which the first tells the form; `rest` are the parts after it
+
+abbrev pub byNumber : Given → ℕ → ℕ → List Item → Declaration
+byNumber parts.ratio a b rest = ratio a b
+byNumber parts.root a b rest = root a b
+byNumber parts.frequency a b rest = frequency a
+byNumber parts.anchorKey a b rest = system a (placesOf rest) (termsOf rest)
+byNumber parts.anchorTo a b rest = anchor (Absolute a)
+byNumber parts.anchorUp a b rest = anchor (Relative Plus a)
+byNumber parts.anchorDown a b rest = anchor (Relative Minus a)
+byNumber parts.widthTo a b rest = width (Absolute a)
+byNumber parts.widthUp a b rest = width (Relative Plus a)
+byNumber parts.widthDown a b rest = width (Relative Minus a)
+byNumber parts.widthTimes a b rest = width (Relative Times a)
+byNumber parts.widthOver a b rest = width (Relative Divide a)
+byNumber parts.letter a b rest = logic a (startOf rest) (ordersOf rest)
+
+abbrev pub byUse : Use → ℕ → ℕ → Item → List Item → Declaration
+byUse parts.add f n i rest = sequence (termsOf (i ∷ rest))
+byUse parts.subtract f n i rest = sequence (termsOf (i ∷ rest))
+byUse parts.base f n i rest = from n (termsOf rest)
+byUse parts.position f n i rest = tones (grouped (i ∷ rest) .positions)
+byUse parts.start f n i rest = sequence []
+byUse parts.order f n i rest = sequence []
+
+-- `[ ]` and then a sequence, or `@` and then terms
+abbrev pub periodBy : Part → List Item → List Item → Declaration
+periodBy (declares k p) all rest = freshPeriod (termsOf all)
+periodBy (gives g a b) all rest = freshPeriod (termsOf all)
+periodBy (uses u a b) all rest = freshPeriod (termsOf all)
+periodBy (says parts.muted) all rest = freshPeriod (termsOf all)
+periodBy (says parts.kept) all rest = freshPeriod (termsOf all)
+periodBy (says parts.anchorKept) all rest = freshPeriod (termsOf all)
+periodBy (says parts.widthKept) all rest = freshPeriod (termsOf all)
+periodBy (says parts.period) all rest = freshPeriod (termsOf all)
+periodBy (says parts.onward) all rest = onwardPeriod (termsOf rest)
+
+abbrev pub periodOf : List Item → Declaration
+periodOf [] = freshPeriod []
+periodOf (i ∷ rest) = periodBy (part i) (i ∷ rest) rest
+
+abbrev pub byMark : Said → Item → List Item → Declaration
+byMark parts.muted i rest = tones (grouped (i ∷ rest) .positions)
+byMark parts.kept i rest = tones (grouped (i ∷ rest) .positions)
+byMark parts.anchorKept i rest = anchor Kept
+byMark parts.widthKept i rest = width Kept
+byMark parts.period i rest = periodOf rest
+byMark parts.onward i rest = onwardPeriod (termsOf rest)
+
+abbrev pub byPart : Part → Item → List Item → Declaration
+byPart (declares k p) i rest = sequence []
+byPart (gives g a b) i rest = byNumber g a b rest
+byPart (uses u f n) i rest = byUse u f n i rest
+byPart (says m) i rest = byMark m i rest
+
+abbrev pub declarationOf : List Item → Declaration
+declarationOf [] = sequence []
+declarationOf (i ∷ rest) = byPart (part i) i rest
+
+-- ---- the whole text
+
+-- the items up to the next declared name
+abbrev pub upTo : Part → Item → List Item → List Item
+upTo (declares k p) i is = []
+upTo (gives g a b) i is = i ∷ is
+upTo (uses u a b) i is = i ∷ is
+upTo (says m) i is = i ∷ is
+
+unfoldable pub partsOf : List Item → List Item
+partsOf [] = []
+partsOf (i ∷ is) = upTo (part i) i (partsOf is)
+
+abbrev pub programThen : Part → List Item → Program → Program
+programThen (declares k p) is ds = record { place = p; is = declarationOf (partsOf is) } ∷ ds
+programThen (gives g a b) is ds = ds
+programThen (uses u a b) is ds = ds
+programThen (says m) is ds = ds
+
+-- the declarations of the items of a text
+unfoldable pub programOf : List Item → Program
+programOf [] = []
+programOf (i ∷ is) = programThen (part i) is (programOf is)

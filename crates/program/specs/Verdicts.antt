@@ -1,0 +1,36 @@
+-- Texts and what they are read as: one for each of the numbers 2 to 8 at least.
+use mathlib.Core.List.{List, [], _∷_}
+use Rattle.status.specs.Status.{noSymbol, symbolNotAllowed, numberOutOfRange, nameTwice, nameNotDeclared, dependsOnItself, valueOutOfRange}
+use Rattle.cents.specs.Sums.{Row, _gives_}
+use Rattle.symbols.specs.Bytes.{bytes}
+use Rattle.program.specs.Text.{refused, accepted, readText}
+
+unfoldable pub verdicts : List Row
+verdicts =
+    -- "an empty one too"
+    (readText (bytes "") gives accepted [])
+    -- 2 at a number that lacks digits
+    ∷ (readText (bytes "INTERVAL a = 3. b") gives refused noSymbol 13)
+    -- 2 at an unfinished comment
+    ∷ (readText (bytes "INTERVAL a = 2 : 1 \"b") gives refused noSymbol 19)
+    -- 3 at the symbol after a first number that is not judged
+    ∷ (readText (bytes "INTERVAL a = 99999999 + b") gives refused symbolNotAllowed 22)
+    -- 3 at the `]` of a tone system's `[ ]`
+    ∷ (readText (bytes "TONESYSTEM T = 60 [ ] O") gives refused symbolNotAllowed 20)
+    -- 3 at the end of the text
+    ∷ (readText (bytes "RETUNING A = [ ]") gives refused symbolNotAllowed 16)
+    -- 4 at a number out of range
+    ∷ (readText (bytes "TONESYSTEM T = 128 [") gives refused numberOutOfRange 15)
+    -- 4 at a first number, once a name follows
+    ∷ (readText (bytes "INTERVAL a = 2.5 b") gives refused numberOutOfRange 13)
+    -- 5 at the second
+    ∷ (readText (bytes "INTERVAL a = 2 : 1 a = 3 : 2") gives refused nameTwice 19)
+    -- 6 at the use, even 0 times
+    ∷ (readText (bytes "INTERVAL a = 0 b") gives refused nameNotDeclared 15)
+    -- 7 at what lies on a cycle, not at what leads to it
+    ∷ (readText (bytes "INTERVAL x = a a = b b = a") gives refused dependsOnItself 15)
+    -- 8 at what is out of range
+    ∷ (readText (bytes "INTERVAL o = 2 : 1 p = 999 o") gives refused valueOutOfRange 19)
+    -- 8 at what uses it 0 times, where that is earlier
+    ∷ (readText (bytes "INTERVAL o = 2 : 1 q = 0 p p = 999 o") gives refused valueOutOfRange 19)
+    ∷ []

@@ -1,0 +1,1 @@
+// What a text declares: definitions, and theorems on them; no code.
