@@ -1,0 +1,2 @@
+-- The tables that a text is read into.
+pub mod Tables

@@ -1,0 +1,1 @@
+// The tables of a text: definitions, and theorems on them; no code.

@@ -1,0 +1,96 @@
+-- `tables::encode::numbers_of` meets its contract. Each arm has the numbers of its row, which 32 bits hold. Assumes nothing.
+use mathlib.Core.Path.{sym, ap, _∙_, subst}
+use native.Mathlib.Omega.{arith}
+use borrow.Author.Needs.{needs}
+use lib.IntN.{pos}
+use mir.Facts.{toZ-ofZ}
+use mir.Syntax.{w32}
+use mir.Val.{SFits}
+use mir.ValLaws.{toZ-pos}
+use Rattle.tables.specs.Layout.{numbersOf}
+use Rattle.tables.specs.Values.{NumbersFit}
+use Rattle.tables.specs.declared.Row.{Row}
+use Rattle.tables.proofs.encode.numbers_of.Statement.{statement}
+use Rattle.tables.proofs.encode.numbers_of.Tie as tie
+
+-- a logic's start
+start-fits : (c : tie.After-known-told5) → SFits w32 (pos (c .before .row5 .given .0 .1 .0))
+start-fits c = subst (λ (r : Row). NumbersFit (numbersOf r)) (c .before .row5 .given .1) (c .before .before .before .pre) .second
+
+enum-told : tie.Need-enum-told
+enum-told c = search needs
+
+enum-known-row : tie.Need-enum-known-row
+enum-known-row c = search needs
+
+enum-known-row-2 : tie.Need-enum-known-row-2
+enum-known-row-2 c = search needs
+
+enum-known-row-3 : tie.Need-enum-known-row-3
+enum-known-row-3 c = search needs
+
+cast-t16 : tie.Need-cast-t16
+cast-t16 c = search needs
+
+enum-known-row-4 : tie.Need-enum-known-row-4
+enum-known-row-4 c = search needs
+
+retuning-numbers-requires : tie.Need-retuning-numbers-requires
+retuning-numbers-requires c κs = search needs
+
+enum-known-row-5 : tie.Need-enum-known-row-5
+enum-known-row-5 c = search needs
+
+cast-t17 : tie.Need-cast-t17
+cast-t17 c = search needs
+
+cast-t18 : tie.Need-cast-t18
+cast-t18 c = start-fits c
+
+returns : tie.Need-returns
+returns c = rw (c .enum-told .given .1)
+
+returns-2 : tie.Need-returns-2
+returns-2 c =
+    let f : SFits w32 (c .before .before .row .given .0 .0 .0) = search needs in
+    simp (c .before .before .row .given .1, toZ-ofZ)
+
+returns-3 : tie.Need-returns-3
+returns-3 c =
+    let f : SFits w32 (c .before .before .row2 .given .0 .0 .0) = search needs in
+    simp (c .before .before .row2 .given .1, toZ-ofZ)
+
+returns-4 : tie.Need-returns-4
+returns-4 c =
+    let row = c .before .before .before .row3 in
+    let f : SFits w32 (row .given .0 .1 .0 .0) = search needs in
+    rw (row .given .1, toZ-pos w32 (row .given .0 .0 .0) (omega arith), toZ-ofZ f)
+
+returns-5 : tie.Need-returns-5
+returns-5 c = c .retuning-numbers .ensures ∙ sym (ap numbersOf (c .before .before .row4 .given .1))
+
+returns-6 : tie.Need-returns-6
+returns-6 c =
+    let row = c .before .row5 in
+    rw (row .given .1, toZ-pos w32 (row .given .0 .0) (omega arith), toZ-pos w32 (row .given .0 .1 .0) (start-fits c .sfits))
+
+pub numbers-of-spec : {M : Type 1} → statement M
+numbers-of-spec =
+    tie.close
+    (tie.spec
+    enum-told
+    enum-known-row
+    enum-known-row-2
+    enum-known-row-3
+    cast-t16
+    enum-known-row-4
+    retuning-numbers-requires
+    enum-known-row-5
+    cast-t17
+    cast-t18
+    returns
+    returns-2
+    returns-3
+    returns-4
+    returns-5
+    returns-6)

@@ -1,0 +1,273 @@
+// Rows, tones, changes and orders as numbers of the tables. What does not fit into a table is not written.
+use crate::ABSOLUTE_CODE;
+use crate::ANCHOR_FORM;
+use crate::DIVIDE_CODE;
+use crate::FRESH_CODE;
+use crate::INTERVAL_FORM;
+use crate::KEPT_CODE;
+use crate::LOGIC_FORM;
+use crate::MINUS_CODE;
+use crate::MOVE_CODE;
+use crate::MUTE_CODE;
+use crate::MUTED_CODE;
+use crate::Numbers;
+use crate::ONWARD_CODE;
+use crate::PERIOD_FORM;
+use crate::PLUS_CODE;
+use crate::ROW_WIDTH;
+use crate::Row;
+use crate::SET_CODE;
+use crate::SOUNDS_CODE;
+use crate::SYSTEM_FORM;
+use crate::TIMES_CODE;
+use crate::TONE_FORM;
+use crate::TONES_FORM;
+use crate::UNUSED_FORM;
+use crate::WIDTH_FORM;
+use tuning::Amount;
+use tuning::Operator;
+use tuning::PeriodChange;
+use tuning::Retuning;
+use tuning::Tone;
+use tuning::ToneChange;
+ghost use mathlib.Core.Path.{_≡_};
+ghost use Prim.Native.Nat.{_*_, _<_};
+ghost use lib.ListN.{set};
+ghost use lib.Seq.{sets};
+ghost use Rattle.tables.specs.Layout.{amountCode, amountNumber, periodCode, periodSum, retuningNumbers, numbersOf, written, rowWidth, soundingOf, pitchOf, changeCode, changeNumber};
+ghost use Rattle.tables.specs.Values.{NumbersFit};
+
+fn amount_code(amount: Amount) -> u32
+    ensures { λ r. ⌜ r ≡ amountCode amount ⌝ }
+{
+    match amount {
+        Amount::Kept => KEPT_CODE,
+        Amount::Absolute(_) => ABSOLUTE_CODE,
+        Amount::Relative(operator, _) => match operator {
+            Operator::Plus => PLUS_CODE,
+            Operator::Minus => MINUS_CODE,
+            Operator::Times => TIMES_CODE,
+            Operator::Divide => DIVIDE_CODE,
+        },
+    }
+}
+
+fn amount_number(amount: Amount) -> u16
+    ensures { λ r. ⌜ r ≡ amountNumber amount ⌝ }
+{
+    match amount {
+        Amount::Kept => 0,
+        Amount::Absolute(n) => n,
+        Amount::Relative(_, n) => n,
+    }
+}
+
+fn period_code(change: PeriodChange) -> u32
+    ensures { λ r. ⌜ r ≡ periodCode change ⌝ }
+{
+    match change {
+        PeriodChange::Fresh(_) => FRESH_CODE,
+        PeriodChange::Onward(_) => ONWARD_CODE,
+    }
+}
+
+fn period_sum(change: PeriodChange) -> i32
+    ensures { λ r. ⌜ r ≡ periodSum change ⌝ }
+{
+    match change {
+        PeriodChange::Fresh(d) => d.0,
+        PeriodChange::Onward(d) => d.0,
+    }
+}
+
+fn retuning_numbers(retuning: Retuning, from: u32, to: u32) -> Numbers
+    ensures { λ r. ⌜ r ≡ retuningNumbers retuning from to ⌝ }
+{
+    match retuning {
+        Retuning::Anchor(amount) => Numbers {
+            form: ANCHOR_FORM,
+            first: amount_code(amount) as i32,
+            second: amount_number(amount) as i32,
+            from,
+            to,
+        },
+        Retuning::Width(amount) => Numbers {
+            form: WIDTH_FORM,
+            first: amount_code(amount) as i32,
+            second: amount_number(amount) as i32,
+            from,
+            to,
+        },
+        Retuning::Period(change) => Numbers {
+            form: PERIOD_FORM,
+            first: period_code(change) as i32,
+            second: period_sum(change),
+            from,
+            to,
+        },
+        Retuning::Tones => Numbers {
+            form: TONES_FORM,
+            first: 0,
+            second: 0,
+            from,
+            to,
+        },
+    }
+}
+
+fn numbers_of(row: Row) -> Numbers
+    requires { ⌜ NumbersFit (numbersOf row) ⌝ }
+    ensures { λ r. ⌜ r ≡ numbersOf row ⌝ }
+{
+    match row {
+        Row::Unused => Numbers {
+            form: UNUSED_FORM,
+            first: 0,
+            second: 0,
+            from: 0,
+            to: 0,
+        },
+        Row::Interval(d) => Numbers {
+            form: INTERVAL_FORM,
+            first: d.0,
+            second: 0,
+            from: 0,
+            to: 0,
+        },
+        Row::Tone(p) => Numbers {
+            form: TONE_FORM,
+            first: p.0,
+            second: 0,
+            from: 0,
+            to: 0,
+        },
+        Row::System {
+            anchor,
+            period,
+            from,
+            to,
+        } => Numbers {
+            form: SYSTEM_FORM,
+            first: anchor.0 as i32,
+            second: period.0,
+            from,
+            to,
+        },
+        Row::Retuning { retuning, from, to } => retuning_numbers(retuning, from, to),
+        Row::Logic {
+            letter,
+            start,
+            from,
+            to,
+        } => Numbers {
+            form: LOGIC_FORM,
+            first: letter as i32,
+            second: start as i32,
+            from,
+            to,
+        },
+    }
+}
+
+fn put_number(table: &mut [i32], at: usize, z: i32)
+    ensures { λ _. ⌜ now (table .exit) ≡ set (now (table .entry)) at z ⌝ }
+{
+    if at < table.len() {
+        table[at] = z;
+    }
+}
+
+fn put_byte(table: &mut [u8], at: usize, b: u8)
+    ensures { λ _. ⌜ now (table .exit) ≡ set (now (table .entry)) at b ⌝ }
+{
+    if at < table.len() {
+        table[at] = b;
+    }
+}
+
+fn put_call(table: &mut [u16], at: usize, called: u16)
+    ensures { λ _. ⌜ now (table .exit) ≡ set (now (table .entry)) at called ⌝ }
+{
+    if at < table.len() {
+        table[at] = called;
+    }
+}
+
+// Stores a row as the i-th.
+pub fn store_row(rows: &mut [i32], i: usize, row: Row)
+    requires { ⌜ NumbersFit (numbersOf row) ⌝ }
+    ensures { λ _. ⌜ now (rows .exit) ≡ sets (now (rows .entry)) (rowWidth * i) (written (numbersOf row)) ⌝ }
+{
+    if rows.len() <= i {
+        return;
+    }
+    let n = numbers_of(row);
+    let at = ROW_WIDTH * i;
+    put_number(rows, at, n.form as i32);
+    put_number(rows, at + 1, n.first);
+    put_number(rows, at + 2, n.second);
+    put_number(rows, at + 3, n.from as i32);
+    put_number(rows, at + 4, n.to as i32);
+}
+
+fn tone_code(tone: Tone) -> u8
+    ensures { λ r. ⌜ r ≡ soundingOf tone ⌝ }
+{
+    match tone {
+        Tone::Muted => MUTED_CODE,
+        Tone::At(_) => SOUNDS_CODE,
+    }
+}
+
+fn tone_pitch(tone: Tone) -> i32
+    ensures { λ r. ⌜ r ≡ pitchOf tone ⌝ }
+{
+    match tone {
+        Tone::Muted => 0,
+        Tone::At(p) => p.0,
+    }
+}
+
+// Stores a tone of a tone system as the i-th.
+pub fn store_tone(sounding: &mut [u8], tones: &mut [i32], i: usize, tone: Tone)
+    ensures { λ _. ⌜ (now (sounding .exit) ≡ set (now (sounding .entry)) i (soundingOf tone)) × (now (tones .exit) ≡ set (now (tones .entry)) i (pitchOf tone)) ⌝ }
+{
+    put_byte(sounding, i, tone_code(tone));
+    put_number(tones, i, tone_pitch(tone));
+}
+
+fn change_code(change: ToneChange) -> u8
+    ensures { λ r. ⌜ r ≡ changeCode change ⌝ }
+{
+    match change {
+        ToneChange::Mute => MUTE_CODE,
+        ToneChange::Move(_) => MOVE_CODE,
+        ToneChange::Set(_) => SET_CODE,
+    }
+}
+
+fn change_number(change: ToneChange) -> i32
+    ensures { λ r. ⌜ r ≡ changeNumber change ⌝ }
+{
+    match change {
+        ToneChange::Mute => 0,
+        ToneChange::Move(d) => d.0,
+        ToneChange::Set(p) => p.0,
+    }
+}
+
+// Stores a change of a tones retuning as the i-th.
+pub fn store_change(kinds: &mut [u8], changes: &mut [i32], i: usize, change: ToneChange)
+    ensures { λ _. ⌜ (now (kinds .exit) ≡ set (now (kinds .entry)) i (changeCode change)) × (now (changes .exit) ≡ set (now (changes .entry)) i (changeNumber change)) ⌝ }
+{
+    put_byte(kinds, i, change_code(change));
+    put_number(changes, i, change_number(change));
+}
+
+// Stores an order as the i-th: its letter, and the number of the declaration that it calls.
+pub fn store_order(letters: &mut [u8], calls: &mut [u16], i: usize, letter: u8, called: u16)
+    ensures { λ _. ⌜ (now (letters .exit) ≡ set (now (letters .entry)) i letter) × (now (calls .exit) ≡ set (now (calls .entry)) i called) ⌝ }
+{
+    put_byte(letters, i, letter);
+    put_call(calls, i, called);
+}

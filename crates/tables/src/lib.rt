@@ -1,0 +1,154 @@
+// The tables that a text is read into: a row for each declaration, and what the rows refer to.
+pub mod clear;
+pub mod decode;
+pub mod encode;
+
+use cents::Interval;
+use cents::KeyNumber;
+use cents::Pitch;
+use tuning::Retuning;
+ghost use mathlib.Core.Path.{_≡_};
+ghost use lib.ListN.{length};
+ghost use Rattle.tables.specs.Layout.{fullSize, countsSize, countsOf};
+
+// Full sizes: how many rows, tones, changes and orders there is room for, and how many numbers a row has.
+pub const ROWS: usize = 704;
+
+pub const ROW_WIDTH: usize = 5;
+
+pub const TONES: usize = 1_920;
+
+pub const CHANGES: usize = 7_680;
+
+pub const ORDERS: usize = 512;
+
+pub const COUNTS: usize = 4;
+
+// The forms of rows.
+pub const UNUSED_FORM: u32 = 0;
+
+pub const INTERVAL_FORM: u32 = 1;
+
+pub const TONE_FORM: u32 = 2;
+
+pub const SYSTEM_FORM: u32 = 3;
+
+pub const ANCHOR_FORM: u32 = 4;
+
+pub const WIDTH_FORM: u32 = 5;
+
+pub const PERIOD_FORM: u32 = 6;
+
+pub const TONES_FORM: u32 = 7;
+
+pub const LOGIC_FORM: u32 = 8;
+
+// Anchors and widths: `@`, a number, or `@` with an operator.
+pub const KEPT_CODE: u32 = 0;
+
+pub const ABSOLUTE_CODE: u32 = 1;
+
+pub const PLUS_CODE: u32 = 2;
+
+pub const MINUS_CODE: u32 = 3;
+
+pub const TIMES_CODE: u32 = 4;
+
+pub const DIVIDE_CODE: u32 = 5;
+
+// Periods: a new one, or an interval onto the old one.
+pub const FRESH_CODE: u32 = 0;
+
+pub const ONWARD_CODE: u32 = 1;
+
+// Tones: muted, or sounding.
+pub const MUTED_CODE: u8 = 0;
+
+pub const SOUNDS_CODE: u8 = 1;
+
+// Changes: the tone is muted, moved, or set.
+pub const MUTE_CODE: u8 = 0;
+
+pub const MOVE_CODE: u8 = 1;
+
+pub const SET_CODE: u8 = 2;
+
+// A row's numbers: its form, two numbers of its own, and from where to where what belongs to it stands.
+pub struct Numbers {
+    pub form: u32,
+    pub first: i32,
+    pub second: i32,
+    pub from: u32,
+    pub to: u32,
+}
+
+// A row, taken apart. `from` and `to` bound the tones, changes or orders that belong to it.
+pub enum Row {
+    Unused,
+    Interval(Interval),
+    Tone(Pitch),
+    System {
+        anchor: KeyNumber,
+        period: Interval,
+        from: u32,
+        to: u32,
+    },
+    Retuning {
+        retuning: Retuning,
+        from: u32,
+        to: u32,
+    },
+    // A start is 0 for none, or 1 more than the number of the declaration that it calls.
+    Logic {
+        letter: u8,
+        start: u32,
+        from: u32,
+        to: u32,
+    },
+}
+
+// How many rows, tones, changes and orders are used.
+pub struct Counts {
+    pub rows: u32,
+    pub tones: u32,
+    pub changes: u32,
+    pub orders: u32,
+}
+
+impl Counts {
+    // The four numbers of the counts.
+    pub fn read(counts: &[u32]) -> Counts
+        requires { ⌜ length (now counts) ≡ countsSize ⌝ }
+        ensures { λ r. ⌜ r ≡ countsOf (now (counts .entry)) ⌝ }
+    {
+        Counts {
+            rows: counts[0],
+            tones: counts[1],
+            changes: counts[2],
+            orders: counts[3],
+        }
+    }
+}
+
+// Whether every table is of full size.
+pub fn has_full_size(
+    rows: &[i32],
+    sounding: &[u8],
+    tones: &[i32],
+    kinds: &[u8],
+    changes: &[i32],
+    letters: &[u8],
+    calls: &[u16],
+    counts: &[u32],
+) -> bool
+    ensures { λ r. ⌜ r ≡ fullSize (record { rows = now (rows .entry); sounding = now (sounding .entry); tones = now (tones .entry); kinds = now (kinds .entry); changes = now (changes .entry); letters = now (letters .entry); calls = now (calls .entry); counts = now (counts .entry) }) ⌝ }
+{
+    (rows.len() == ROW_WIDTH * ROWS)
+        & (sounding.len() == TONES)
+        & (tones.len() == TONES)
+        & (kinds.len() == CHANGES)
+        & (changes.len() == CHANGES)
+        & (letters.len() == ORDERS)
+        & (calls.len() == ORDERS)
+        & (counts.len() == COUNTS)
+}
