@@ -2,19 +2,18 @@
 -- Assumes nothing.
 use Prim.Native.Nat.{ℕ, _≤_}
 use mathlib.Core.Path.{_≡_, refl, sym, _∙_, ap, subst}
-use mathlib.Core.List.{List, [], _∷_, map}
-use native.Mathlib.Nat.{le-refl}
+use mathlib.Core.List.{List, [], map}
 use native.Mathlib.Omega.{arith}
 use lib.ListN.{length, take}
 use lib.Seq.{take-length}
-use Rattle.status.specs.Status.{done, nameTwice}
+use Rattle.status.specs.Status.{nameTwice}
 use Rattle.symbols.specs.declared.names.Found.{Found}
 use Rattle.symbols.specs.declared.names.Found.the-variants.{Nothing, Row}
 use Rattle.grammar.specs.declared.Item.{Item}
 use Rattle.grammar.specs.Items.{holding}
 use Rattle.names.specs.declared.Naming.{Naming}
-use Rattle.names.specs.Names.{Named, declared, twiceFrom, resolved, unlessMissing, unlessTwice, Meant, meanings}
-use Rattle.names.specs.Inner.{namedOf, packed, distinct, distinctFrom, begunWith, rewritten, unlessTwiceRewritten, leftItems, numberIf, placeIf, Declarable, mostDeclarations, FirstPass, SecondPass, BothPasses}
+use Rattle.names.specs.Names.{declared, twiceFrom, resolved, unlessMissing, meanings}
+use Rattle.names.specs.Inner.{namedOf, packed, begunWith, rewritten, leftItems, numberIf, placeIf, Declarable, mostDeclarations, FirstPass, SecondPass, BothPasses}
 use Rattle.names.proofs.FirstPass.{kept-names, distinct-few, distinct-all}
 
 module _ (text : List ℕ) (is : List Item) where

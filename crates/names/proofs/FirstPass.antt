@@ -1,6 +1,6 @@
 -- Laws of the first pass over the items: what is kept of the declarations in front of an item.
 -- Assumes nothing.
-use Prim.Native.Nat.{ℕ, zero, suc, _+_, _*_, _/_, _%_, _≤_, _<_}
+use Prim.Native.Nat.{ℕ, suc, _+_, _/_, _%_, _≤_, _<_}
 use mathlib.Core.Path.{_≡_, refl, sym, _∙_, ap, subst}
 use mathlib.Core.List.{List, [], _∷_, _++_, map}
 use native.Mathlib.Numerals.{add-one}
@@ -15,16 +15,16 @@ use Rattle.symbols.specs.declared.names.Found.the-variants.{Nothing, Row}
 use Rattle.grammar.specs.declared.Kind.{Kind}
 use Rattle.grammar.specs.declared.Kind.the-variants.{Interval, Tone, System, Retuning, Logic, Order as AnOrder}
 use Rattle.grammar.specs.declared.Item.{Item}
-use Rattle.grammar.specs.Moves.{kinds, kindNumber}
+use Rattle.grammar.specs.Moves.{kindNumber}
 use Rattle.grammar.specs.Reading.{mostBytes}
 use Rattle.names.specs.declared.Role.{Role}
 use Rattle.names.specs.declared.Role.the-variants as role
 use Rattle.names.proofs.Role as roles
 use Rattle.names.specs.Parts.{Part, declares, gives, uses, says, part}
 use Rattle.names.specs.Names.{Named, namedBy, declared, numberOf, twiceFrom}
-use Rattle.names.specs.Inner.{roleOf, kindRoom, packed, unpacked, namedOf, beginningBy, beginningsFrom, beginnings, distinctFrom, begunWith, numberIf, placeIf, InText, FirstPass}
+use Rattle.names.specs.Inner.{roleOf, kindRoom, packed, unpacked, namedOf, beginningBy, beginningsFrom, beginnings, distinctFrom, begunWith, InText, FirstPass}
 use Rattle.names.proofs.Searching.{nothing-no-row, kind-back}
-use Rattle.names.proofs.Lists.{head-fits, head-at, head-rest, head-taken, here, begun-set, begun-taken, take-map, drop-map}
+use Rattle.names.proofs.Lists.{head-fits, head-rest, head-taken, here, begun-set, begun-taken, take-map, drop-map}
 
 -- ---- a declaration as a number
 

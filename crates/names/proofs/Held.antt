@@ -1,6 +1,6 @@
 -- Laws of the items that a slice holds.
 -- Assumes nothing.
-use Prim.Native.Nat.{ℕ, zero, suc, _+_, _*_, _≤_, _<_}
+use Prim.Native.Nat.{ℕ, zero, suc, _≤_, _<_}
 use mathlib.Core.Path.{_≡_, refl, sym, _∙_, ap}
 use mathlib.Core.List.{List, [], _∷_, _++_}
 use native.Mathlib.Omega.{arith}
@@ -9,7 +9,7 @@ use lib.Seq.{drop-append-seam}
 use Rattle.grammar.specs.declared.Item.{Item}
 use Rattle.grammar.specs.Reading.{mostBytes}
 use Rattle.grammar.specs.Items.{rows, rowSize, holding, itemSlots, itemAt}
-use Rattle.grammar.proofs.Rows.{item-back, item-in, length-rows, length-holding}
+use Rattle.grammar.proofs.Rows.{item-back, item-in, length-rows}
 use Rattle.names.specs.Inner.{itemsIn, Held}
 
 pub length-items-in : (n : ℕ) (l : List ℕ) → length (itemsIn n l) ≡ n
@@ -32,12 +32,12 @@ pub held-few : (is : List Item) (l : List ℕ) → Held is l → length is ≤ m
 held-few is l h = omega (arith, length-rows is, simp (length-append, length-drop) at (ap length (h .rows)), h .size)
 
 -- the items that were put into a slice are those that it holds
-pub held-after : (is : List Item) (l : List ℕ) → rowSize * length is ≤ length l → length l ≡ itemSlots → Held is (holding is l)
-held-after is l h e =
-    record {
-      rows = ap (λ t. rows is ++ t) (sym (drop-append-seam (rows is) (drop (length (rows is)) l)));
-      size = length-holding is l h ∙ e;
-    }
+module _ (is : List Item) (before : List ℕ) {l : List ℕ} (e : l ≡ holding is before) where
+  pub held-after : length l ≡ itemSlots → Held is l
+  held-after n =
+      let s : drop (length (rows is)) l ≡ drop (length (rows is)) before =
+      ap (drop (length (rows is))) e ∙ drop-append-seam (rows is) (drop (length (rows is)) before) in
+      record { rows = e ∙ ap (λ t. rows is ++ t) (sym s); size = n }
 
-pub items-after : (is : List Item) (l : List ℕ) {n : ℕ} → n ≡ length is → itemsIn n (holding is l) ≡ is
-items-after is l e = rw e (items-in-rows is (drop (length (rows is)) l))
+  pub items-after : {n : ℕ} → n ≡ length is → itemsIn n l ≡ is
+  items-after q = rw (q, e) (items-in-rows is (drop (length (rows is)) before))

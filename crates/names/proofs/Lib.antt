@@ -5,3 +5,4 @@ pub mod FirstPass
 pub mod SecondPass
 pub mod BothPasses
 pub mod Meanings
+pub mod Limits

@@ -5,14 +5,14 @@ use mathlib.Core.Path.{_≡_, refl, sym, _∙_, ap, subst}
 use mathlib.Core.List.{List, [], _∷_}
 use native.Mathlib.Omega.{arith}
 use lib.ListN.{length, getD}
-use Rattle.status.specs.Status.{done, nameTwice, nameNotDeclared}
+use Rattle.status.specs.Status.{done}
 use Rattle.symbols.specs.Names.{nameAt}
 use Rattle.symbols.specs.declared.names.Found.{Found}
 use Rattle.symbols.specs.declared.names.Found.the-variants.{Nothing, Row}
 use Rattle.grammar.specs.declared.Item.{Item}
 use Rattle.names.specs.Parts.{Part, declares, gives, uses, says, part, Use, add, subtract, base, position, start, order}
 use Rattle.names.specs.Names.{Named, namedBy, declared, twiceFrom, calledIn, meant, numbered, Resolved, all, missing, andThen, ifFound, resolvedBy, resolved, unlessMissing, unlessTwice, meanings}
-use Rattle.names.specs.Inner.{beginningBy, beginningsFrom, beginnings, distinct, ifCalled, rewrittenBy, rewritten, unlessTwiceRewritten, leftItems}
+use Rattle.names.specs.Inner.{beginningBy, beginningsFrom, distinct, rewritten, unlessTwiceRewritten, leftItems}
 use Rattle.names.proofs.Searching.{OfKinds, called-found}
 use Rattle.names.proofs.FirstPass.{distinct-all}
 

@@ -1,6 +1,6 @@
 -- Declared names and their uses: document 01, "Names may be used before they are declared. A name may serve once for each kind",
 -- "A called name means the retuning of that name, else the tone system, else (orders only) the logic", and the numbers 5 and 6.
-use mathlib.Core.Bool.{Bool, true, false, _&&_}
+use mathlib.Core.Bool.{true, false, _&&_}
 use mathlib.Core.List.{List, [], _∷_, _++_}
 use Prim.Native.Nat.{ℕ, suc}
 use lib.Dec.{eqb}

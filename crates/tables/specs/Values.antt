@@ -29,22 +29,24 @@ changeAt x = record { change = x }
 abbrev pub listed : List ToneChange → ToneChanges
 listed l = record { count = length l; positions = full (changeAt Mute) places (map changeAt l) }
 
--- ---- what the contracts require: numbers that the fields of a row can hold, and that a table can
+-- ---- what the contracts require
 
+-- the numbers of a row fit the fields of the row
 pub record FieldsFit (r : Numbers) : Type 0 where
   pub anchor : r .form ≡ systemForm → up (r .first) < 2 ^ 8
   pub anchorBy : r .form ≡ anchorForm → up (r .second) < 2 ^ 16
   pub widthBy : r .form ≡ widthForm → up (r .second) < 2 ^ 16
   pub letter : r .form ≡ logicForm → up (r .first) < 2 ^ 8
 
--- from one place to another of two lists, at most sixty
+-- the numbers of a row fit the table
+pub record NumbersFit (r : Numbers) : Type 0 where
+  pub second : SFits w32 (r .second)
+  pub from : r .from < 2 ^ 31
+  pub to : r .to < 2 ^ 31
+
+-- from one place to another of a list of kinds and a list of numbers, as many as a list of positions has room for
 pub record Part (ks : List ℕ) (zs : List ℤ) (from to : ℕ) : Type 0 where
   pub order : from ≤ to
   pub most : to ≤ from + places
   pub kinds : to ≤ length ks
   pub numbers : to ≤ length zs
-
-pub record NumbersFit (r : Numbers) : Type 0 where
-  pub second : SFits w32 (r .second)
-  pub from : r .from < 2 ^ 31
-  pub to : r .to < 2 ^ 31

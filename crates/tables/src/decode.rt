@@ -25,6 +25,7 @@ use cents::KeyNumber;
 use cents::Pitch;
 use tuning::Amount;
 use tuning::Operator;
+use tuning::PLACES;
 use tuning::PeriodChange;
 use tuning::Position;
 use tuning::PositionChange;
@@ -116,6 +117,12 @@ fn period_of(code: u32, sum: Interval) -> PeriodChange
     }
 }
 
+fn retuning_row(retuning: Retuning, from: u32, to: u32) -> Row
+    ensures { λ r. ⌜ r ≡ Row.Retuning retuning from to ⌝ }
+{
+    Row::Retuning { retuning, from, to }
+}
+
 // A row by its form.
 fn row_of(n: Numbers) -> Row
     requires { ⌜ FieldsFit n ⌝ }
@@ -135,26 +142,10 @@ fn row_of(n: Numbers) -> Row
             from,
             to,
         },
-        ANCHOR_FORM => Row::Retuning {
-            retuning: Retuning::Anchor(amount_of(a, b as u16)),
-            from,
-            to,
-        },
-        WIDTH_FORM => Row::Retuning {
-            retuning: Retuning::Width(amount_of(a, b as u16)),
-            from,
-            to,
-        },
-        PERIOD_FORM => Row::Retuning {
-            retuning: Retuning::Period(period_of(a, Interval(n.second))),
-            from,
-            to,
-        },
-        TONES_FORM => Row::Retuning {
-            retuning: Retuning::Tones,
-            from,
-            to,
-        },
+        ANCHOR_FORM => retuning_row(Retuning::Anchor(amount_of(a, b as u16)), from, to),
+        WIDTH_FORM => retuning_row(Retuning::Width(amount_of(a, b as u16)), from, to),
+        PERIOD_FORM => retuning_row(Retuning::Period(period_of(a, Interval(n.second))), from, to),
+        TONES_FORM => retuning_row(Retuning::Tones, from, to),
         LOGIC_FORM => Row::Logic {
             letter: a as u8,
             start: b,
@@ -209,7 +200,7 @@ pub fn system_at(
     let mut s = State {
         anchor,
         width: (to - from) as u8,
-        tones: [Position { tone: Tone::Muted }; 60],
+        tones: [Position { tone: Tone::Muted }; PLACES],
         period,
     };
     let mut i = from;
@@ -230,7 +221,7 @@ pub fn changes_from(kinds: &[u8], changes: &[i32], from: usize, to: usize) -> To
         count: (to - from) as u8,
         positions: [PositionChange {
             change: ToneChange::Mute,
-        }; 60],
+        }; PLACES],
     };
     let mut i = from;
     while i < to {

@@ -1,6 +1,7 @@
 // Rows, tones, changes and orders as numbers of the tables. What does not fit into a table is not written.
 use crate::ABSOLUTE_CODE;
 use crate::ANCHOR_FORM;
+use crate::Counts;
 use crate::DIVIDE_CODE;
 use crate::FRESH_CODE;
 use crate::INTERVAL_FORM;
@@ -31,10 +32,11 @@ use tuning::Retuning;
 use tuning::Tone;
 use tuning::ToneChange;
 ghost use mathlib.Core.Path.{_≡_};
+ghost use mathlib.Core.List.{[], _∷_};
 ghost use Prim.Native.Nat.{_*_, _<_};
-ghost use lib.ListN.{set};
+ghost use lib.ListN.{length, set};
 ghost use lib.Seq.{sets};
-ghost use Rattle.tables.specs.Layout.{amountCode, amountNumber, periodCode, periodSum, retuningNumbers, numbersOf, written, rowWidth, soundingOf, pitchOf, changeCode, changeNumber};
+ghost use Rattle.tables.specs.Layout.{countsSize, numbers, amountCode, amountNumber, periodCode, periodSum, retuningNumbers, numbersOf, written, rowWidth, soundingOf, pitchOf, changeCode, changeNumber};
 ghost use Rattle.tables.specs.Values.{NumbersFit};
 
 fn amount_code(amount: Amount) -> u32
@@ -80,38 +82,35 @@ fn period_sum(change: PeriodChange) -> i32
     }
 }
 
+fn lay_out(form: u32, first: i32, second: i32, from: u32, to: u32) -> Numbers
+    ensures { λ r. ⌜ r ≡ numbers form first second from to ⌝ }
+{
+    Numbers {
+        form,
+        first,
+        second,
+        from,
+        to,
+    }
+}
+
 fn retuning_numbers(retuning: Retuning, from: u32, to: u32) -> Numbers
     ensures { λ r. ⌜ r ≡ retuningNumbers retuning from to ⌝ }
 {
     match retuning {
-        Retuning::Anchor(amount) => Numbers {
-            form: ANCHOR_FORM,
-            first: amount_code(amount) as i32,
-            second: amount_number(amount) as i32,
-            from,
-            to,
-        },
-        Retuning::Width(amount) => Numbers {
-            form: WIDTH_FORM,
-            first: amount_code(amount) as i32,
-            second: amount_number(amount) as i32,
-            from,
-            to,
-        },
-        Retuning::Period(change) => Numbers {
-            form: PERIOD_FORM,
-            first: period_code(change) as i32,
-            second: period_sum(change),
-            from,
-            to,
-        },
-        Retuning::Tones => Numbers {
-            form: TONES_FORM,
-            first: 0,
-            second: 0,
-            from,
-            to,
-        },
+        Retuning::Anchor(amount) => {
+            let code = amount_code(amount) as i32;
+            lay_out(ANCHOR_FORM, code, amount_number(amount) as i32, from, to)
+        }
+        Retuning::Width(amount) => {
+            let code = amount_code(amount) as i32;
+            lay_out(WIDTH_FORM, code, amount_number(amount) as i32, from, to)
+        }
+        Retuning::Period(change) => {
+            let code = period_code(change) as i32;
+            lay_out(PERIOD_FORM, code, period_sum(change), from, to)
+        }
+        Retuning::Tones => lay_out(TONES_FORM, 0, 0, from, to),
     }
 }
 
@@ -120,52 +119,22 @@ fn numbers_of(row: Row) -> Numbers
     ensures { λ r. ⌜ r ≡ numbersOf row ⌝ }
 {
     match row {
-        Row::Unused => Numbers {
-            form: UNUSED_FORM,
-            first: 0,
-            second: 0,
-            from: 0,
-            to: 0,
-        },
-        Row::Interval(d) => Numbers {
-            form: INTERVAL_FORM,
-            first: d.0,
-            second: 0,
-            from: 0,
-            to: 0,
-        },
-        Row::Tone(p) => Numbers {
-            form: TONE_FORM,
-            first: p.0,
-            second: 0,
-            from: 0,
-            to: 0,
-        },
+        Row::Unused => lay_out(UNUSED_FORM, 0, 0, 0, 0),
+        Row::Interval(d) => lay_out(INTERVAL_FORM, d.0, 0, 0, 0),
+        Row::Tone(p) => lay_out(TONE_FORM, p.0, 0, 0, 0),
         Row::System {
             anchor,
             period,
             from,
             to,
-        } => Numbers {
-            form: SYSTEM_FORM,
-            first: anchor.0 as i32,
-            second: period.0,
-            from,
-            to,
-        },
+        } => lay_out(SYSTEM_FORM, anchor.0 as i32, period.0, from, to),
         Row::Retuning { retuning, from, to } => retuning_numbers(retuning, from, to),
         Row::Logic {
             letter,
             start,
             from,
             to,
-        } => Numbers {
-            form: LOGIC_FORM,
-            first: letter as i32,
-            second: start as i32,
-            from,
-            to,
-        },
+        } => lay_out(LOGIC_FORM, letter as i32, start as i32, from, to),
     }
 }
 
@@ -270,4 +239,15 @@ pub fn store_order(letters: &mut [u8], calls: &mut [u16], i: usize, letter: u8, 
 {
     put_byte(letters, i, letter);
     put_call(calls, i, called);
+}
+
+// Stores how many rows, tones, changes and orders are used.
+pub fn store_counts(counts: &mut [u32], used: Counts)
+    requires { ⌜ length (now counts) ≡ countsSize ⌝ }
+    ensures { λ _. ⌜ now (counts .exit) ≡ used .rows ∷ used .tones ∷ used .changes ∷ used .orders ∷ [] ⌝ }
+{
+    counts[0] = used.rows;
+    counts[1] = used.tones;
+    counts[2] = used.changes;
+    counts[3] = used.orders;
 }

@@ -1,3 +1,4 @@
+-- The test of the kind, and then that of the name.
 use borrow.Author.Tests.{eq-eqb, ne-eqb}
 use borrow.Author.Needs.{needs}
 use Rattle.names.proofs.declares.Statement.{statement}

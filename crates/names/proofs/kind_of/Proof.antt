@@ -1,6 +1,6 @@
 -- The remainder picks the kind; from 5 on there is but one.
 use Prim.Native.Nat.{ℕ, zero, suc, _%_, _-_}
-use mathlib.Core.Path.{_≡_, refl, sym}
+use mathlib.Core.Path.{_≡_, refl}
 use native.Mathlib.Omega.{arith}
 use lib.ListN.{getD}
 use Rattle.grammar.specs.declared.Kind.the-variants.{Order}

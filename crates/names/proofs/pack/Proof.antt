@@ -1,3 +1,4 @@
+-- A place of the text leaves room for the kind's number.
 use native.Mathlib.Omega.{arith}
 use Rattle.names.proofs.FirstPass.{kind-few}
 use borrow.Author.Needs.{needs}

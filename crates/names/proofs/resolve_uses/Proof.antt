@@ -1,12 +1,12 @@
 -- The invariant: what has become of the items in front of the present one (`Replacing`). The measure is the items that are left.
-use Prim.Native.Nat.{ℕ, _-_, _<_, min}
-use mathlib.Core.Path.{_≡_, refl, sym, _∙_, ap}
+use Prim.Native.Nat.{_-_, _<_, min}
+use mathlib.Core.Path.{_≡_, sym, _∙_, ap}
 use native.Mathlib.Omega.{arith}
 use borrow.Author.Needs.{needs}
 use lib.ListN.{length, getD, take, length-map, length-take}
 use Rattle.grammar.specs.declared.Item.the-variants.{MutedPosition}
 use Rattle.names.specs.Parts.{part}
-use Rattle.names.specs.Inner.{itemsIn, roleOf, namedOf, kindsIn}
+use Rattle.names.specs.Inner.{itemsIn, roleOf, namedOf}
 use Rattle.names.proofs.Searching.{called-found}
 use Rattle.names.proofs.Held.{length-items-in}
 use Rattle.names.proofs.SecondPass.{Replacing, replacing-none, replacing-all, item-here, replacing-on, replacing-stop, replacing-more}

@@ -43,14 +43,26 @@ cast-amount-of c = omega (arith, second-natural (c .before), fields (c .before) 
 amount-of-requires : tie.Need-amount-of-requires
 amount-of-requires c κs = search needs
 
+retuning-row-requires : tie.Need-retuning-row-requires
+retuning-row-requires c κs = search needs
+
 cast-amount-of-2 : tie.Need-cast-amount-of-2
 cast-amount-of-2 c = omega (arith, second-natural (c .before), fields (c .before) .widthBy (c .match .keys5))
 
 amount-of-requires-2 : tie.Need-amount-of-requires-2
 amount-of-requires-2 c κs = search needs
 
+retuning-row-requires-2 : tie.Need-retuning-row-requires-2
+retuning-row-requires-2 c κs = search needs
+
 period-of-requires : tie.Need-period-of-requires
 period-of-requires c κs = search needs
+
+retuning-row-requires-3 : tie.Need-retuning-row-requires-3
+retuning-row-requires-3 c κs = search needs
+
+retuning-row-requires-4 : tie.Need-retuning-row-requires-4
+retuning-row-requires-4 c κs = search needs
 
 cast-t23 : tie.Need-cast-t23
 cast-t23 c = omega (arith, first-natural (c .before), fields (c .before) .letter (c .match .keys8))
@@ -75,21 +87,21 @@ returns-3 c =
 
 returns-4 : tie.Need-returns-4
 unfolding rowOf
-returns-4 c = rw (c .amount-of .ensures, first-natural (c .before .before), second-natural (c .before .before)) (form-row (c .before .before .before .before .before .before .args .n) 4 (c .before .match .keys4))
+returns-4 c = rw (c .retuning-row .ensures, c .before .amount-of .ensures, first-natural (c .before .before .before), second-natural (c .before .before .before)) (form-row (c .before .before .before .before .before .before .before .args .n) 4 (c .before .before .match .keys4))
 
 returns-5 : tie.Need-returns-5
 unfolding rowOf
-returns-5 c = rw (c .amount-of2 .ensures, first-natural (c .before .before), second-natural (c .before .before)) (form-row (c .before .before .before .before .before .before .args .n) 5 (c .before .match .keys5))
+returns-5 c = rw (c .retuning-row2 .ensures, c .before .amount-of2 .ensures, first-natural (c .before .before .before), second-natural (c .before .before .before)) (form-row (c .before .before .before .before .before .before .before .args .n) 5 (c .before .before .match .keys5))
 
 returns-6 : tie.Need-returns-6
 unfolding rowOf
 returns-6 c =
-    let f = second-fits (c .before .before .before) in
-    rw (simp toZ-ofZ at (c .period-of .ensures), first-natural (c .before .before .before)) (form-row (c .before .before .before .before .before .before .before .args .n) 6 (c .before .before .match .keys6))
+    let f = second-fits (c .before .before .before .before) in
+    rw (c .retuning-row3 .ensures, simp toZ-ofZ at (c .before .period-of .ensures), first-natural (c .before .before .before .before)) (form-row (c .before .before .before .before .before .before .before .before .args .n) 6 (c .before .before .before .match .keys6))
 
 returns-7 : tie.Need-returns-7
 unfolding rowOf
-returns-7 c = form-row (c .before .before .before .before .before .args .n) 7 (c .match .keys7)
+returns-7 c = rw (c .retuning-row4 .ensures) (form-row (c .before .before .before .before .before .before .args .n) 7 (c .before .match .keys7))
 
 returns-8 : tie.Need-returns-8
 unfolding rowOf
@@ -108,9 +120,13 @@ row-of-spec =
     cast-t10
     cast-amount-of
     amount-of-requires
+    retuning-row-requires
     cast-amount-of-2
     amount-of-requires-2
+    retuning-row-requires-2
     period-of-requires
+    retuning-row-requires-3
+    retuning-row-requires-4
     cast-t23
     returns
     returns-2

@@ -20,17 +20,29 @@ start-fits c = subst (λ (r : Row). NumbersFit (numbersOf r)) (c .before .row5 .
 enum-told : tie.Need-enum-told
 enum-told c = search needs
 
+lay-out-requires : tie.Need-lay-out-requires
+lay-out-requires c κs = search needs
+
 enum-known-row : tie.Need-enum-known-row
 enum-known-row c = search needs
+
+lay-out-requires-2 : tie.Need-lay-out-requires-2
+lay-out-requires-2 c κs = search needs
 
 enum-known-row-2 : tie.Need-enum-known-row-2
 enum-known-row-2 c = search needs
 
+lay-out-requires-3 : tie.Need-lay-out-requires-3
+lay-out-requires-3 c κs = search needs
+
 enum-known-row-3 : tie.Need-enum-known-row-3
 enum-known-row-3 c = search needs
 
-cast-t16 : tie.Need-cast-t16
-cast-t16 c = search needs
+cast-lay-out : tie.Need-cast-lay-out
+cast-lay-out c = search needs
+
+lay-out-requires-4 : tie.Need-lay-out-requires-4
+lay-out-requires-4 c κs = search needs
 
 enum-known-row-4 : tie.Need-enum-known-row-4
 enum-known-row-4 c = search needs
@@ -41,53 +53,63 @@ retuning-numbers-requires c κs = search needs
 enum-known-row-5 : tie.Need-enum-known-row-5
 enum-known-row-5 c = search needs
 
-cast-t17 : tie.Need-cast-t17
-cast-t17 c = search needs
+cast-lay-out-2 : tie.Need-cast-lay-out-2
+cast-lay-out-2 c = search needs
 
-cast-t18 : tie.Need-cast-t18
-cast-t18 c = start-fits c
+cast-lay-out-3 : tie.Need-cast-lay-out-3
+cast-lay-out-3 c = start-fits c
+
+lay-out-requires-5 : tie.Need-lay-out-requires-5
+lay-out-requires-5 c κs = search needs
 
 returns : tie.Need-returns
-returns c = rw (c .enum-told .given .1)
+returns c = rw (c .lay-out .ensures, c .before .enum-told .given .1)
 
 returns-2 : tie.Need-returns-2
 returns-2 c =
-    let f : SFits w32 (c .before .before .row .given .0 .0 .0) = search needs in
-    simp (c .before .before .row .given .1, toZ-ofZ)
+    let row = c .before .before .before .row in
+    let f : SFits w32 (row .given .0 .0 .0) = search needs in
+    rw (c .lay-out2 .ensures, row .given .1, toZ-ofZ f)
 
 returns-3 : tie.Need-returns-3
 returns-3 c =
-    let f : SFits w32 (c .before .before .row2 .given .0 .0 .0) = search needs in
-    simp (c .before .before .row2 .given .1, toZ-ofZ)
+    let row = c .before .before .before .row2 in
+    let f : SFits w32 (row .given .0 .0 .0) = search needs in
+    rw (c .lay-out3 .ensures, row .given .1, toZ-ofZ f)
 
 returns-4 : tie.Need-returns-4
 returns-4 c =
-    let row = c .before .before .before .row3 in
+    let row = c .before .before .before .before .row3 in
     let f : SFits w32 (row .given .0 .1 .0 .0) = search needs in
-    rw (row .given .1, toZ-pos w32 (row .given .0 .0 .0) (omega arith), toZ-ofZ f)
+    rw (c .lay-out4 .ensures, row .given .1, toZ-pos w32 (row .given .0 .0 .0) (omega arith), toZ-ofZ f)
 
 returns-5 : tie.Need-returns-5
 returns-5 c = c .retuning-numbers .ensures ∙ sym (ap numbersOf (c .before .before .row4 .given .1))
 
 returns-6 : tie.Need-returns-6
 returns-6 c =
-    let row = c .before .row5 in
-    rw (row .given .1, toZ-pos w32 (row .given .0 .0) (omega arith), toZ-pos w32 (row .given .0 .1 .0) (start-fits c .sfits))
+    let row = c .before .before .row5 in
+    rw (c .lay-out5 .ensures, row .given .1, toZ-pos w32 (row .given .0 .0) (omega arith), toZ-pos w32 (row .given .0 .1 .0) (start-fits (c .before) .sfits))
 
 pub numbers-of-spec : {M : Type 1} → statement M
 numbers-of-spec =
     tie.close
     (tie.spec
     enum-told
+    lay-out-requires
     enum-known-row
+    lay-out-requires-2
     enum-known-row-2
+    lay-out-requires-3
     enum-known-row-3
-    cast-t16
+    cast-lay-out
+    lay-out-requires-4
     enum-known-row-4
     retuning-numbers-requires
     enum-known-row-5
-    cast-t17
-    cast-t18
+    cast-lay-out-2
+    cast-lay-out-3
+    lay-out-requires-5
     returns
     returns-2
     returns-3

@@ -1,0 +1,5 @@
+pub mod Runs
+pub mod Sizes
+pub mod Pools
+pub mod Laws
+pub mod Laid

@@ -1,0 +1,102 @@
+-- What it says that the tables are of full size, and that there is room for as many as are used. Assumes nothing.
+use mathlib.Core.Path.{_≡_, refl, sym, ap, _∙_}
+use mathlib.Core.Bool.{Bool, true, false, cond, _&&_}
+use Prim.Native.Nat.{_*_, _≤_}
+use borrow.Author.Tests.{eqb-true, eq-eqb, leb-true, le-leb}
+use lib.Dec.{eqb, leb}
+use lib.ListN.{length, drop}
+use Rattle.tuning.specs.Desk.{isTone}
+use Rattle.tuning.proofs.Lists.{both}
+use Rattle.tables.specs.declared.Counts.{Counts}
+use Rattle.tables.specs.Layout.{Tables, fullSize, rowWidth, mostRows, mostTones, mostChanges, mostOrders, countsSize, used, soundsCode, setCode}
+use Rattle.validity.specs.Valid.{countsRight, rowsRight, ordersRight, allZero, allNought, poolRight, isSum, validTables}
+
+pub record Sizes (t : Tables) : Type 0 where
+  pub rows : length (t .rows) ≡ rowWidth * mostRows
+  pub sounding : length (t .sounding) ≡ mostTones
+  pub tones : length (t .tones) ≡ mostTones
+  pub kinds : length (t .kinds) ≡ mostChanges
+  pub changes : length (t .changes) ≡ mostChanges
+  pub letters : length (t .letters) ≡ mostOrders
+  pub calls : length (t .calls) ≡ mostOrders
+  pub counts : length (t .counts) ≡ countsSize
+
+pub sizes-of : (t : Tables) → fullSize t ≡ true → Sizes t
+sizes-of t h =
+    let a = both _ (eqb (length (t .counts)) countsSize) h in
+    let b = both _ (eqb (length (t .calls)) mostOrders) (a .0) in
+    let c = both _ (eqb (length (t .letters)) mostOrders) (b .0) in
+    let d = both _ (eqb (length (t .changes)) mostChanges) (c .0) in
+    let e = both _ (eqb (length (t .kinds)) mostChanges) (d .0) in
+    let f = both _ (eqb (length (t .tones)) mostTones) (e .0) in
+    let g = both (eqb (length (t .rows)) (rowWidth * mostRows)) (eqb (length (t .sounding)) mostTones) (f .0) in
+    record {
+      rows = eqb-true _ _ (g .0);
+      sounding = eqb-true _ _ (g .1);
+      tones = eqb-true _ _ (f .1);
+      kinds = eqb-true _ _ (e .1);
+      changes = eqb-true _ _ (d .1);
+      letters = eqb-true _ _ (c .1);
+      calls = eqb-true _ _ (b .1);
+      counts = eqb-true _ _ (a .1);
+    }
+
+pub sizes-is : (t : Tables) → Sizes t → fullSize t ≡ true
+sizes-is t s =
+    simp (
+      eq-eqb (length (t .rows)) (rowWidth * mostRows) (s .rows),
+      eq-eqb (length (t .sounding)) mostTones (s .sounding),
+      eq-eqb (length (t .tones)) mostTones (s .tones),
+      eq-eqb (length (t .kinds)) mostChanges (s .kinds),
+      eq-eqb (length (t .changes)) mostChanges (s .changes),
+      eq-eqb (length (t .letters)) mostOrders (s .letters),
+      eq-eqb (length (t .calls)) mostOrders (s .calls),
+      eq-eqb (length (t .counts)) countsSize (s .counts),
+    )
+
+pub record Room (c : Counts) : Type 0 where
+  pub rows : c .rows ≤ mostRows
+  pub tones : c .tones ≤ mostTones
+  pub changes : c .changes ≤ mostChanges
+  pub orders : c .orders ≤ mostOrders
+
+pub room-of : (c : Counts) → countsRight c ≡ true → Room c
+room-of c h =
+    let a = both _ (leb (c .orders) mostOrders) h in
+    let b = both _ (leb (c .changes) mostChanges) (a .0) in
+    let d = both (leb (c .rows) mostRows) (leb (c .tones) mostTones) (b .0) in
+    record { rows = leb-true _ _ (d .0); tones = leb-true _ _ (d .1); changes = leb-true _ _ (b .1); orders = leb-true _ _ (a .1) }
+
+pub room-is : (c : Counts) → Room c → countsRight c ≡ true
+room-is c r =
+    simp (
+      le-leb (c .rows) mostRows (r .rows),
+      le-leb (c .tones) mostTones (r .tones),
+      le-leb (c .changes) mostChanges (r .changes),
+      le-leb (c .orders) mostOrders (r .orders),
+    )
+
+-- ---- the whole test, for tables of full size that have room for as many as are used
+
+abbrev pub contents : Tables → Counts → Bool
+contents t c =
+    rowsRight (t .rows) c 0 (c .rows) && allZero (drop (rowWidth * c .rows) (t .rows))
+    && poolRight soundsCode isTone (c .tones) (t .sounding) (t .tones) && poolRight setCode isSum (c .changes) (t .kinds) (t .changes)
+    && ordersRight (t .rows) (c .rows) (t .letters) (t .calls) 0 (c .orders) && allNought (drop (c .orders) (t .letters))
+    && allNought (drop (c .orders) (t .calls))
+
+pub valid-contents : (t : Tables) (c : Counts) → fullSize t ≡ true → c ≡ used t → countsRight c ≡ true → contents t c ≡ validTables t
+unfolding validTables
+valid-contents t c e f g = ap (contents t) f ∙ rw (e, ap countsRight (sym f) ∙ g)
+
+pub unsized : (t : Tables) → fullSize t ≡ false → false ≡ validTables t
+unfolding validTables
+unsized t e = rw e
+
+pub crowded : (t : Tables) (c : Counts) → c ≡ used t → countsRight c ≡ false → false ≡ validTables t
+unfolding validTables
+crowded t c f g = rw (ap countsRight (sym f) ∙ g) (either (fullSize t))
+  where
+    either : (b : Bool) → false ≡ cond b false false
+    either true = refl
+    either false = refl

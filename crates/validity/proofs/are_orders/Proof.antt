@@ -1,0 +1,81 @@
+-- `validity::are_orders` meets its contract. The loop's invariant: what was found so far and what is left give the answer. Assumes nothing.
+use mathlib.Core.Bool.{_&&_}
+use mathlib.Core.Path.{_≡_, sym, ap, _∙_}
+use Prim.Native.Nat.{_-_, _≤_}
+use native.Mathlib.Nat.{sub-zero}
+use native.Mathlib.Omega.{arith}
+use borrow.Author.Needs.{needs}
+use Rattle.validity.proofs.Runs.{orders-turn, orders-end}
+use Rattle.validity.specs.Valid.{ordersRight}
+use Rattle.validity.proofs.are_orders.Statement.{statement}
+use Rattle.validity.proofs.are_orders.Tie as tie
+
+abbrev Inv-loop : tie.InvT-loop
+Inv-loop rows letters calls used end ok₀ i₀ ok i =
+    (i ≤ used .orders) × (ok && ordersRight rows (used .rows) letters calls i (used .orders - i) ≡ ordersRight rows (used .rows) letters calls 0 (used .orders))
+
+abbrev μ-loop : tie.MeasureT-loop
+μ-loop rows letters calls used end ok₀ i₀ ok i = used .orders - i
+
+cast-end : tie.Need-cast-end Inv-loop μ-loop
+cast-end c = search needs
+
+loop-holds : tie.Need-loop-holds Inv-loop μ-loop
+loop-holds c =
+    let a = c .before .before .before .args in
+    (omega arith, ap (ordersRight (a .rows .now) (a .used .rows) (a .letters .now) (a .calls .now) 0) (sub-zero (a .used .orders)))
+
+shared-slice-read-letter : tie.Need-shared-slice-read-letter Inv-loop μ-loop
+shared-slice-read-letter c = search needs
+
+mul-called : tie.Need-mul-called Inv-loop μ-loop
+mul-called c = search needs
+
+shared-slice-read-called : tie.Need-shared-slice-read-called Inv-loop μ-loop
+shared-slice-read-called c = search needs
+
+cast-is-form : tie.Need-cast-is-form Inv-loop μ-loop
+cast-is-form c = omega (arith, c .shared-slice-known4 .given (c .before .before .before .loop .i))
+
+is-form-requires : tie.Need-is-form-requires Inv-loop μ-loop
+is-form-requires c κs = search needs
+
+add-i : tie.Need-add-i Inv-loop μ-loop
+add-i c = search needs
+
+loop-less : tie.Need-loop-less Inv-loop μ-loop
+loop-less c = search needs
+
+loop-again : tie.Need-loop-again Inv-loop μ-loop
+loop-again c =
+    let l = c .before .before .before .before in
+    let a = l .before .before .before .before .args in
+    let taken = c .before .before .before .loop-test .taken in (
+      omega (arith, taken),
+      orders-turn (a .rows .now) (a .used .rows) (a .letters .now) (a .calls .now) (l .loop .i) (a .used .orders) (l .loop .ok) (c .is-form .result) taken (c .is-form .ensures)
+          ∙ l .loop .inv .1,
+    )
+
+returns : tie.Need-returns Inv-loop μ-loop
+returns c =
+    let l = c .before in
+    let a = l .before .before .before .before .args in
+    sym (orders-end (a .rows .now) (a .used .rows) (a .letters .now) (a .calls .now) (l .loop .i) (a .used .orders) (l .loop .ok) (c .loop-test .left)) ∙ l .loop .inv .1
+
+pub are-orders-spec : {M : Type 1} → statement M
+are-orders-spec =
+    tie.close
+    (tie.spec
+    Inv-loop
+    μ-loop
+    cast-end
+    loop-holds
+    shared-slice-read-letter
+    mul-called
+    shared-slice-read-called
+    cast-is-form
+    is-form-requires
+    add-i
+    loop-less
+    loop-again
+    returns)

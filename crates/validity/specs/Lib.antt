@@ -1,0 +1,2 @@
+-- Which tables are valid.
+pub mod Valid

@@ -1,0 +1,324 @@
+// Whether tables are valid. It is tested at every frame: the runs have no early way out, so that they go many numbers at a time.
+use tables::ANCHOR_FORM;
+use tables::CHANGES;
+use tables::Counts;
+use tables::DIVIDE_CODE;
+use tables::FRESH_CODE;
+use tables::INTERVAL_FORM;
+use tables::KEPT_CODE;
+use tables::LOGIC_FORM;
+use tables::MINUS_CODE;
+use tables::Numbers;
+use tables::ONWARD_CODE;
+use tables::ORDERS;
+use tables::PERIOD_FORM;
+use tables::ROW_WIDTH;
+use tables::ROWS;
+use tables::SET_CODE;
+use tables::SOUNDS_CODE;
+use tables::SYSTEM_FORM;
+use tables::TONE_FORM;
+use tables::TONES;
+use tables::TONES_FORM;
+use tables::WIDTH_FORM;
+use tables::decode;
+use tables::has_full_size;
+use tuning::PLACES;
+ghost use mathlib.Core.Path.{_≡_};
+ghost use Prim.Native.Nat.{_+_, _*_, _≤_};
+ghost use lib.ListN.{length, drop, take};
+ghost use Rattle.tuning.specs.Desk.{between, isTone};
+ghost use Rattle.tables.specs.Layout.{divideCode, soundsCode, setCode};
+ghost use Rattle.validity.specs.Valid.{countsRight, isZero, isSum, isAmount, isPart, noPart, isForm, isStart, rowRight, hasNaturals, rowsRight, ordersRight, eachRight, allZero, allNought, poolRight, validTables};
+
+const FARTHEST_TONE: i32 = 100_000_000;
+
+const LONGEST_PERIOD: i32 = 12_000_000;
+
+const HIGHEST_KEY: i32 = 127;
+
+const FARTHEST_SUM: i32 = 200_000_001;
+
+const MOST_AMOUNT: i32 = 9_999;
+
+const LETTER_A: u8 = b'A';
+
+const LETTER_Z: u8 = b'Z';
+
+fn is_between(low: i32, high: i32, z: i32) -> bool
+    ensures { λ r. ⌜ r ≡ between low high z ⌝ }
+{
+    (low <= z) & (z <= high)
+}
+
+fn is_tone(z: i32) -> bool
+    ensures { λ r. ⌜ r ≡ isTone z ⌝ }
+{
+    is_between(-FARTHEST_TONE, FARTHEST_TONE, z)
+}
+
+fn is_zero(z: i32) -> bool
+    ensures { λ r. ⌜ r ≡ isZero z ⌝ }
+{
+    is_between(0, 0, z)
+}
+
+// A kind of anchor or width up to `last`, and its n.
+fn is_amount(last: u32, code: i32, n: i32) -> bool
+    requires { ⌜ last ≤ divideCode ⌝ }
+    ensures { λ r. ⌜ r ≡ isAmount last code n ⌝ }
+{
+    let known = is_between(KEPT_CODE as i32, last as i32, code);
+    let whole = is_between(0, MOST_AMOUNT, n);
+    let bare = !(code <= KEPT_CODE as i32) | (n <= 0);
+    let divided = !(DIVIDE_CODE as i32 <= code) | (1 <= n);
+    known & whole & bare & divided
+}
+
+// From `least` to `most` of them, within the first `count`.
+fn is_part(least: u32, most: u32, count: u32, from: u32, to: u32) -> bool
+    ensures { λ r. ⌜ r ≡ isPart least most count from to ⌝ }
+{
+    let start = from as u64;
+    let end = to as u64;
+    (start + least as u64 <= end) & (end <= start + most as u64) & (to <= count)
+}
+
+fn is_nothing(from: u32, to: u32) -> bool
+    ensures { λ r. ⌜ r ≡ noPart from to ⌝ }
+{
+    (from == 0) & (to == 0)
+}
+
+// Whether declaration i is one of the first `count` rows, and has a form from `low` to `high`.
+fn is_form(rows: &[i32], count: u32, low: u32, high: u32, i: u32) -> bool
+    ensures { λ r. ⌜ r ≡ isForm (now (rows .entry)) count low high i ⌝ }
+{
+    let form = decode::natural(decode::number_at(rows, ROW_WIDTH * i as usize));
+    (i < count) & (low <= form) & (form <= high)
+}
+
+// No start, or a tone system or retuning.
+fn is_start(rows: &[i32], count: u32, start: i32) -> bool
+    ensures { λ r. ⌜ r ≡ isStart (now (rows .entry)) count start ⌝ }
+{
+    if start <= 0 {
+        return 0 <= start;
+    }
+    is_form(rows, count, SYSTEM_FORM, TONES_FORM, (start - 1) as u32)
+}
+
+fn is_row(rows: &[i32], used: Counts, n: Numbers) -> bool
+    ensures { λ r. ⌜ r ≡ rowRight (now (rows .entry)) used n ⌝ }
+{
+    let form = n.form;
+    match form {
+        INTERVAL_FORM => is_tone(n.first) & is_zero(n.second) & is_nothing(n.from, n.to),
+        TONE_FORM => is_tone(n.first) & is_zero(n.second) & is_nothing(n.from, n.to),
+        SYSTEM_FORM => {
+            is_between(0, HIGHEST_KEY, n.first)
+                & is_between(0, LONGEST_PERIOD, n.second)
+                & is_part(1, PLACES as u32, used.tones, n.from, n.to)
+        }
+        ANCHOR_FORM => is_amount(MINUS_CODE, n.first, n.second) & is_nothing(n.from, n.to),
+        WIDTH_FORM => is_amount(DIVIDE_CODE, n.first, n.second) & is_nothing(n.from, n.to),
+        PERIOD_FORM => {
+            is_between(FRESH_CODE as i32, ONWARD_CODE as i32, n.first)
+                & is_between(-FARTHEST_SUM, FARTHEST_SUM, n.second)
+                & is_nothing(n.from, n.to)
+        }
+        TONES_FORM => {
+            is_zero(n.first)
+                & is_zero(n.second)
+                & is_part(1, PLACES as u32, used.changes, n.from, n.to)
+        }
+        LOGIC_FORM => {
+            is_between(LETTER_A as i32, LETTER_Z as i32, n.first)
+                & is_start(rows, used.rows, n.second)
+                & is_part(0, ORDERS as u32, used.orders, n.from, n.to)
+        }
+        _ => false,
+    }
+}
+
+// Whether the form and the bounds of row i are not negative.
+fn has_naturals(rows: &[i32], i: u32) -> bool
+    ensures { λ r. ⌜ r ≡ hasNaturals (now (rows .entry)) i ⌝ }
+{
+    let at = ROW_WIDTH * i as usize;
+    let form = decode::number_at(rows, at);
+    let from = decode::number_at(rows, at + 3);
+    let to = decode::number_at(rows, at + 4);
+    (0 <= form) & (0 <= from) & (0 <= to)
+}
+
+// Whether the used rows are right.
+fn are_rows(rows: &[i32], used: Counts) -> bool
+    ensures { λ r. ⌜ r ≡ rowsRight (now (rows .entry)) used 0 (used .rows) ⌝ }
+{
+    let end = used.rows;
+    let mut ok = true;
+    let mut i: u32 = 0;
+    while i < end {
+        let natural = has_naturals(rows, i);
+        let right = is_row(rows, used, decode::numbers_at(rows, i as usize));
+        ok = ok & (natural & right);
+        i += 1;
+    }
+    ok
+}
+
+// Whether the first `used` have a kind up to `last` and a number in its range, 0 where the kind is 0.
+fn are_in_range(kinds: &[u8], numbers: &[i32], used: usize, last: u8, low: i32, high: i32) -> bool
+    requires { ⌜ (used ≤ length (now kinds)) × (used ≤ length (now numbers)) ⌝ }
+    ensures { λ r. ⌜ r ≡ eachRight last (between low high) (take used (now (kinds .entry))) (take used (now (numbers .entry))) ⌝ }
+{
+    let mut ok = true;
+    let mut i: usize = 0;
+    while i < used {
+        let k = kinds[i];
+        let z = numbers[i];
+        ok = ok & ((k <= last) & ((low <= z) & (z <= high)) & ((k != 0) | ((0 <= z) & (z <= 0))));
+        i += 1;
+    }
+    ok
+}
+
+// Whether the numbers from `from` on are zero.
+fn are_zero_numbers(table: &[i32], from: usize) -> bool
+    ensures { λ r. ⌜ r ≡ allZero (drop from (now (table .entry))) ⌝ }
+{
+    let mut ok = true;
+    let mut i = from;
+    while i < table.len() {
+        let z = table[i];
+        ok = ok & ((0 <= z) & (z <= 0));
+        i += 1;
+    }
+    ok
+}
+
+fn are_zero_bytes(table: &[u8], from: usize) -> bool
+    ensures { λ r. ⌜ r ≡ allNought (drop from (now (table .entry))) ⌝ }
+{
+    let mut ok = true;
+    let mut i = from;
+    while i < table.len() {
+        let b = table[i];
+        ok = ok & (b == 0);
+        i += 1;
+    }
+    ok
+}
+
+fn are_zero_calls(table: &[u16], from: usize) -> bool
+    ensures { λ r. ⌜ r ≡ allNought (drop from (now (table .entry))) ⌝ }
+{
+    let mut ok = true;
+    let mut i = from;
+    while i < table.len() {
+        let called = table[i];
+        ok = ok & (called == 0);
+        i += 1;
+    }
+    ok
+}
+
+// Whether the used ones are in their range, and the others zero.
+fn is_pool(kinds: &[u8], numbers: &[i32], used: usize, last: u8, low: i32, high: i32) -> bool
+    requires { ⌜ (used ≤ length (now kinds)) × (used ≤ length (now numbers)) ⌝ }
+    ensures { λ r. ⌜ r ≡ poolRight last (between low high) used (now (kinds .entry)) (now (numbers .entry)) ⌝ }
+{
+    let ranged = are_in_range(kinds, numbers, used, last, low, high);
+    let kinds_rest = are_zero_bytes(kinds, used);
+    let numbers_rest = are_zero_numbers(numbers, used);
+    ranged & kinds_rest & numbers_rest
+}
+
+fn are_tones(sounding: &[u8], tones: &[i32], used: usize) -> bool
+    requires { ⌜ (used ≤ length (now sounding)) × (used ≤ length (now tones)) ⌝ }
+    ensures { λ r. ⌜ r ≡ poolRight soundsCode isTone used (now (sounding .entry)) (now (tones .entry)) ⌝ }
+{
+    is_pool(
+        sounding,
+        tones,
+        used,
+        SOUNDS_CODE,
+        -FARTHEST_TONE,
+        FARTHEST_TONE,
+    )
+}
+
+fn are_changes(kinds: &[u8], changes: &[i32], used: usize) -> bool
+    requires { ⌜ (used ≤ length (now kinds)) × (used ≤ length (now changes)) ⌝ }
+    ensures { λ r. ⌜ r ≡ poolRight setCode isSum used (now (kinds .entry)) (now (changes .entry)) ⌝ }
+{
+    is_pool(kinds, changes, used, SET_CODE, -FARTHEST_SUM, FARTHEST_SUM)
+}
+
+// Whether the used orders are right.
+fn are_orders(rows: &[i32], letters: &[u8], calls: &[u16], used: Counts) -> bool
+    requires { ⌜ (used .orders ≤ length (now letters)) × (used .orders ≤ length (now calls)) ⌝ }
+    ensures { λ r. ⌜ r ≡ ordersRight (now (rows .entry)) (used .rows) (now (letters .entry)) (now (calls .entry)) 0 (used .orders) ⌝ }
+{
+    let end = used.orders as usize;
+    let mut ok = true;
+    let mut i: usize = 0;
+    while i < end {
+        let letter = letters[i];
+        let called = calls[i];
+        let known = is_form(rows, used.rows, SYSTEM_FORM, LOGIC_FORM, called as u32);
+        ok = ok & ((LETTER_A <= letter) & (letter <= LETTER_Z) & known);
+        i += 1;
+    }
+    ok
+}
+
+// Whether there is room for so many.
+fn are_counts(used: Counts) -> bool
+    ensures { λ r. ⌜ r ≡ countsRight used ⌝ }
+{
+    (used.rows <= ROWS as u32)
+        & (used.tones <= TONES as u32)
+        & (used.changes <= CHANGES as u32)
+        & (used.orders <= ORDERS as u32)
+}
+
+// Whether every number of the tables is in its range, every reference within its count, and every unused place zero.
+pub fn valid_tables(
+    rows: &[i32],
+    sounding: &[u8],
+    tones: &[i32],
+    kinds: &[u8],
+    changes: &[i32],
+    letters: &[u8],
+    calls: &[u16],
+    counts: &[u32],
+) -> bool
+    ensures { λ r. ⌜ r ≡ validTables (record { rows = now (rows .entry); sounding = now (sounding .entry); tones = now (tones .entry); kinds = now (kinds .entry); changes = now (changes .entry); letters = now (letters .entry); calls = now (calls .entry); counts = now (counts .entry) }) ⌝ }
+{
+    if !has_full_size(
+        rows,
+        sounding,
+        tones,
+        kinds,
+        changes,
+        letters,
+        calls,
+        counts,
+    ) {
+        return false;
+    }
+    let used = Counts::read(counts);
+    if !are_counts(used) {
+        return false;
+    }
+    let order_count = used.orders as usize;
+    are_rows(rows, used)
+        & are_zero_numbers(rows, ROW_WIDTH * used.rows as usize)
+        & are_tones(sounding, tones, used.tones as usize)
+        & are_changes(kinds, changes, used.changes as usize)
+        & are_orders(rows, letters, calls, used)
+        & are_zero_bytes(letters, order_count)
+        & are_zero_calls(calls, order_count)
+}
