@@ -5,7 +5,7 @@ use mathlib.Core.Option.{Option, some, none}
 use Prim.Native.Nat.{ℕ, zero, suc, _+_, _-_, _*_}
 use lib.IntN.{ℤ, pos, negsuc, _+ℤ_, _*ℤ_}
 use lib.Signed.{leZ}
-use lib.ListN.{length, replicate}
+use lib.ListN.{length}
 use Rattle.values.specs.Values.{Term, weight}
 use Rattle.tuning.specs.declared.ToneChange.{ToneChange}
 use Rattle.tuning.specs.declared.ToneChange.the-variants.{Mute, Move, Set}
@@ -15,7 +15,7 @@ use Rattle.tuning.specs.declared.PeriodChange.the-variants.{Fresh, Onward}
 use Rattle.tuning.specs.declared.Retuning.the-variants.{Anchor, Width, Period, Tones}
 use Rattle.tables.specs.declared.Row.{Row}
 use Rattle.tables.specs.declared.Row.the-variants as row
-use Rattle.tables.specs.Layout.{mostRows, rowWidth, mostTones, mostChanges, mostOrders, numbersOf, written, soundingOf, pitchOf, changeCode, changeNumber}
+use Rattle.tables.specs.Layout.{mostRows, rowWidth, mostTones, mostChanges, mostOrders, writtenAll, full, soundingOf, pitchOf, changeCode, changeNumber}
 use Rattle.tables.specs.Layout as layout
 use Rattle.program.specs.Program.{Declaration, ratio, root, sequence, frequency, from, system, anchor, width, freshPeriod, onwardPeriod, tones, logic, Placed, Program, Position, mute, same, named, Order}
 use Rattle.program.specs.Meaning.{valueOf}
@@ -121,14 +121,6 @@ filledFrom value i t c o (d ∷ ds) =
     let os = ordersOf (d .is) in
     let rest = filledFrom value (suc i) (t + length ts) (c + length cs) (o + length os) ds in
     record { rows = rowOf value i t c o (d .is) ∷ rest .rows; tones = ts ++ rest .tones; changes = cs ++ rest .changes; orders = os ++ rest .orders }
-
--- a list with zeros after it, to the full size
-abbrev pub full : {A : Type 0} → A → ℕ → List A → List A
-full nought size l = l ++ replicate (size - length l) nought
-
-unfoldable pub writtenAll : List Row → List ℤ
-writtenAll [] = []
-writtenAll (r ∷ rs) = written (numbersOf r) ++ writtenAll rs
 
 abbrev pub laidOut : Filled → layout.Tables
 laidOut f = record {
