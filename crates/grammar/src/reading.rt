@@ -159,7 +159,7 @@ pub fn read_items(text: &[u8], items: &mut [u32]) -> Reading
     let mut at = 0;
     let mut count = 0;
     loop {
-        let x = place_symbol(text, symbols::next_symbol(text, at));
+        let x = place_symbol(text, reader::find_symbol(text, at));
         at = x.end as usize;
         match step(text, s, x) {
             Outcome::Refuse { number, place } => return Reading {

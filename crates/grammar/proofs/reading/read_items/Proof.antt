@@ -23,11 +23,11 @@ begin-requires c κs = search needs
 loop-holds : tie.Need-loop-holds Inv-loop μ-loop
 loop-holds c = stands-first _ _ (c .before .if1 .left) (c .before .before .before .before .pre) (c .begin .ensures)
 
-next-symbol-requires : tie.Need-next-symbol-requires Inv-loop μ-loop
-next-symbol-requires c κs = search needs
+find-symbol-requires : tie.Need-find-symbol-requires Inv-loop μ-loop
+find-symbol-requires c κs = search needs
 
 place-symbol-requires : tie.Need-place-symbol-requires Inv-loop μ-loop
-place-symbol-requires c κs = places-fit (c .before .loop .inv) (c .next-symbol .ensures)
+place-symbol-requires c κs = places-fit (c .before .loop .inv) (c .find-symbol .ensures)
 
 cast-at : tie.Need-cast-at Inv-loop μ-loop
 cast-at c = search needs
@@ -44,7 +44,7 @@ same-length c = kept (c .before .before .before .before .before .before .before 
 returns-2 : tie.Need-returns-2 Inv-loop μ-loop
 returns-2 c =
     let d = c .before .before .before in
-    refused (d .before .before .before .before .loop .inv) (d .before .before .before .next-symbol .ensures) (d .before .before .place-symbol .ensures) (d .step .ensures) (c .before .number .given .1)
+    refused (d .before .before .before .before .loop .inv) (d .before .before .before .find-symbol .ensures) (d .before .before .place-symbol .ensures) (d .step .ensures) (c .before .number .given .1)
 
 enum-known-next : tie.Need-enum-known-next Inv-loop μ-loop
 enum-known-next c = search needs
@@ -55,17 +55,17 @@ same-length-2 c = kept (c .before .before .before .before .before .before .befor
 returns-3 : tie.Need-returns-3 Inv-loop μ-loop
 returns-3 c =
     let d = c .before .before .before .before .before in
-    finished (d .before .before .before .before .loop .inv) (d .before .before .before .next-symbol .ensures) (d .before .before .place-symbol .ensures) (d .step .ensures) (c .before .before .before .next .given .1) (c .if2 .taken)
+    finished (d .before .before .before .before .loop .inv) (d .before .before .before .find-symbol .ensures) (d .before .before .place-symbol .ensures) (d .step .ensures) (c .before .before .before .next .given .1) (c .if2 .taken)
 
 loop-less : tie.Need-loop-less Inv-loop μ-loop
 loop-less c =
     let d = c .before .before .before .before .before in
-    goes-on (d .before .before .before .before .loop .inv) (d .before .before .before .next-symbol .ensures) (d .before .before .place-symbol .ensures) (d .step .ensures) (c .before .before .before .next .given .1) (c .if2 .left) .0
+    goes-on (d .before .before .before .before .loop .inv) (d .before .before .before .find-symbol .ensures) (d .before .before .place-symbol .ensures) (d .step .ensures) (c .before .before .before .next .given .1) (c .if2 .left) .0
 
 loop-again : tie.Need-loop-again Inv-loop μ-loop
 loop-again c =
     let d = c .before .before .before .before .before in
-    goes-on (d .before .before .before .before .loop .inv) (d .before .before .before .next-symbol .ensures) (d .before .before .place-symbol .ensures) (d .step .ensures) (c .before .before .before .next .given .1) (c .if2 .left) .1
+    goes-on (d .before .before .before .before .loop .inv) (d .before .before .before .find-symbol .ensures) (d .before .before .place-symbol .ensures) (d .step .ensures) (c .before .before .before .next .given .1) (c .if2 .left) .1
 
 enum-known-next-2 : tie.Need-enum-known-next-2 Inv-loop μ-loop
 enum-known-next-2 c = search needs
@@ -79,12 +79,12 @@ add-count c = let st = c .before .before .before .before .before .before .before
 loop-less-2 : tie.Need-loop-less-2 Inv-loop μ-loop
 loop-less-2 c =
     let d = c .before .before .before .before .before .before .before in
-    gives (d .before .before .before .before .loop .inv) (d .before .before .before .next-symbol .ensures) (d .before .before .place-symbol .ensures) (d .step .ensures) (c .before .before .before .before .before .next2 .given .1) (c .before .before .store-item .ensures) .0
+    gives (d .before .before .before .before .loop .inv) (d .before .before .before .find-symbol .ensures) (d .before .before .place-symbol .ensures) (d .step .ensures) (c .before .before .before .before .before .next2 .given .1) (c .before .before .store-item .ensures) .0
 
 loop-again-2 : tie.Need-loop-again-2 Inv-loop μ-loop
 loop-again-2 c =
     let d = c .before .before .before .before .before .before .before in
-    gives (d .before .before .before .before .loop .inv) (d .before .before .before .next-symbol .ensures) (d .before .before .place-symbol .ensures) (d .step .ensures) (c .before .before .before .before .before .next2 .given .1) (c .before .before .store-item .ensures) .1
+    gives (d .before .before .before .before .loop .inv) (d .before .before .before .find-symbol .ensures) (d .before .before .place-symbol .ensures) (d .step .ensures) (c .before .before .before .before .before .next2 .given .1) (c .before .before .store-item .ensures) .1
 
 pub read-items-spec : {M : Type 1} → statement M
 read-items-spec =
@@ -95,7 +95,7 @@ read-items-spec =
     returns
     begin-requires
     loop-holds
-    next-symbol-requires
+    find-symbol-requires
     place-symbol-requires
     cast-at
     step-requires

@@ -1,0 +1,2 @@
+-- Document 01, section "Frames": what an answer's line says.
+pub mod Answer
