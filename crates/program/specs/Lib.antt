@@ -1,6 +1,7 @@
 -- What a text declares, and which texts are accepted.
 pub mod Program
 pub mod Meaning
+pub mod Allowed
 pub mod Text
 pub mod CaseS
 pub mod Verdicts

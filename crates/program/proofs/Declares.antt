@@ -1,0 +1,281 @@
+-- What stands after a declared name, with numbers in the place of names: which declaration it is, and that its numbers are allowed.
+use mathlib.Core.Path.{_≡_, refl, sym, _∙_, ap, subst}
+use mathlib.Core.List.{List, [], _∷_, _++_}
+use mathlib.Core.Option.{none}
+use Prim.Native.Nat.{ℕ, suc, _+_, _≤_}
+use native.Mathlib.Omega.{arith}
+use lib.ListN.{length}
+use Rattle.grammar.specs.declared.Kind.{Kind}
+use Rattle.grammar.specs.declared.Item.{Item}
+use Rattle.grammar.specs.declared.Item.the-variants as item
+use Rattle.grammar.specs.Reading.{mostTerms}
+use Rattle.names.specs.Parts as parts
+use Rattle.names.specs.Parts.{Part, declares, gives, uses, says, part}
+use Rattle.names.specs.Names.{Named, namedBy, declared, meant}
+use Rattle.program.specs.Program.{Declaration, sequence, system, freshPeriod, tones, logic, Program}
+use Rattle.program.specs.Program.{termThen, termsOf, placesOf, grouped, ordersOf, startOf, periodOf, declarationOf, upTo, partsOf, programThen, programOf}
+use Rattle.program.specs.Allowed.{kindOf, Refers, Each, FitTerm, Terms, FitPlace, FitPosition, FitStart, FitOrder, Fits, orderCount}
+use Rattle.program.proofs.Formed.{TermItems, no-term, add-term, subtract-term, PlaceItems, no-place, muted-place, tone-place}
+use Rattle.program.proofs.Formed.{PositionItems, no-position, muted-position, kept-position, tone-position}
+use Rattle.program.proofs.Formed.{StartItems, no-start, a-start, OrderItems, no-order, an-order, Some, something}
+use Rattle.program.proofs.Formed.{Body, a-ratio, a-root, a-sequence, a-frequency, from-tone, a-system, a-tones, a-logic}
+use Rattle.program.proofs.Formed.{anchor-kept, anchor-to, anchor-up, anchor-down, fresh-period, onward-period}
+use Rattle.program.proofs.Formed.{width-kept, width-to, width-up, width-down, width-times, width-over}
+use Rattle.program.proofs.Formed.{orderPart, orderItems}
+
+-- ---- items inside of a declaration: no declared name, and n orders
+
+abbrev Plain : Part → Type 0
+Plain (declares k p) = ⊥
+Plain (gives g a b) = Unit
+Plain (says m) = Unit
+Plain (uses parts.add f n) = Unit
+Plain (uses parts.subtract f n) = Unit
+Plain (uses parts.base f n) = Unit
+Plain (uses parts.position f n) = Unit
+Plain (uses parts.start f n) = Unit
+Plain (uses parts.order c n) = ⊥
+
+pub data Inside : ℕ → List Item → Type 0 where
+  no-item : Inside 0 []
+  plain : {n : ℕ} {i : Item} {is : List Item} → Plain (part i) → Inside n is → Inside n (i ∷ is)
+  one-order : {n c q : ℕ} {is : List Item} → Inside n is → Inside (suc n) (item.Order c q ∷ is)
+
+before : {n : ℕ} {xs ys : List Item} → Inside 0 xs → Inside n ys → Inside n (xs ++ ys)
+before no-item w = w
+before (plain h v) w = plain h (before v w)
+
+-- in each of the four ways in which items are read, a plain item adds nothing but itself
+module _ (i : Item) (xs ys : List Item) (ds : Program) (ns : List Named) (n : ℕ) where
+  plain-item : (q : Part) → Plain q → (upTo q i xs ≡ i ∷ xs) × (programThen q ys ds ≡ ds) × (namedBy q ns ≡ ns) × (orderPart q n ≡ n)
+  plain-item (declares k p) h = absurd h
+  plain-item (gives g a b) h = (refl, refl, refl, refl)
+  plain-item (says m) h = (refl, refl, refl, refl)
+  plain-item (uses parts.add a p) h = (refl, refl, refl, refl)
+  plain-item (uses parts.subtract a p) h = (refl, refl, refl, refl)
+  plain-item (uses parts.base a p) h = (refl, refl, refl, refl)
+  plain-item (uses parts.position a p) h = (refl, refl, refl, refl)
+  plain-item (uses parts.start a p) h = (refl, refl, refl, refl)
+  plain-item (uses parts.order c p) h = absurd h
+
+-- what stands behind them is read as if it stood alone
+pub record Passed (n : ℕ) (is rest : List Item) : Type 0 where
+  pub these : partsOf (is ++ rest) ≡ is ++ partsOf rest
+  pub program : programOf (is ++ rest) ≡ programOf rest
+  pub names : declared (is ++ rest) ≡ declared rest
+  pub orders : orderItems (is ++ rest) ≡ n + orderItems rest
+
+pub passed : {n : ℕ} {is : List Item} (rest : List Item) → Inside n is → Passed n is rest
+unfolding partsOf programOf declared orderItems
+passed rest no-item = record { these = refl; program = refl; names = refl; orders = omega arith }
+passed rest (plain {i} {is} h w) =
+    let p = passed rest w in
+    let l = plain-item i (partsOf (is ++ rest)) (is ++ rest) (programOf (is ++ rest)) (declared (is ++ rest)) (orderItems (is ++ rest)) (part i) h in
+    record { these = l .0 ∙ ap (λ xs. i ∷ xs) (p .these); program = l .1 ∙ p .program; names = l .2 ∙ p .names; orders = l .3 ∙ p .orders }
+passed rest (one-order {c} {q} w) =
+    let p = passed rest w in
+    record { these = ap (λ xs. item.Order c q ∷ xs) (p .these); program = p .program; names = p .names; orders = ap suc (p .orders) ∙ omega arith }
+
+terms-inside : {n : ℕ} {is : List Item} → TermItems n is → Inside 0 is
+terms-inside no-term = no-item
+terms-inside (add-term h w) = plain tt (terms-inside w)
+terms-inside (subtract-term h w) = plain tt (terms-inside w)
+
+places-inside : {n : ℕ} {is : List Item} → PlaceItems n is → Inside 0 is
+places-inside no-place = no-item
+places-inside (muted-place w) = plain tt (places-inside w)
+places-inside (tone-place w) = plain tt (places-inside w)
+
+positions-inside : {n : ℕ} {is : List Item} → PositionItems n is → Inside 0 is
+positions-inside no-position = no-item
+positions-inside (muted-position w) = plain tt (positions-inside w)
+positions-inside (kept-position t w) = plain tt (before (terms-inside t) (positions-inside w))
+positions-inside (tone-position t w) = plain tt (before (terms-inside t) (positions-inside w))
+
+start-inside : {is : List Item} → StartItems is → Inside 0 is
+start-inside no-start = no-item
+start-inside a-start = plain tt no-item
+
+orders-inside : {is : List Item} → OrderItems is → Inside (length (ordersOf is)) is
+unfolding ordersOf
+orders-inside no-order = no-item
+orders-inside (an-order c w) = one-order (orders-inside w)
+
+-- ---- what is read out of the parts of a body
+
+sequence-of : {n : ℕ} {is : List Item} → TermItems n is → declarationOf is ≡ sequence (termsOf is)
+unfolding termsOf
+sequence-of no-term = refl
+sequence-of (add-term h w) = refl
+sequence-of (subtract-term h w) = refl
+
+period-of : {n : ℕ} {is : List Item} → TermItems n is → periodOf is ≡ freshPeriod (termsOf is)
+unfolding termsOf
+period-of no-term = refl
+period-of (add-term h w) = refl
+period-of (subtract-term h w) = refl
+
+tones-of : {n : ℕ} {is : List Item} → PositionItems n is → Some is → declarationOf is ≡ tones (grouped is .positions)
+tones-of (muted-position w) something = refl
+tones-of (kept-position t w) something = refl
+tones-of (tone-position t w) something = refl
+
+-- a tone system: positions, and then the terms of its period
+period-after : {n : ℕ} {is : List Item} (ts : List Item) → PlaceItems n is → termsOf (is ++ ts) ≡ termsOf ts
+unfolding termsOf
+period-after ts no-place = refl
+period-after ts (muted-place w) = period-after ts w
+period-after ts (tone-place w) = period-after ts w
+
+no-places : {n : ℕ} {is : List Item} → TermItems n is → placesOf is ≡ []
+unfolding placesOf
+no-places no-term = refl
+no-places (add-term h w) = no-places w
+no-places (subtract-term h w) = no-places w
+
+-- a tones retuning: each position, and then its terms
+none-before : {n : ℕ} {is : List Item} → PositionItems n is → grouped is .before ≡ []
+unfolding grouped
+none-before no-position = refl
+none-before (muted-position w) = refl
+none-before (kept-position t w) = refl
+none-before (tone-position t w) = refl
+
+terms-before : {m n : ℕ} {ts is : List Item} → TermItems m ts → PositionItems n is
+    → (grouped (ts ++ is) .before ≡ termsOf ts) × (grouped (ts ++ is) .positions ≡ grouped is .positions)
+unfolding grouped termsOf
+terms-before no-term v = (none-before v, refl)
+terms-before (add-term {f} {q} h w) v = let t = terms-before w v in (ap (termThen (uses parts.add f q)) (t .0), t .1)
+terms-before (subtract-term {f} {q} h w) v = let t = terms-before w v in (ap (termThen (uses parts.subtract f q)) (t .0), t .1)
+
+-- a logic: its start, and then its orders
+no-start-in : {is : List Item} → OrderItems is → startOf is ≡ none
+unfolding startOf
+no-start-in no-order = refl
+no-start-in (an-order c w) = no-start-in w
+
+orders-after : {is : List Item} (os : List Item) → StartItems is → ordersOf (is ++ os) ≡ ordersOf os
+unfolding ordersOf
+orders-after os no-start = refl
+orders-after os a-start = refl
+
+-- ---- what is read out is allowed, where the numbers in the place of names refer to declarations of p
+
+module _ (p : Program) where
+  abbrev pub Refer : Part → Type 0
+  Refer (declares k q) = Unit
+  Refer (gives g a b) = Unit
+  Refer (uses u a n) = Refers p (meant u) n
+  Refer (says m) = Unit
+
+  abbrev pub AllRefer : List Item → Type 0
+  AllRefer is = Each (λ (i : Item). Refer (part i)) is
+
+  pub both : (xs ys : List Item) → AllRefer (xs ++ ys) → AllRefer xs × AllRefer ys
+  both [] ys w = (tt, w)
+  both (x ∷ xs) ys w = let v = both xs ys (w .1) in ((w .0, v .0), v .1)
+
+  terms-each : {n : ℕ} {is : List Item} → TermItems n is → AllRefer is → (length (termsOf is) ≤ n) × Each (FitTerm p) (termsOf is)
+  unfolding termsOf
+  terms-each no-term r = (omega arith, tt)
+  terms-each (add-term h w) r = let t = terms-each w (r .1) in (omega arith, (record { factor = h; of = r .0 }, t .1))
+  terms-each (subtract-term h w) r = let t = terms-each w (r .1) in (omega arith, (record { factor = h; of = r .0 }, t .1))
+
+  terms-fit : {is : List Item} → TermItems mostTerms is → AllRefer is → Terms p (termsOf is)
+  terms-fit w r = let t = terms-each w r in record { few = t .0; each = t .1 }
+
+  module _ {m : ℕ} {ts : List Item} (t : TermItems m ts) where
+    places-each : {n : ℕ} {is : List Item} → PlaceItems n is → AllRefer is
+        → (length (placesOf (is ++ ts)) ≤ n) × Each (FitPlace p) (placesOf (is ++ ts))
+    unfolding placesOf
+    places-each no-place r = rw (no-places t) (omega arith, tt)
+    places-each (muted-place w) r = let l = places-each w (r .1) in (omega arith, (tt, l .1))
+    places-each (tone-place w) r = let l = places-each w (r .1) in (omega arith, (r .0, l .1))
+
+    some-place : {n : ℕ} {is : List Item} → PlaceItems n is → Some is → 1 ≤ length (placesOf (is ++ ts))
+    unfolding placesOf
+    some-place (muted-place w) something = omega arith
+    some-place (tone-place w) something = omega arith
+
+  positions-each : {n : ℕ} {is : List Item} → PositionItems n is → AllRefer is
+      → (length (grouped is .positions) ≤ n) × Each (FitPosition p) (grouped is .positions)
+  unfolding grouped
+  positions-each no-position r = (omega arith, tt)
+  positions-each (muted-position w) r = let l = positions-each w (r .1) in (omega arith, (tt, l .1))
+  positions-each (kept-position {ts} {is} t w) r =
+      let b = terms-before t w in
+      let s = both ts is (r .1) in
+      let l = positions-each w (s .1) in
+      rw (b .0, b .1) (omega arith, (terms-fit t (s .0), l .1))
+  positions-each (tone-position {ts} {is} t w) r =
+      let b = terms-before t w in
+      let s = both ts is (r .1) in
+      let l = positions-each w (s .1) in
+      rw (b .0, b .1) (omega arith, ((r .0, terms-fit t (s .0)), l .1))
+
+  some-position : {n : ℕ} {is : List Item} → PositionItems n is → Some is → 1 ≤ length (grouped is .positions)
+  unfolding grouped
+  some-position (muted-position w) something = omega arith
+  some-position (kept-position t w) something = omega arith
+  some-position (tone-position t w) something = omega arith
+
+  start-fits : {is os : List Item} → StartItems is → OrderItems os → AllRefer is → FitStart p (startOf (is ++ os))
+  unfolding startOf
+  start-fits no-start w r = rw (no-start-in w) tt
+  start-fits a-start w r = r .0
+
+  orders-fit : {is : List Item} → OrderItems is → AllRefer is → Each (FitOrder p) (ordersOf is)
+  unfolding ordersOf
+  orders-fit no-order r = tt
+  orders-fit (an-order c w) r = (record { letter = c; calls = r .0 }, orders-fit w (r .1))
+
+  -- ---- a body declares something of its kind that fits
+
+  pub record Declares (k : Kind) (is : List Item) : Type 0 where
+    pub kind : kindOf (declarationOf is) ≡ k
+    pub inside : Inside (orderCount (declarationOf is)) is
+    pub fits : AllRefer is → Fits p (declarationOf is)
+
+  -- a number or a mark alone
+  alone : {k : Kind} {i : Item} → kindOf (declarationOf (i ∷ [])) ≡ k → Inside (orderCount (declarationOf (i ∷ []))) (i ∷ [])
+      → Fits p (declarationOf (i ∷ [])) → Declares k (i ∷ [])
+  alone e w h = record { kind = e; inside = w; fits = λ r. h }
+
+  -- of which the declaration is known
+  known : {k : Kind} {is : List Item} (d : Declaration) → declarationOf is ≡ d → kindOf d ≡ k → Inside (orderCount d) is
+      → (AllRefer is → Fits p d) → Declares k is
+  known {is} d e h w f =
+      record { kind = ap kindOf e ∙ h; inside = subst (λ c. Inside (orderCount c) is) (sym e) w; fits = λ r. subst (Fits p) (sym e) (f r) }
+
+  pub declares-fit : {k : Kind} {is : List Item} → Body k is → Declares k is
+  declares-fit (a-ratio a b) = alone refl (plain tt no-item) (a, b)
+  declares-fit (a-root a b) = alone refl (plain tt no-item) (a, b)
+  declares-fit (a-sequence {is} w) = known (sequence (termsOf is)) (sequence-of w) refl (terms-inside w) (terms-fit w)
+  declares-fit (a-frequency f) = alone refl (plain tt no-item) f
+  declares-fit (from-tone w) = record { kind = refl; inside = plain tt (terms-inside w); fits = λ r. (r .0, terms-fit w (r .1)) }
+  declares-fit (a-system {a} {ps} {is} h w s t) =
+      known (system a (placesOf (ps ++ is)) (termsOf is)) (ap (system a (placesOf (ps ++ is))) (period-after is w)) refl
+      (plain tt (before (places-inside w) (terms-inside t))) (λ r.
+      let v = both ps is (r .1) in
+      let l = places-each t w (v .0) in
+      record { anchor = h; positions = record { some = some-place t w s; few = l .0 }; each = l .1; period = terms-fit t (v .1) })
+  declares-fit anchor-kept = alone refl (plain tt no-item) tt
+  declares-fit (anchor-to h) = alone refl (plain tt no-item) h
+  declares-fit (anchor-up h) = alone refl (plain tt no-item) h
+  declares-fit (anchor-down h) = alone refl (plain tt no-item) h
+  declares-fit width-kept = alone refl (plain tt no-item) tt
+  declares-fit (width-to h) = alone refl (plain tt no-item) h
+  declares-fit (width-up h) = alone refl (plain tt no-item) h
+  declares-fit (width-down h) = alone refl (plain tt no-item) h
+  declares-fit (width-times h) = alone refl (plain tt no-item) h
+  declares-fit (width-over l h) = alone refl (plain tt no-item) (l, h)
+  declares-fit (fresh-period {is} w) = known (freshPeriod (termsOf is)) (period-of w) refl (plain tt (terms-inside w)) (λ r. terms-fit w (r .1))
+  declares-fit (onward-period w) = record { kind = refl; inside = plain tt (plain tt (terms-inside w)); fits = λ r. terms-fit w (r .1 .1) }
+  declares-fit (a-tones {is} w s) = known (tones (grouped is .positions)) (tones-of w s) refl (positions-inside w) (λ r.
+      let l = positions-each w r in
+      record { positions = record { some = some-position w s; few = l .0 }; each = l .1 })
+  declares-fit (a-logic {c} {ss} {os} l s w) =
+      known (logic c (startOf (ss ++ os)) (ordersOf os)) (ap (logic c (startOf (ss ++ os))) (orders-after os s)) refl
+      (plain tt (before (start-inside s) (orders-inside w))) (λ r.
+      let v = both ss os (r .1) in
+      record { letter = l; start = start-fits s w (v .0); orders = orders-fit w (v .1) })

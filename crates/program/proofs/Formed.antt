@@ -1,0 +1,101 @@
+-- The items of a text that is read to its end, with their shape and their numbers: whole declarations one after the other.
+use mathlib.Core.Path.{_≡_}
+use mathlib.Core.Bool.{Bool, true, false}
+use mathlib.Core.List.{List, [], _∷_, _++_}
+use Prim.Native.Nat.{ℕ, zero, suc, _+_, _≤_, _<_}
+use lib.Dec.{eqb}
+use lib.ListN.{length}
+use Rattle.grammar.specs.declared.Kind.{Kind}
+use Rattle.grammar.specs.declared.Kind.the-variants.{Interval, Tone, System, Retuning, Logic, Order as AnOrder}
+use Rattle.grammar.specs.declared.Item.{Item}
+use Rattle.grammar.specs.declared.Item.the-variants as item
+use Rattle.grammar.specs.Moves.{kindNumber}
+use Rattle.grammar.specs.Reading.{limit, mostTerms, mostPositions}
+use Rattle.names.specs.Parts as parts
+use Rattle.names.specs.Parts.{Part, declares, gives, uses, says, part}
+use Rattle.names.specs.Names.{Named, declared}
+use Rattle.program.specs.Allowed.{Decimal, Degree, Letter, ifKind}
+
+-- at most n terms
+pub data TermItems : ℕ → List Item → Type 0 where
+  no-term : {n : ℕ} → TermItems n []
+  add-term : {n f q : ℕ} {is : List Item} → f ≤ 999 → TermItems n is → TermItems (suc n) (item.Add f q ∷ is)
+  subtract-term : {n f q : ℕ} {is : List Item} → f ≤ 999 → TermItems n is → TermItems (suc n) (item.Subtract f q ∷ is)
+
+-- at most n positions of a tone system
+pub data PlaceItems : ℕ → List Item → Type 0 where
+  no-place : {n : ℕ} → PlaceItems n []
+  muted-place : {n : ℕ} {is : List Item} → PlaceItems n is → PlaceItems (suc n) (item.MutedPosition ∷ is)
+  tone-place : {n q : ℕ} {is : List Item} → PlaceItems n is → PlaceItems (suc n) (item.TonePosition q ∷ is)
+
+-- at most n positions of a tones retuning
+pub data PositionItems : ℕ → List Item → Type 0 where
+  no-position : {n : ℕ} → PositionItems n []
+  muted-position : {n : ℕ} {is : List Item} → PositionItems n is → PositionItems (suc n) (item.MutedPosition ∷ is)
+  kept-position : {n : ℕ} {ts is : List Item} → TermItems mostTerms ts → PositionItems n is → PositionItems (suc n) (item.KeptPosition ∷ ts ++ is)
+  tone-position : {n q : ℕ} {ts is : List Item} → TermItems mostTerms ts → PositionItems n is → PositionItems (suc n) (item.TonePosition q ∷ ts ++ is)
+
+pub data StartItems : List Item → Type 0 where
+  no-start : StartItems []
+  a-start : {q : ℕ} → StartItems (item.Start q ∷ [])
+
+pub data OrderItems : List Item → Type 0 where
+  no-order : OrderItems []
+  an-order : {c q : ℕ} {is : List Item} → Letter c → OrderItems is → OrderItems (item.Order c q ∷ is)
+
+-- something stands there
+pub data Some : List Item → Type 0 where
+  something : {i : Item} {is : List Item} → Some (i ∷ is)
+
+-- what stands after a declared name of a kind
+pub data Body : Kind → List Item → Type 0 where
+  a-ratio : {p q : ℕ} → Decimal p → Decimal q → Body Interval (item.Ratio p q ∷ [])
+  a-root : {a b : ℕ} → Degree a → Decimal b → Body Interval (item.Root a b ∷ [])
+  a-sequence : {is : List Item} → TermItems mostTerms is → Body Interval is
+  a-frequency : {f : ℕ} → Decimal f → Body Tone (item.Frequency f ∷ [])
+  from-tone : {q : ℕ} {is : List Item} → TermItems mostTerms is → Body Tone (item.Base q ∷ is)
+  a-system : {a : ℕ} {ps is : List Item} → a ≤ 127 → PlaceItems mostPositions ps → Some ps → TermItems mostTerms is → Body System (item.AnchorKey a ∷ ps ++ is)
+  anchor-kept : Body Retuning (item.AnchorKept ∷ [])
+  anchor-to : {n : ℕ} → n ≤ 9999 → Body Retuning (item.AnchorTo n ∷ [])
+  anchor-up : {n : ℕ} → n ≤ 9999 → Body Retuning (item.AnchorUp n ∷ [])
+  anchor-down : {n : ℕ} → n ≤ 9999 → Body Retuning (item.AnchorDown n ∷ [])
+  width-kept : Body Retuning (item.WidthKept ∷ [])
+  width-to : {n : ℕ} → n ≤ 9999 → Body Retuning (item.WidthTo n ∷ [])
+  width-up : {n : ℕ} → n ≤ 9999 → Body Retuning (item.WidthUp n ∷ [])
+  width-down : {n : ℕ} → n ≤ 9999 → Body Retuning (item.WidthDown n ∷ [])
+  width-times : {n : ℕ} → n ≤ 9999 → Body Retuning (item.WidthTimes n ∷ [])
+  width-over : {n : ℕ} → 1 ≤ n → n ≤ 9999 → Body Retuning (item.WidthOver n ∷ [])
+  fresh-period : {is : List Item} → TermItems mostTerms is → Body Retuning (item.Period ∷ is)
+  onward-period : {is : List Item} → TermItems mostTerms is → Body Retuning (item.Period ∷ item.Onward ∷ is)
+  a-tones : {is : List Item} → PositionItems mostPositions is → Some is → Body Retuning is
+  a-logic : {c : ℕ} {ss os : List Item} → Letter c → StartItems ss → OrderItems os → Body Logic (item.Letter c ∷ ss ++ os)
+
+pub data Formed : List Item → Type 0 where
+  no-more : Formed []
+  declaration : {k : Kind} {p : ℕ} {body rest : List Item} → Body k body → Formed rest → Formed (item.Declared k p ∷ body ++ rest)
+
+-- how many declared names of a kind there are
+unfoldable pub namesOf : Kind → List Named → ℕ
+namesOf k [] = 0
+namesOf k (d ∷ ds) = ifKind (eqb (kindNumber (d .kind)) (kindNumber k)) (namesOf k ds)
+
+-- how many orders there are
+abbrev pub orderPart : Part → ℕ → ℕ
+orderPart (declares k p) n = n
+orderPart (gives g a b) n = n
+orderPart (says m) n = n
+orderPart (uses parts.add f q) n = n
+orderPart (uses parts.subtract f q) n = n
+orderPart (uses parts.base f q) n = n
+orderPart (uses parts.position f q) n = n
+orderPart (uses parts.start f q) n = n
+orderPart (uses parts.order c q) n = suc n
+
+unfoldable pub orderItems : List Item → ℕ
+orderItems [] = 0
+orderItems (i ∷ is) = orderPart (part i) (orderItems is)
+
+pub record FormedText (is : List Item) : Type 0 where
+  pub formed : Formed is
+  pub few : (k : Kind) → namesOf k (declared is) ≤ limit k
+  pub orders : orderItems is ≤ limit AnOrder
