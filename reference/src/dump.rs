@@ -1,6 +1,5 @@
-//! A program written down in one canonical way: for people, and as bytes.
+//! A program written down for people to read.
 
-use crate::call_records::call_bytes;
 use crate::measure::Pitch;
 use crate::state::{Call, Change, PeriodChange, Position};
 use crate::text::tree::{Declared, LogicForm, Target};
@@ -93,57 +92,4 @@ fn readable_target(program: &Program, target: Target) -> String {
         Target::Logic(i) => ("logic", tree.logics.get(i).map(|d| &d.name)),
     };
     format!("{kind} {}", name.map_or("?", |name| &name.text))
-}
-
-/// The values alone, without names. Each kind begins with its count in two
-/// bytes: intervals and tones with four bytes each; tone systems and retunings
-/// as call records without unused positions; logics with letter, start, count
-/// of orders and orders (letter, called).
-pub fn bytes(program: &Program) -> Vec<u8> {
-    let mut bytes = Vec::new();
-    put_count(&mut bytes, program.intervals.len());
-    for value in &program.intervals {
-        bytes.extend((value.0 as i32).to_be_bytes());
-    }
-    put_count(&mut bytes, program.tones.len());
-    for value in &program.tones {
-        bytes.extend((value.0 as i32).to_be_bytes());
-    }
-    for calls in [&program.systems, &program.retunings] {
-        put_count(&mut bytes, calls.len());
-        bytes.extend(calls.iter().flat_map(call_bytes));
-    }
-    put_count(&mut bytes, program.declared.logics.len());
-    for logic in &program.declared.logics {
-        put_logic(&mut bytes, &logic.form);
-    }
-    bytes
-}
-
-/// No count of an accepted text passes two bytes.
-fn put_count(bytes: &mut Vec<u8>, count: usize) {
-    bytes.extend((count as u16).to_be_bytes());
-}
-
-fn put_logic(bytes: &mut Vec<u8>, logic: &LogicForm<Target>) {
-    bytes.push(logic.letter.0);
-    put_target(bytes, logic.start);
-    put_count(bytes, logic.orders.len());
-    for order in &logic.orders {
-        bytes.push(order.letter.0);
-        put_target(bytes, Some(order.called));
-    }
-}
-
-/// What is called: a kind (0 nothing, 1 retuning, 2 tone system, 3 logic) and
-/// its number in declared order, in two bytes.
-fn put_target(bytes: &mut Vec<u8>, target: Option<Target>) {
-    let (kind, number) = match target {
-        None => (0, 0),
-        Some(Target::Retuning(i)) => (1, i),
-        Some(Target::System(i)) => (2, i),
-        Some(Target::Logic(i)) => (3, i),
-    };
-    bytes.push(kind);
-    put_count(bytes, number);
 }

@@ -15,6 +15,7 @@ mod measure;
 mod numbers;
 mod random;
 mod records;
+mod rows;
 mod state;
 mod text;
 mod validity;

@@ -5,6 +5,7 @@ use crate::cases::texts;
 use crate::dump;
 use crate::numbers::{self, Counts};
 use crate::records::{bad_record, next_record};
+use crate::rows;
 use crate::text::{self, Refusal};
 use std::fs;
 use std::io::{self, Read, Write};
@@ -34,8 +35,8 @@ pub fn answer() -> Outcome {
     let mut counts = Counts::default();
     while let Some(text) = next_text(&mut input)? {
         let (Refusal { number, place }, bytes) = match text::read(&text) {
-            Ok(program) => (ACCEPTED, dump::bytes(&program)),
-            Err(refusal) => (refusal, Vec::new()),
+            Ok(program) => (ACCEPTED, rows::bytes(&program)),
+            Err(refusal) => (refusal, rows::none()),
         };
         counts.note(number);
         output.write_all(&[number])?;
