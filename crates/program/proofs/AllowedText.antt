@@ -24,6 +24,7 @@ use Rattle.program.specs.Allowed.{kindOf, isKind, Refers, Each, Fits, if
 use Rattle.program.specs.Text.{accepted, readText}
 use Rattle.program.proofs.Formed.{Body, Formed, no-more, declaration, namesOf, orderItems, FormedText}
 use Rattle.program.proofs.AcceptedText.{steps}
+use Rattle.program.proofs.ReadFormed.{read-formed}
 use Rattle.program.proofs.Numbered.{formed-meant}
 use Rattle.program.proofs.Declares.{passed, Refer, AllRefer, both, declares-fit}
 
@@ -116,9 +117,8 @@ formed-allowed text is w e =
       each = fitting p (v .formed) (refer-all p (declared js) (a .kinds) js m);
     }
 
--- given that the items of a text that is read to its end are formed
-pub accepted-by : ((text : List ℕ) → readItems text .number ≡ done → FormedText (readItems text .items))
-    → (text : List ℕ) (p : Program) → readText text ≡ accepted p → Allowed p
-accepted-by read-formed text p e =
+-- the program of an accepted text keeps document 01's limits
+pub accepted-allowed : (text : List ℕ) (p : Program) → readText text ≡ accepted p → Allowed p
+accepted-allowed text p e =
     let s = steps text p e in
     subst Allowed (s .program) (formed-allowed text (readItems text .items) (read-formed text (s .read)) (s .meant))

@@ -1,4 +1,15 @@
 pub mod Formed
+pub mod Ranges
+pub mod Outcomes
+pub mod Walk
+pub mod Counted
+pub mod Ahead
+pub mod Steps
+pub mod TermSteps
+pub mod ListSteps
+pub mod LogicSteps
+pub mod Shape
+pub mod ReadFormed
 pub mod Numbered
 pub mod Declares
 pub mod Bodies

@@ -1,0 +1,159 @@
+-- What may still come of a declaration, by the stage in which it is, and how a step leads from stage to stage.
+-- Assumes nothing.
+use mathlib.Core.Path.{_≡_}
+use mathlib.Core.List.{List, [], _∷_, _++_}
+use Prim.Native.Nat.{ℕ, zero, suc, _+_, _-_, _≤_}
+use native.Mathlib.Nat.{le-of-suc-le-suc}
+use native.Mathlib.Omega.{arith}
+use Rattle.status.specs.Status.{done}
+use Rattle.symbols.specs.declared.Symbol.{Symbol}
+use Rattle.grammar.specs.declared.Kind.{Kind}
+use Rattle.grammar.specs.declared.Kind.the-variants.{Interval, Retuning}
+use Rattle.grammar.specs.declared.Action.{Action}
+use Rattle.grammar.specs.declared.Item.{Item}
+use Rattle.grammar.specs.declared.Item.the-variants as item
+use Rattle.grammar.specs.declared.Progress.{Progress}
+use Rattle.grammar.specs.declared.Outcome.{Outcome}
+use Rattle.grammar.specs.declared.Outcome.the-variants.{Go, Give, Refuse}
+use Rattle.grammar.specs.Syntax.{Terminal}
+use Rattle.grammar.specs.Terminals.{terminalNumber, terminalOf, placed}
+use Rattle.grammar.specs.Reading.{mostTerms, mostPositions, atNode, acted}
+use Rattle.program.specs.Allowed.{Decimal, Degree, Letter}
+use Rattle.program.proofs.Formed.{TermItems, no-term, add-term, subtract-term, PlaceItems, no-place, muted-place, tone-place, PositionItems, no-position, muted-position, kept-position, tone-position, StartItems, OrderItems, Some, Body, Formed, declaration}
+use Rattle.program.proofs.Walk.{Keeps, refuses, goes, gives}
+
+-- ---- where there is room for more
+
+pub more-terms : {n m : ℕ} {is : List Item} → n ≤ m → TermItems n is → TermItems m is
+more-terms h no-term = no-term
+more-terms {m = zero} h (add-term f ts) = absurd (omega arith)
+more-terms {m = suc m} h (add-term f ts) = add-term f (more-terms (le-of-suc-le-suc h) ts)
+more-terms {m = zero} h (subtract-term f ts) = absurd (omega arith)
+more-terms {m = suc m} h (subtract-term f ts) = subtract-term f (more-terms (le-of-suc-le-suc h) ts)
+
+pub more-places : {n m : ℕ} {is : List Item} → n ≤ m → PlaceItems n is → PlaceItems m is
+more-places h no-place = no-place
+more-places {m = zero} h (muted-place ps) = absurd (omega arith)
+more-places {m = suc m} h (muted-place ps) = muted-place (more-places (le-of-suc-le-suc h) ps)
+more-places {m = zero} h (tone-place ps) = absurd (omega arith)
+more-places {m = suc m} h (tone-place ps) = tone-place (more-places (le-of-suc-le-suc h) ps)
+
+pub more-positions : {n m : ℕ} {is : List Item} → n ≤ m → PositionItems n is → PositionItems m is
+more-positions h no-position = no-position
+more-positions {m = zero} h (muted-position ps) = absurd (omega arith)
+more-positions {m = suc m} h (muted-position ps) = muted-position (more-positions (le-of-suc-le-suc h) ps)
+more-positions {m = zero} h (kept-position ts ps) = absurd (omega arith)
+more-positions {m = suc m} h (kept-position ts ps) = kept-position ts (more-positions (le-of-suc-le-suc h) ps)
+more-positions {m = zero} h (tone-position ts ps) = absurd (omega arith)
+more-positions {m = suc m} h (tone-position ts ps) = tone-position ts (more-positions (le-of-suc-le-suc h) ps)
+
+-- ---- stages
+
+-- what comes next of a declaration
+pub data Stage : Type 0 where
+  -- nothing more
+  nothing : Stage
+  -- all that stands after its name
+  body : Kind → Stage
+  -- a ratio's second number, a root's, after the first is judged
+  secondPart radicand : Stage
+  -- a sequence from its first term on; a term and signed ones; signed terms, if any; what stands after the `[ ]` of a period
+  sequence term terms period : Stage
+  -- a position of a tone system, or what stands after one
+  place places : Stage
+  -- positions of a tones retuning, if any; of the one under way, a term and signed ones, or signed terms, if any
+  positions toneTerm toneTerms : Stage
+  -- a logic's start, its orders, and the rest of an order after its letter
+  start orders order : Stage
+
+pub data Nothing : List Item → Type 0 where
+  no-item : Nothing []
+
+-- positions of a tone system, at most n, and its period
+pub data Places (n : ℕ) : List Item → Type 0 where
+  places-then : {ps is : List Item} → PlaceItems n ps → TermItems mostTerms is → Places n (ps ++ is)
+
+pub data SomePlaces (n : ℕ) : List Item → Type 0 where
+  some-places-then : {ps is : List Item} → PlaceItems n ps → Some ps → TermItems mostTerms is → SomePlaces n (ps ++ is)
+
+-- terms of a position, at most n, and further positions, at most m
+pub data ToneTerms (n m : ℕ) : List Item → Type 0 where
+  terms-then : {ts is : List Item} → TermItems n ts → PositionItems m is → ToneTerms n m (ts ++ is)
+
+pub data Starts : List Item → Type 0 where
+  start-then : {ss os : List Item} → StartItems ss → OrderItems os → Starts (ss ++ os)
+
+-- the terms and the positions for which there is room
+abbrev pub termsLeft : Progress → ℕ
+termsLeft s = mostTerms - s .term .before
+
+abbrev pub positionsLeft : Progress → ℕ
+positionsLeft s = mostPositions - s .positions
+
+-- a term, and those for which there is room after it
+abbrev pub termAndLeft : Progress → ℕ
+termAndLeft s = suc (mostTerms - (s .term .before + 1))
+
+-- the items that still come of a declaration
+abbrev pub Comes : Stage → Progress → List Item → Type 0
+Comes nothing s is = Nothing is
+Comes (body k) s is = Body k is
+Comes secondPart s is = Decimal (s .first .value) → Body Interval is
+Comes radicand s is = Degree (s .first .value) → Body Interval is
+Comes sequence s is = TermItems mostTerms is
+Comes term s is = TermItems (termAndLeft s) is
+Comes terms s is = TermItems (termsLeft s) is
+Comes period s is = Body Retuning (item.Period ∷ is)
+Comes place s is = SomePlaces (positionsLeft s) is
+Comes places s is = Places (positionsLeft s) is
+Comes positions s is = PositionItems (positionsLeft s) is
+Comes toneTerm s is = ToneTerms (termAndLeft s) (positionsLeft s) is
+Comes toneTerms s is = ToneTerms (termsLeft s) (positionsLeft s) is
+Comes start s is = Starts is
+Comes orders s is = OrderItems is
+Comes order s is = Letter (s .letter) → OrderItems is
+
+-- the rest of the declaration under way, and whole ones
+pub data Ahead (P : Stage) (s : Progress) : List Item → Type 0 where
+  ahead : (is : List Item) {rest : List Item} → Comes P s is → Formed rest → Ahead P s (is ++ rest)
+
+-- "factor: whole, 0 to 999"
+abbrev pub FitFactor : ℕ → Type 0
+FitFactor f = f ≤ 999
+
+-- the next term's factor is allowed
+abbrev pub Fit : Progress → Type 0
+Fit s = FitFactor (s .term .factor)
+
+-- ---- a step from stage to stage
+
+-- what an outcome leads to, from stage P and progress s to stage Q, at node n
+pub data Leads (P Q : Stage) (n : ℕ) (s : Progress) : Outcome → Type 0 where
+  refused : {k p : ℕ} → (k ≡ done → ⊥) → Leads P Q n s (Refuse k p)
+  passed : {t : Progress} → (Fit s → Fit t) → ((is : List Item) → Comes Q (atNode n t) is → Comes P s is) → Leads P Q n s (Go t)
+  given : {t : Progress} {i : Item} → (Fit s → Fit t) → ((is : List Item) → Fit s → Comes Q (atNode n t) is → Comes P s (i ∷ is))
+      → Leads P Q n s (Give t i)
+  declares : {t : Progress} {k : Kind} {p : ℕ} → Fit t → Comes P s [] → ((is : List Item) → Comes Q (atNode n t) is → Body k is)
+      → Leads P Q n s (Give t (item.Declared k p))
+
+-- an action at a symbol leads from stage P to stage Q
+pub record Move (t : Terminal) (P : Stage) (a : Action) (Q : Stage) : Type 0 where
+  pub leads : (text : List ℕ) (n : ℕ) (s : Progress) (y : Symbol) → terminalNumber (terminalOf text y) ≡ terminalNumber t
+      → Leads P Q n s (acted text s a (placed text y))
+
+-- such a step keeps what is ahead
+pub keeps-ahead : {P Q : Stage} {n : ℕ} {s : Progress} {o : Outcome} → Leads P Q n s o
+    → Keeps (λ t is. Fit t → Ahead Q (atNode n t) is) (λ is. Fit s → Ahead P s is) o
+keeps-ahead (refused not-done) = refuses not-done
+keeps-ahead {P} {Q} {n} {s} (passed {t = t} fit c) = goes t (λ is later f. on (later (fit f)))
+  where
+    on : {is : List Item} → Ahead Q (atNode n t) is → Ahead P s is
+    on (ahead is w r) = ahead is (c is w) r
+keeps-ahead {P} {Q} {n} {s} (given {t = t} {i = i} fit c) = gives t i (λ is later f. on f (later (fit f)))
+  where
+    on : {is : List Item} → Fit s → Ahead Q (atNode n t) is → Ahead P s (i ∷ is)
+    on f (ahead is w r) = ahead (i ∷ is) (c is f w) r
+keeps-ahead {P} {Q} {n} {s} (declares {t = t} {k = k} {p = p} fit e c) = gives t (item.Declared k p) (λ is later f. on (later fit))
+  where
+    on : {is : List Item} → Ahead Q (atNode n t) is → Ahead P s (item.Declared k p ∷ is)
+    on (ahead is w r) = ahead [] e (declaration (c is w) r)

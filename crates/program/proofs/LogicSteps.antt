@@ -1,0 +1,47 @@
+-- What the actions of logics and orders lead to, from stage to stage.
+-- Assumes nothing.
+use mathlib.Core.List.{List, _∷_}
+use Prim.Native.Nat.{ℕ}
+use Rattle.grammar.specs.declared.Kind.the-variants.{Logic, Order as AnOrder}
+use Rattle.grammar.specs.declared.NameUse.the-variants.{Start, Order}
+use Rattle.grammar.specs.declared.LetterUse.the-variants.{LogicLetter, OrderLetter}
+use Rattle.grammar.specs.declared.Action.the-variants.{Pass, Name, Letter as ALetter, CountOrder}
+use Rattle.grammar.specs.declared.Item.{Item}
+use Rattle.grammar.specs.declared.Item.the-variants as item
+use Rattle.grammar.specs.Syntax.{Terminal, letter}
+use Rattle.grammar.specs.Terminals.{placed}
+use Rattle.grammar.specs.Reading.{limit, soFar, acted}
+use Rattle.program.specs.Allowed.{Letter}
+use Rattle.program.proofs.Formed.{no-start, a-start, an-order, Body, a-logic}
+use Rattle.program.proofs.Ranges.{letter-there}
+use Rattle.program.proofs.Ahead.{body, start, orders, order, Starts, start-then, passed, given, Move}
+use Rattle.program.proofs.Steps.{full, passing}
+
+logic-with : {c : ℕ} {is : List Item} → Letter c → Starts is → Body Logic (item.Letter c ∷ is)
+logic-with l (start-then ss os) = a-logic l ss os
+
+pub logic-letter : Move letter (body Logic) (ALetter LogicLetter) start
+unfolding acted
+logic-letter = record { leads = λ text n s y e. given (λ f. f) (λ is f c. logic-with (letter-there text y e) c) }
+
+pub order-letter : Move letter orders (ALetter OrderLetter) order
+unfolding acted
+order-letter = record { leads = λ text n s y e. passed (λ f. f) (λ is c. c (letter-there text y e)) }
+
+module _ {t : Terminal} where
+  pub start-name : Move t start (Name Start) orders
+  unfolding acted
+  start-name = record { leads = λ text n s y e. given (λ f. f) (λ is f os. start-then a-start os) }
+
+  pub start-none : Move t start Pass orders
+  start-none = passing (λ n s is os. start-then no-start os)
+
+  pub order-key : Move t orders CountOrder orders
+  unfolding acted
+  order-key = record {
+    leads = λ text n s y e. full n s (limit AnOrder) (soFar AnOrder (s .counts)) (placed text y) _ (λ h. passed (λ f. f) (λ is c. c));
+  }
+
+  pub order-name : Move t order (Name Order) orders
+  unfolding acted
+  order-name = record { leads = λ text n s y e. given (λ f. f) (λ is f os l. an-order l os) }
