@@ -1,1 +1,11 @@
-pub mod CaseS
+pub mod Lists
+pub mod Filled
+pub mod Decoded
+pub mod Counted
+pub mod InRange
+pub mod ValidTables
+pub mod Parts
+pub mod Steps
+pub mod Named
+pub mod Valuing
+pub mod NamePlaces

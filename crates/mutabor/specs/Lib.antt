@@ -1,2 +1,2 @@
--- The tables that a text is read into.
-pub mod Tables
+-- What a text leaves.
+pub mod Reading

@@ -94,7 +94,7 @@ module _ {A B : Type 0} (f : A → B) where
   drop-map (suc n) [] = refl
   drop-map (suc n) (x ∷ l) = drop-map n l
 
-  part-read : (nought : B) (size from to : ℕ) (l : List A) → to ≤ length l → slice from to (full nought size (map f l)) ≡ map f (slice from to l)
+  pub part-read : (nought : B) (size from to : ℕ) (l : List A) → to ≤ length l → slice from to (full nought size (map f l)) ≡ map f (slice from to l)
   part-read nought size from to l h =
       rw (take-append-le to (map f l) (replicate (size - length (map f l)) nought) (rw (length-map l f) h), take-map to l) (drop-map from (take to l))
 

@@ -16,7 +16,7 @@ use Rattle.tuning.specs.declared.Tone.the-variants.{At}
 use Rattle.tables.specs.declared.Row.the-variants as row
 use Rattle.tables.specs.Layout.{rowAt, tonesFrom}
 use Rattle.program.specs.CaseS.{program}
-use Rattle.mutabor.specs.Tables.{filledFrom, tablesOf}
+use Rattle.filling.specs.Tables.{filledFrom, tablesOf}
 
 -- Fifth, a, Two, Up and L
 pub case-s-rows : (rowAt (tablesOf program) 1 ≡ row.Interval (record { 0 = pos 701955 })) × (rowAt (tablesOf program) 2 ≡ row.Tone (record { 0 = pos 6900000 }))

@@ -1,0 +1,3 @@
+-- The tables of a program.
+pub mod Tables
+pub mod Inner

@@ -1,0 +1,121 @@
+-- What valid tables have for a call: all that the call reads; and a valid state stays valid. Assumes nothing.
+use mathlib.Core.Path.{_≡_, refl, ap, _∙_, subst}
+use mathlib.Core.Bool.{true}
+use mathlib.Core.List.{List, [], _∷_}
+use mathlib.Core.Option.{Option, some, none}
+use Prim.Native.Nat.{ℕ, _<_}
+use native.Mathlib.Omega.{arith}
+use lib.ListN.{length, length-map}
+use Rattle.tuning.specs.Tuning.{Action}
+use Rattle.tuning.specs.Desk.{cents}
+use Rattle.tuning.specs.State.{places, heard, coded, validState, meant}
+use Rattle.tuning.specs.declared.State.{State}
+use Rattle.tuning.specs.declared.Retuning.{Retuning as RetuningForm}
+use Rattle.tuning.specs.declared.Retuning.the-variants.{Anchor, Width, Period, Tones}
+use Rattle.tuning.specs.declared.ToneChanges.{ToneChanges}
+use Rattle.tuning.proofs.Held.{ValidTuning, held-coded, length-coded, valid-held}
+use Rattle.tuning.proofs.Laws.{ValidAction, state-valid}
+use Rattle.tables.specs.declared.Row.{Row as TableRow}
+use Rattle.tables.specs.declared.Row.the-variants.{Unused, Interval, Tone, System, Retuning, Logic}
+use Rattle.tables.specs.Layout.{Tables, rowCount, rowAt, tonesFrom, changesFrom, toneOf}
+use Rattle.tables.specs.Values as values
+use Rattle.tables.proofs.Lists.{part-length}
+use Rattle.validity.specs.Valid.{validTables}
+use Rattle.validity.proofs.Laws.{ValidSystem, ValidRow, row-valid, fields-fit}
+use Rattle.protocol.specs.declared.Found.{Found}
+use Rattle.protocol.specs.declared.Found.the-variants.{Nothing, Row}
+use Rattle.protocol.specs.Letters.{actionBy, actionAt}
+use Rattle.protocol.specs.Answers.{byAction, callOn, Made, tuningFrom, madeFrom}
+use Rattle.protocol.specs.Inner.{callsOf, forCalls, CallableRow, Callable, CallableFound}
+use Rattle.protocol.proofs.Pressable.{Within}
+
+-- ---- the part of the tables that a call reads does for the tables
+
+abbrev pub callPart : Tables → Tables
+callPart t = forCalls (t .rows) (t .sounding) (t .tones) (t .kinds) (t .changes)
+
+module _ (t : Tables) where
+  actions-alike : (r : TableRow) → actionBy (callPart t) r ≡ actionBy t r
+  actions-alike Unused = refl
+  actions-alike (Interval d) = refl
+  actions-alike (Tone p) = refl
+  actions-alike (System a P from to) = refl
+  actions-alike (Retuning r from to) = refl
+  actions-alike (Logic c s from to) = refl
+
+  call-alike : (s : State) (k : ℕ) → callOn (callPart t) s k ≡ callOn t s k
+  unfolding callOn
+  call-alike s k = ap (byAction s) (actions-alike (rowAt t k))
+
+  pub tuning-alike : (s : State) (ks : List ℕ) → tuningFrom (callPart t) s ks ≡ tuningFrom t s ks
+  unfolding tuningFrom
+  tuning-alike s [] = refl
+  tuning-alike s (k ∷ ks) = rw (call-alike s k) (tuning-alike (callOn t s k .state) ks)
+
+  pub made-alike : (s : State) (ks : List ℕ) → madeFrom (callPart t) s ks ≡ madeFrom t s ks
+  unfolding madeFrom
+  made-alike s [] = refl
+  made-alike s (k ∷ ks) =
+      rw (call-alike s k)
+      (ap (λ (l : List Made). record { called = k; number = callOn t s k .number } ∷ l) (made-alike (callOn t s k .state) ks))
+
+-- ---- of valid tables
+
+-- a valid state of sixty places
+abbrev pub Whole : State → Type 0
+Whole s = (validState s ≡ true) × (length (s .tones) ≡ places)
+
+module _ (t : Tables) (v : validTables t ≡ true) where
+  callable-row : (r : TableRow) → ValidRow t r → CallableRow (callPart t) r
+  callable-row Unused h = tt
+  callable-row (Interval d) h = tt
+  callable-row (Tone p) h = tt
+  callable-row (System a P from to) h = record { part = h .part; state = h .state }
+  callable-row (Retuning r from to) h = record { modest = h .modest; part = h .part; list = h .list }
+  callable-row (Logic c s from to) h = tt
+
+  callable : (k : ℕ) → k < rowCount t → Callable (callPart t) k
+  callable k h = record { fields = fields-fit t v k h; row = callable-row (rowAt t k) (row-valid t v k h) }
+
+  pub callable-found : (f : Found) → Within t (callsOf f) → CallableFound (callPart t) f
+  callable-found Nothing h = tt
+  callable-found (Row k) h = callable k (h .0)
+
+  -- ---- the state after a call
+
+  system-valid : (a : ℕ) (from to : ℕ) {P : _} → ValidSystem t a P from to → ValidTuning (values.system a (tonesFrom t from to) P)
+  system-valid a from to {P} h =
+      let y = values.system a (tonesFrom t from to) P in
+      let n = length-map (tonesFrom t from to) heard ∙ part-length toneOf (t .sounding) (t .tones) from to (h .part .kinds) (h .part .numbers) in
+      subst ValidTuning (held-coded y) (valid-held (coded y) (h .state) (length-coded y (omega (arith, n, h .part .most))))
+
+  retuning-valid : (r : RetuningForm) (l : ToneChanges) → ValidAction (meant r l)
+  retuning-valid (Anchor m) l = tt
+  retuning-valid (Width m) l = tt
+  retuning-valid (Period m) l = tt
+  retuning-valid Tones l = tt
+
+  abbrev SomeValid : Option (Action cents) → Type 0
+  SomeValid none = Unit
+  SomeValid (some c) = ValidAction c
+
+  action-valid : (r : TableRow) → ValidRow t r → SomeValid (actionBy t r)
+  action-valid Unused h = tt
+  action-valid (Interval d) h = tt
+  action-valid (Tone p) h = tt
+  action-valid (System a P from to) h = system-valid (a .0) from to h
+  action-valid (Retuning r from to) h = retuning-valid r (values.listed (changesFrom t from to))
+  action-valid (Logic c s from to) h = tt
+
+  call-valid : (s : State) (k : ℕ) → k < rowCount t → Whole s → Whole (callOn t s k .state)
+  unfolding callOn
+  call-valid s k h w = go (actionAt t k) (action-valid (rowAt t k) (row-valid t v k h))
+    where
+      go : (o : Option (Action cents)) → SomeValid o → Whole (byAction s o .state)
+      go none a = w
+      go (some c) a = state-valid s (w .0) (w .1) c a
+
+  pub tuning-valid : (s : State) (ks : List ℕ) → Within t ks → Whole s → Whole (tuningFrom t s ks)
+  unfolding tuningFrom
+  tuning-valid s [] h w = w
+  tuning-valid s (k ∷ ks) h w = tuning-valid (callOn t s k .state) ks (h .1) (call-valid s k (h .0) w)

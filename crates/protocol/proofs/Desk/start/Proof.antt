@@ -1,0 +1,21 @@
+-- `protocol::Desk::start` meets its contract. Assumes nothing.
+use mathlib.Core.Path.{ap}
+use borrow.Author.Needs.{needs}
+use Rattle.tuning.specs.declared.State.{State}
+use Rattle.protocol.specs.declared.Active.the-variants.{Nothing}
+use Rattle.protocol.specs.declared.Desk.{Desk}
+use Rattle.protocol.proofs.Desk.start.Statement.{statement}
+use Rattle.protocol.proofs.Desk.start.Tie as tie
+
+start-requires : tie.Need-start-requires
+start-requires c κs = search needs
+
+-- no logic active, at any tuning
+abbrev with-tuning : State → Desk
+with-tuning s = record { tuning = s; active = Nothing }
+
+returns : tie.Need-returns
+returns c = ap with-tuning (c .start .ensures)
+
+pub start-spec : {M : Type 1} → statement M
+start-spec = tie.close (tie.spec start-requires returns)

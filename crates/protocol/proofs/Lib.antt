@@ -1,0 +1,9 @@
+-- What a letter calls, the calls, and the ways through a frame.
+pub mod Searches
+pub mod Presses
+pub mod Pressable
+pub mod Calls
+pub mod Callable
+pub mod Ways
+pub mod Stays
+pub mod CaseS

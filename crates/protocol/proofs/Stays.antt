@@ -1,0 +1,99 @@
+-- A right desk over valid tables stays right, whatever the stream: so 23 is never given after the start. Assumes nothing.
+use mathlib.Core.Path.{_≡_, refl, ap, _∙_}
+use mathlib.Core.Bool.{Bool, true, false, cond}
+use mathlib.Core.List.{List, [], _∷_}
+use mathlib.Core.Option.{Option, some, none}
+use Prim.Native.Nat.{ℕ, _<_}
+use borrow.Author.Tests.{lt-ltb, eq-eqb, eqb-true}
+use lib.Dec.{ltb, eqb}
+use Rattle.status.specs.Status.{bufferTooSmall, tableDamaged}
+use Rattle.tuning.specs.Tuning.{start}
+use Rattle.tuning.specs.Desk.{cents}
+use Rattle.tuning.proofs.Lists.{both}
+use Rattle.tuning.proofs.Held.{length-coded}
+use Rattle.tuning.proofs.Laws.{start-valid, start-state-valid}
+use Rattle.tables.specs.declared.Row.{Row as TableRow}
+use Rattle.tables.specs.declared.Row.the-variants.{Unused, Interval, Tone, System, Retuning, Logic}
+use Rattle.tables.specs.Layout.{Tables, rowCount, readAt, rowAt, logicForm}
+use Rattle.validity.specs.Valid.{validTables}
+use Rattle.frames.specs.Frames.{frameOf}
+use Rattle.frames.specs.declared.Frame.{Frame}
+use Rattle.frames.specs.declared.Frame.the-variants.{Bad, Letter, Key, Dump}
+use Rattle.answers.specs.Answer.{smallestBuffer}
+use Rattle.protocol.specs.declared.Active.{Active}
+use Rattle.protocol.specs.declared.Active.the-variants as active
+use Rattle.protocol.specs.declared.Desk.{Desk}
+use Rattle.protocol.specs.Letters.{isLogicOf, callsBy, unlessUnbound, pressed}
+use Rattle.protocol.specs.Answers.{startDesk, letterOutcome, keyOutcome, frameOutcome, activeRight, validDesk, unchanged, answerOf}
+use Rattle.protocol.specs.Streams.{Lent, deskAfter}
+use Rattle.protocol.proofs.Searches.{logic-by}
+use Rattle.protocol.proofs.Presses.{named}
+use Rattle.protocol.proofs.Pressable.{named-within, pressed-within}
+use Rattle.protocol.proofs.Callable.{Whole, tuning-valid}
+
+-- a row that is a logic has the form of one
+logic-form : (t : Tables) (i : ℕ) {c s from to : ℕ} → rowAt t i ≡ Logic c s from to → readAt (t .rows) i .form ≡ logicForm
+logic-form t i {c} e =
+    let r = readAt (t .rows) i in
+    let h = logic-by (r .form) (r .first) (r .second) (r .from) (r .to) c ∙ ap (isLogicOf c) e ∙ eq-eqb c c refl in
+    eqb-true _ _ (both (eqb (r .form) logicForm) _ h .0)
+
+module _ (t : Tables) (v : validTables t ≡ true) where
+  -- a state of sixty places whose numbers are in their ranges, and no active logic, or one of the tables
+  pub record Right (d : Desk) : Type 0 where
+    pub tuning : Whole (d .tuning)
+    pub active : activeRight t (d .active) ≡ true
+
+  pub right-valid : (d : Desk) → Right d → validDesk t d ≡ true
+  right-valid d r = rw (v, r .tuning .0, r .active)
+
+  pub start-right : Right startDesk
+  start-right = record { tuning = (start-state-valid, length-coded (start cents) (start-valid .most)); active = refl }
+
+  module _ (a : Active) (h : activeRight t a ≡ true) (letter : ℕ) where
+    called-right : (k : ℕ) (r : TableRow) → rowAt t k ≡ r → k < rowCount t → activeRight t (callsBy a k r .active) ≡ true
+    called-right k Unused e l = h
+    called-right k (Interval d) e l = h
+    called-right k (Tone p) e l = h
+    called-right k (System b P from to) e l = h
+    called-right k (Retuning r from to) e l = h
+    called-right k (Logic c s from to) e l = rw (lt-ltb k (rowCount t) l, logic-form t k e)
+
+    pressed-right : activeRight t (pressed t a letter .active) ≡ true
+    unfolding pressed
+    pressed-right = go (named t a letter) refl
+      where
+        go : (o : Option ℕ) → named t a letter ≡ o → activeRight t (unlessUnbound t a o .active) ≡ true
+        go none e = h
+        go (some k) e = called-right k (rowAt t k) refl (named-within t v a h letter e)
+
+  module _ (d : Desk) (r : Right d) where
+    letter-right : (house letter : ℕ) → Right (letterOutcome t d house letter .desk)
+    unfolding letterOutcome
+    letter-right house letter =
+        record {
+          tuning = tuning-valid t v (d .tuning) _ (pressed-within t v (d .active) (r .active) letter) (r .tuning);
+          active = pressed-right (d .active) (r .active) letter;
+        }
+
+    frame-right : (f : Frame) → Right (frameOutcome t d f .desk)
+    unfolding frameOutcome keyOutcome
+    frame-right Bad = r
+    frame-right (Letter house letter) = letter-right house letter
+    frame-right (Key house key) = r
+    frame-right (Dump house) = r
+
+    pub answer-right : (frame : List ℕ) (room : ℕ) → Right (answerOf t d frame room .desk)
+    unfolding answerOf
+    answer-right frame room = go (ltb room smallestBuffer) (validDesk t d)
+      where
+        go : (small valid : Bool)
+            → Right (cond small (unchanged d bufferTooSmall) (cond valid (frameOutcome t d (frameOf frame)) (unchanged d tableDamaged)) .desk)
+        go true valid = r
+        go false true = frame-right (frameOf frame)
+        go false false = r
+
+  pub stream-right : (d : Desk) → Right d → (ls : List Lent) → Right (deskAfter t d ls)
+  unfolding deskAfter
+  stream-right d r [] = r
+  stream-right d r (l ∷ ls) = stream-right _ (answer-right d r (l .frame) (l .room)) ls

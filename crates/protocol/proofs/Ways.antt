@@ -1,0 +1,141 @@
+-- The ways through a frame. Assumes nothing.
+use mathlib.Core.Path.{_≡_, refl, sym, ap, _∙_, subst}
+use mathlib.Core.Bool.{Bool, true, false, cond, _&&_, and-true, and-false}
+use mathlib.Core.List.{List, []}
+use Prim.Native.Nat.{ℕ, _≤_, _<_}
+use native.Mathlib.Decide.{decLt}
+use native.Mathlib.Omega.{arith}
+use borrow.Author.Tests.{lt-ltb, le-ltb, le-leb, lt-leb, leb-true, eqb-true, eqb-false}
+use lib.Dec.{eqb, leb}
+use lib.ListN.{length}
+use Rattle.status.specs.Status.{bufferTooSmall, letterUnbound, tableDamaged}
+use Rattle.tuning.specs.State.{held, heard, toneOf, validState}
+use Rattle.tuning.specs.declared.Reply.{Reply}
+use Rattle.tuning.specs.declared.Tone.{Tone}
+use Rattle.tuning.proofs.Lists.{both}
+use Rattle.tuning.proofs.Held.{heard-tone}
+use Rattle.tables.specs.Layout.{Tables}
+use Rattle.validity.specs.Valid.{validTables}
+use Rattle.frames.specs.Frames.{frameOf, inside, isHouse, isKey, lastKey}
+use Rattle.frames.specs.declared.Frame.{Frame}
+use Rattle.frames.specs.declared.Frame.the-variants.{Bad, Letter, Key, Dump}
+use Rattle.hexadecimal.specs.Hexadecimal.{lineOf}
+use Rattle.answers.specs.Answer.{letterBytes, keyBytes, smallestBuffer}
+use Rattle.protocol.specs.declared.Desk.{Desk}
+use Rattle.protocol.specs.declared.Answered.{Answered}
+use Rattle.protocol.specs.declared.letters.Press.{Press}
+use Rattle.protocol.specs.Letters.{Pressed, pressed}
+use Rattle.protocol.specs.Answers.{tuningFrom, madeFrom, lastNumber, Outcome, letterOutcome, soundAt, keyNumber, keyOutcome, frameOutcome}
+use Rattle.protocol.specs.Answers.{activeRight, validDesk, unchanged, answerOf, Gives}
+use Rattle.protocol.specs.Inner.{callsOf, pressedBy, badOutcome, dumpOutcome, Ready}
+
+-- what gives an outcome gives an equal one
+pub gives : {r : Answered} {before after : List ℕ} {o q : Outcome} → o ≡ q → Gives o r before after → Gives q r before after
+gives {r} {before} {after} e g = subst (λ (x : Outcome). Gives x r before after) e g
+
+-- a refusal leaves the buffer
+pub refusal : {r : Answered} {d : Desk} {n : ℕ} (buffer : List ℕ) → (r .desk ≡ d) × (r .number ≡ n) × (r .length ≡ 0)
+    → Gives (unchanged d n) r buffer buffer
+refusal buffer e = record { desk = e .0; number = e .1; length = e .2; buffer = refl }
+
+-- ---- the test of the tables and the desk
+
+-- a form that is no less and no more than another is that one
+pub one-form : (b : Bool) (f k : ℕ) → b && eqb f k ≡ b && leb k f && leb f k
+one-form b f k = go (eqb f k) refl
+  where
+    go : (e : Bool) → eqb f k ≡ e → b && e ≡ b && leb k f && leb f k
+    go true h = let z = eqb-true f k h in rw (le-leb k f (omega arith), le-leb f k (omega arith)) (sym (and-true (b && true)))
+    go false h =
+        elim (decLt f k) [
+          | yes l ↦ rw (lt-leb k f l, and-false b)
+          | no l ↦ let z = eqb-false f k h in rw (lt-leb f k (omega arith)) (and-false b ∙ sym (and-false (b && leb k f)))
+        ]
+
+module _ (t : Tables) (d : Desk) where
+  pub desk-tables : validTables t ≡ false → false ≡ validDesk t d
+  desk-tables h = rw h
+
+  pub desk-state : validTables t ≡ true → validState (d .tuning) ≡ false → false ≡ validDesk t d
+  desk-state h k = rw (h, k)
+
+  pub desk-active : validTables t ≡ true → validState (d .tuning) ≡ true → activeRight t (d .active) ≡ validDesk t d
+  desk-active h k = rw (h, k)
+
+  pub desk-ready : (buffer : List ℕ) → validDesk t d ≡ true → smallestBuffer ≤ length buffer → Ready t d buffer
+  desk-ready buffer h l =
+      let a = both (validTables t && validState (d .tuning)) (activeRight t (d .active)) h in
+      let b = both (validTables t) (validState (d .tuning)) (a .0) in
+      record { tables = b .0; state = b .1; active = a .1; room = l }
+
+-- ---- by the buffer, the tables and the desk
+
+module _ (t : Tables) (d : Desk) (frame : List ℕ) (room : ℕ) where
+  pub too-small : room < smallestBuffer → unchanged d bufferTooSmall ≡ answerOf t d frame room
+  unfolding answerOf
+  too-small l = rw (lt-ltb room smallestBuffer l)
+
+  pub damaged : {v : Bool} → smallestBuffer ≤ room → v ≡ validDesk t d → v ≡ false → unchanged d tableDamaged ≡ answerOf t d frame room
+  unfolding answerOf
+  damaged l e f = rw (le-ltb room smallestBuffer l, ← e, f)
+
+  pub taken : {v : Bool} → smallestBuffer ≤ room → v ≡ validDesk t d → v ≡ true → frameOutcome t d (frameOf frame) ≡ answerOf t d frame room
+  unfolding answerOf
+  taken l e f = rw (le-ltb room smallestBuffer l, ← e, f)
+
+-- ---- by the frame
+
+pub key-inside : {f : Frame} (house key : ℕ) → f ≡ Key house key → inside f ≡ true → key ≤ lastKey
+key-inside house key e h = leb-true key lastKey (both (isHouse house) (isKey key) (ap inside (sym e) ∙ h) .1)
+
+module _ (t : Tables) (d : Desk) (frame : List ℕ) {f : Frame} (e : f ≡ frameOf frame) where
+  on-frame : {g : Frame} → f ≡ g → frameOutcome t d g ≡ frameOutcome t d (frameOf frame)
+  on-frame h = ap (frameOutcome t d) (sym h ∙ e)
+
+  pub on-bad : f ≡ Bad → badOutcome d ≡ frameOutcome t d (frameOf frame)
+  unfolding frameOutcome
+  on-bad h = on-frame h
+
+  pub on-letter : (house letter : ℕ) → f ≡ Letter house letter → letterOutcome t d house letter ≡ frameOutcome t d (frameOf frame)
+  unfolding frameOutcome
+  on-letter house letter h = on-frame h
+
+  pub on-key : (house key : ℕ) → f ≡ Key house key → keyOutcome d house key ≡ frameOutcome t d (frameOf frame)
+  unfolding frameOutcome
+  on-key house key h = on-frame h
+
+  pub on-dump : (house : ℕ) → f ≡ Dump house → dumpOutcome d house ≡ frameOutcome t d (frameOf frame)
+  unfolding frameOutcome
+  on-dump house h = on-frame h
+
+-- ---- a letter
+
+module _ (t : Tables) (d : Desk) (house letter : ℕ) where
+  -- by what the letter comes to
+  abbrev outcome : Pressed → Outcome
+  outcome x =
+      let s = tuningFrom t (d .tuning) (x .calls) in
+      let ms = madeFrom t (d .tuning) (x .calls) in
+      let n = cond (x .bound) (lastNumber ms) letterUnbound in
+      record { desk = record { tuning = s; active = x .active }; number = n; made = ms; line = lineOf (letterBytes house letter n (held s)) }
+
+  pub letter-gives : (p : Press) (q : Reply) (n : ℕ) → pressedBy p ≡ pressed t (d .active) letter
+      → q .state ≡ tuningFrom t (d .tuning) (callsOf (p .called)) → q .number ≡ lastNumber (madeFrom t (d .tuning) (callsOf (p .called)))
+      → n ≡ cond (p .bound) (q .number) letterUnbound
+      → _≡_ {A = Outcome} (record {
+        desk = record { tuning = q .state; active = p .active };
+        number = n;
+        made = madeFrom t (d .tuning) (callsOf (p .called));
+        line = lineOf (letterBytes house letter n (held (q .state)));
+      }) (letterOutcome t d house letter)
+  unfolding letterOutcome
+  letter-gives p q n e f g h = rw (h, g, f) (ap outcome e)
+
+-- ---- a key
+
+pub key-gives : (d : Desk) (house key : ℕ) (tone : Tone) (n : ℕ) → tone ≡ toneOf (soundAt d key) → n ≡ keyNumber (heard tone)
+    → _≡_ {A = Outcome} (record { desk = d; number = n; made = []; line = lineOf (keyBytes house key n (heard tone)) }) (keyOutcome d house key)
+unfolding keyOutcome
+key-gives d house key tone n e f =
+    let z : heard tone ≡ soundAt d key = ap heard e ∙ heard-tone (soundAt d key) in
+    rw (f, z)

@@ -1,0 +1,129 @@
+-- What a frame does: the desk after it, the number, the calls that were made, and the answer's line. Document 01, "Frames", and "Numbers returned".
+use mathlib.Core.Path.{_≡_}
+use mathlib.Core.Bool.{Bool, true, false, cond, _&&_}
+use mathlib.Core.List.{List, [], _∷_, _++_}
+use mathlib.Core.Option.{Option, some, none}
+use Prim.Native.Nat.{ℕ}
+use lib.Dec.{ltb}
+use lib.IntN.{ℤ}
+use lib.ListN.{length, drop}
+use Rattle.status.specs.Status.{done, bufferTooSmall, keySilent, letterUnbound, badFrame, tableDamaged}
+use Rattle.tuning.specs.Scale.{Sound, muted, sounds}
+use Rattle.tuning.specs.Tuning.{Action, soundOf, start}
+use Rattle.tuning.specs.Desk.{cents}
+use Rattle.tuning.specs.State.{held, coded, replied, validState}
+use Rattle.tuning.specs.declared.State.{State}
+use Rattle.tuning.specs.declared.Reply.{Reply}
+use Rattle.tables.specs.Layout.{Tables, rowCount, logicForm}
+use Rattle.validity.specs.Valid.{isForm, validTables}
+use Rattle.frames.specs.Frames.{frameOf}
+use Rattle.frames.specs.declared.Frame.{Frame}
+use Rattle.frames.specs.declared.Frame.the-variants.{Bad, Letter, Key, Dump}
+use Rattle.hexadecimal.specs.Hexadecimal.{lineOf}
+use Rattle.answers.specs.Answer.{letterBytes, keyBytes, dumpBytes, badBytes, smallestBuffer}
+use Rattle.protocol.specs.declared.Active.{Active}
+use Rattle.protocol.specs.declared.Active.the-variants as active
+use Rattle.protocol.specs.declared.Desk.{Desk}
+use Rattle.protocol.specs.declared.Answered.{Answered}
+use Rattle.protocol.specs.Letters.{actionAt, pressed}
+
+-- "At the start: .. no logic active."
+abbrev pub startDesk : Desk
+startDesk = record { tuning = coded (start cents); active = active.Nothing }
+
+-- ---- calls
+
+-- a call of a declaration: the state that it leaves, and its number
+abbrev pub byAction : State → Option (Action cents) → Reply
+byAction s none = record { state = s; number = done }
+byAction s (some c) = replied s c
+
+unfoldable pub callOn : Tables → State → ℕ → Reply
+callOn t s k = byAction s (actionAt t k)
+
+-- a call that was made: the declaration that was called, and the number that the call got
+pub record Made : Type 0 where
+  pub called : ℕ
+  pub number : ℕ
+
+-- the state after calls in their order, and the calls with their numbers
+unfoldable pub tuningFrom : Tables → State → List ℕ → State
+tuningFrom t s [] = s
+tuningFrom t s (k ∷ ks) = tuningFrom t (callOn t s k .state) ks
+
+unfoldable pub madeFrom : Tables → State → List ℕ → List Made
+madeFrom t s [] = []
+madeFrom t s (k ∷ ks) = record { called = k; number = callOn t s k .number } ∷ madeFrom t (callOn t s k .state) ks
+
+-- "the number returned is that of the call, 0 with no start"
+abbrev pub lastNumber : List Made → ℕ
+lastNumber [] = done
+lastNumber (m ∷ []) = m .number
+lastNumber (m ∷ n ∷ ms) = lastNumber (n ∷ ms)
+
+-- ---- what a frame does, by its kind; the line is empty where nothing is written
+
+pub record Outcome : Type 0 where
+  pub desk : Desk
+  pub number : ℕ
+  pub made : List Made
+  pub line : List ℕ
+
+unfoldable pub letterOutcome : Tables → Desk → ℕ → ℕ → Outcome
+letterOutcome t d house letter =
+    let x = pressed t (d .active) letter in
+    let s = tuningFrom t (d .tuning) (x .calls) in
+    let ms = madeFrom t (d .tuning) (x .calls) in
+    let n = cond (x .bound) (lastNumber ms) letterUnbound in
+    record { desk = record { tuning = s; active = x .active }; number = n; made = ms; line = lineOf (letterBytes house letter n (held s)) }
+
+-- what a key sounds, as the frame of kind 02 answers it
+abbrev pub soundAt : Desk → ℕ → Sound ℤ
+soundAt d key = soundOf cents (held (d .tuning)) key
+
+-- "key asked is silent; pitch bytes 80000000"
+abbrev pub keyNumber : Sound ℤ → ℕ
+keyNumber muted = keySilent
+keyNumber (sounds z) = done
+
+unfoldable pub keyOutcome : Desk → ℕ → ℕ → Outcome
+keyOutcome d house key =
+    let t = soundAt d key in
+    record { desk = d; number = keyNumber t; made = []; line = lineOf (keyBytes house key (keyNumber t) t) }
+
+unfoldable pub frameOutcome : Tables → Desk → Frame → Outcome
+frameOutcome t d Bad = record { desk = d; number = badFrame; made = []; line = lineOf badBytes }
+frameOutcome t d (Letter house letter) = letterOutcome t d house letter
+frameOutcome t d (Key house key) = keyOutcome d house key
+frameOutcome t d (Dump house) = record { desk = d; number = done; made = []; line = lineOf (dumpBytes house (held (d .tuning))) }
+
+-- ---- the whole answer
+
+-- "a state's number out of range": the state's numbers, and the active logic is none or a logic of the tables
+abbrev pub activeRight : Tables → Active → Bool
+activeRight t active.Nothing = true
+activeRight t (active.Logic i) = isForm (t .rows) (rowCount t) logicForm logicForm i
+
+abbrev pub validDesk : Tables → Desk → Bool
+validDesk t d = validTables t && validState (d .tuning) && activeRight t (d .active)
+
+-- nothing changes, nothing is written, nothing is called
+abbrev pub unchanged : Desk → ℕ → Outcome
+unchanged d n = record { desk = d; number = n; made = []; line = [] }
+
+-- "For a frame: 19, 23, 22, then the rest." `room` is the length of the buffer that is lent.
+unfoldable pub answerOf : Tables → Desk → List ℕ → ℕ → Outcome
+answerOf t d frame room =
+    cond (ltb room smallestBuffer) (unchanged d bufferTooSmall)
+    (cond (validDesk t d) (frameOutcome t d (frameOf frame)) (unchanged d tableDamaged))
+
+-- a buffer that begins with the line: "Bytes after the answer's line feed keep what they held."
+abbrev pub begunWith : List ℕ → List ℕ → List ℕ
+begunWith line buffer = line ++ drop (length line) buffer
+
+-- the whole result of a call, with the lent buffer before it and after it
+pub record Gives (o : Outcome) (r : Answered) (before after : List ℕ) : Type 0 where
+  pub desk : r .desk ≡ o .desk
+  pub number : r .number ≡ o .number
+  pub length : r .length ≡ length (o .line)
+  pub buffer : after ≡ begunWith (o .line) before

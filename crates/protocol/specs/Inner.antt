@@ -1,0 +1,110 @@
+-- What the contracts of private functions cite: no part of the rules.
+use mathlib.Core.Path.{_≡_}
+use mathlib.Core.Bool.{true}
+use mathlib.Core.List.{List, [], _∷_}
+use mathlib.Core.Option.{Option, some, none}
+use Prim.Native.Nat.{ℕ, _≤_}
+use lib.IntN.{ℤ}
+use lib.ListN.{length}
+use Rattle.status.specs.Status.{done, badFrame}
+use Rattle.tuning.specs.State.{held, validState}
+use Rattle.tables.specs.declared.Row.{Row as TableRow}
+use Rattle.tables.specs.declared.Row.the-variants.{Unused, Interval, Tone, System, Retuning, Logic}
+use Rattle.tables.specs.Layout.{Tables, rowCount, readAt, rowAt}
+use Rattle.tables.specs.Values.{FieldsFit}
+use Rattle.validity.specs.Valid.{validTables}
+use Rattle.validity.proofs.Laws.{ValidSystem, ValidRetuning}
+use Rattle.hexadecimal.specs.Hexadecimal.{lineOf}
+use Rattle.answers.specs.Answer.{dumpBytes, badBytes, smallestBuffer}
+use Rattle.protocol.specs.declared.Active.{Active}
+use Rattle.protocol.specs.declared.Active.the-variants as active
+use Rattle.protocol.specs.declared.Found.{Found}
+use Rattle.protocol.specs.declared.Found.the-variants.{Nothing, Row}
+use Rattle.protocol.specs.declared.Desk.{Desk}
+use Rattle.protocol.specs.declared.letters.Press.{Press}
+use Rattle.protocol.specs.Letters.{Pressed, firstLogic, elseOrder}
+use Rattle.protocol.specs.Answers.{Outcome, activeRight}
+
+-- ---- the code's values
+
+-- a declaration's number, or none, as the code's enum
+abbrev pub found : Option ℕ → Found
+found none = Nothing
+found (some k) = Row k
+
+-- the declarations that are called: at most one
+abbrev pub callsOf : Found → List ℕ
+callsOf Nothing = []
+callsOf (Row k) = k ∷ []
+
+-- what a letter comes to, as the code's struct has it
+abbrev pub pressedBy : Press → Pressed
+pressedBy p = record { bound = p .bound; active = p .active; calls = callsOf (p .called) }
+
+-- ---- what is lent, as tables; and so far as a letter, or a call, reads them
+
+abbrev pub lent : List ℤ → List ℕ → List ℤ → List ℕ → List ℤ → List ℕ → List ℕ → List ℕ → Tables
+lent rows sounding tones kinds changes letters calls counts =
+    record { rows = rows; sounding = sounding; tones = tones; kinds = kinds; changes = changes; letters = letters; calls = calls; counts = counts }
+
+abbrev pub forLetters : List ℤ → ℕ → List ℕ → List ℕ → Tables
+forLetters rows count letters calls =
+    record { rows = rows; sounding = []; tones = []; kinds = []; changes = []; letters = letters; calls = calls; counts = count ∷ [] }
+
+abbrev pub forCalls : List ℤ → List ℕ → List ℤ → List ℕ → List ℤ → Tables
+forCalls rows sounding tones kinds changes =
+    record { rows = rows; sounding = sounding; tones = tones; kinds = kinds; changes = changes; letters = []; calls = []; counts = [] }
+
+-- ---- what is required of them
+
+-- the orders of a logic are all there
+abbrev pub OrdersThere : Tables → TableRow → Type 0
+OrdersThere t Unused = Unit
+OrdersThere t (Interval d) = Unit
+OrdersThere t (Tone p) = Unit
+OrdersThere t (System a P from to) = Unit
+OrdersThere t (Retuning r from to) = Unit
+OrdersThere t (Logic c s from to) = (to ≤ length (t .letters)) × (to ≤ length (t .calls))
+
+-- the active logic's row can be read, and its orders
+abbrev pub ActiveReadable : Tables → Active → Type 0
+ActiveReadable t active.Nothing = Unit
+ActiveReadable t (active.Logic i) = FieldsFit (readAt (t .rows) i) × OrdersThere t (rowAt t i)
+
+-- and the row of the declaration that a letter names
+pub record Pressable (t : Tables) (a : Active) (letter : ℕ) : Type 0 where
+  pub active : ActiveReadable t a
+  pub called : (k : ℕ) → elseOrder t a letter (firstLogic (t .rows) letter 0 (rowCount t)) ≡ some k → FieldsFit (readAt (t .rows) k)
+
+-- a tone system or retuning has what a call of it needs
+abbrev pub CallableRow : Tables → TableRow → Type 0
+CallableRow t Unused = Unit
+CallableRow t (Interval d) = Unit
+CallableRow t (Tone p) = Unit
+CallableRow t (System a P from to) = ValidSystem t (a .0) (P .0) from to
+CallableRow t (Retuning r from to) = ValidRetuning t r from to
+CallableRow t (Logic c s from to) = Unit
+
+pub record Callable (t : Tables) (k : ℕ) : Type 0 where
+  pub fields : FieldsFit (readAt (t .rows) k)
+  pub row : CallableRow t (rowAt t k)
+
+abbrev pub CallableFound : Tables → Found → Type 0
+CallableFound t Nothing = Unit
+CallableFound t (Row k) = Callable t k
+
+-- ---- of frames
+
+-- a bad frame, and the frame of kind 03, as `frameOutcome` has them
+abbrev pub badOutcome : Desk → Outcome
+badOutcome d = record { desk = d; number = badFrame; made = []; line = lineOf badBytes }
+
+abbrev pub dumpOutcome : Desk → ℕ → Outcome
+dumpOutcome d house = record { desk = d; number = done; made = []; line = lineOf (dumpBytes house (held (d .tuning))) }
+
+-- what is known once 19 and 23 are excluded
+pub record Ready (t : Tables) (d : Desk) (buffer : List ℕ) : Type 0 where
+  pub tables : validTables t ≡ true
+  pub state : validState (d .tuning) ≡ true
+  pub active : activeRight t (d .active) ≡ true
+  pub room : smallestBuffer ≤ length buffer

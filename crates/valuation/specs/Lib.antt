@@ -1,0 +1,2 @@
+-- The values of a text's declarations, from its items.
+pub mod Inner

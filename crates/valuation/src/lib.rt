@@ -1,0 +1,1 @@
+// The values of a text's declarations: each declaration's own measure and terms are gathered from the items, then resolved.
