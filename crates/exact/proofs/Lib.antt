@@ -5,4 +5,12 @@ pub mod Along
 pub mod Measured
 pub mod Numbers
 pub mod Calls
+pub mod Decoded
+pub mod Capped
+pub mod Worked
+pub mod Declared
+pub mod Stream
+pub mod Matched
+pub mod Claim
 pub mod CaseS
+pub mod CaseSFrames

@@ -2,3 +2,6 @@
 pub mod Entry
 pub mod Book
 pub mod CaseS
+pub mod Actions
+pub mod Claim
+pub mod CaseSFrames

@@ -1,0 +1,40 @@
+-- Demand 3: for every text that is accepted and every stream of frames, with answer buffers of any length, the desk and the exact book have the same
+-- anchor and width, and each key is silent in both, or its pitch is at most w thousandths of a cent from its exact frequency.
+use mathlib.Core.Path.{_≡_}
+use mathlib.Core.List.{List}
+use Prim.Native.Nat.{ℕ}
+use Rattle.values.specs.declared.Outcome.the-variants.{Done}
+use Rattle.tuning.specs.Tuning.{start}
+use Rattle.tuning.specs.Desk.{cents}
+use Rattle.tuning.specs.State.{held}
+use Rattle.tuning.proofs.Laws.{start-valid}
+use Rattle.program.specs.Program.{Program}
+use Rattle.program.specs.Meaning.{valued}
+use Rattle.program.specs.Allowed.{Allowed}
+use Rattle.program.specs.Text.{accepted, readText}
+use Rattle.program.proofs.AcceptedText.{steps}
+use Rattle.program.proofs.AllowedText.{accepted-allowed}
+use Rattle.filling.specs.Tables.{tablesOf}
+use Rattle.protocol.specs.Answers.{startDesk}
+use Rattle.protocol.specs.Streams.{Lent, deskAfter}
+use Rattle.exact.specs.Book.{entries}
+use Rattle.exact.specs.Actions.{declaredIn}
+use Rattle.exact.specs.Claim.{bookAfter, StreamAgrees}
+use Rattle.exact.proofs.Follows.{start-follows}
+use Rattle.exact.proofs.Measured.{measure-follows}
+use Rattle.exact.proofs.Calls.{agrees}
+use Rattle.exact.proofs.Declared.{in-range}
+use Rattle.exact.proofs.Stream.{coded-kept, stream-kept}
+use Rattle.exact.proofs.Matched.{matches}
+
+-- the same for a program whose numbers are allowed and whose values are in their ranges
+allowed-agrees : (p : Program) → Allowed p → valued p ≡ Done → (stream : List Lent) → StreamAgrees p stream
+unfolding bookAfter
+allowed-agrees p allowed done stream =
+    let ds = declaredIn p in
+    let begun = coded-kept ds (start cents) (start entries) start-valid (start-follows entries cents (measure-follows ds)) in
+    let kept = stream-kept (tablesOf p) p (matches p allowed done) stream startDesk (start entries) begun in
+    agrees (in-range p allowed) (held (deskAfter (tablesOf p) startDesk stream .tuning)) (bookAfter p stream) (kept .agree)
+
+pub stream-agrees : (text : List ℕ) (p : Program) → readText text ≡ accepted p → (stream : List Lent) → StreamAgrees p stream
+stream-agrees text p e stream = allowed-agrees p (accepted-allowed text p e) (steps text p e .values) stream

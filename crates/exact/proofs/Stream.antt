@@ -1,0 +1,134 @@
+-- The desk and the book along a stream, for any tables whose rows call what the program's declarations call: what is kept from call to call.
+use mathlib.Core.Path.{_≡_, refl, sym, ap, subst}
+use mathlib.Core.Bool.{Bool, true, false, cond}
+use mathlib.Core.List.{List, [], _∷_, _++_}
+use mathlib.Core.Option.{Option, some, none}
+use Prim.Native.Nat.{ℕ}
+use lib.Dec.{ltb}
+use Rattle.tuning.specs.Tuning.{Tuning, Action}
+use Rattle.tuning.specs.Desk.{cents, Called, called}
+use Rattle.tuning.specs.State.{held, coded}
+use Rattle.tuning.specs.declared.State.{State}
+use Rattle.tuning.proofs.Held.{ValidTuning, held-coded}
+use Rattle.tuning.proofs.Laws.{ValidAction, valid-stays}
+use Rattle.tables.specs.Layout.{Tables}
+use Rattle.program.specs.Program.{Program}
+use Rattle.frames.specs.declared.Frame.{Frame}
+use Rattle.frames.specs.declared.Frame.the-variants.{Bad, Letter, Key, Dump}
+use Rattle.frames.specs.Frames.{frameOf}
+use Rattle.answers.specs.Answer.{smallestBuffer}
+use Rattle.status.specs.Status.{bufferTooSmall, tableDamaged}
+use Rattle.protocol.specs.declared.Desk.{Desk}
+use Rattle.protocol.specs.Letters.{actionAt, pressed}
+use Rattle.protocol.specs.Answers.{Made, byAction, callOn, tuningFrom, madeFrom}
+use Rattle.protocol.specs.Answers.{Outcome, letterOutcome, keyOutcome, frameOutcome, validDesk, unchanged, answerOf}
+use Rattle.protocol.specs.Streams.{Lent, deskAfter, madeIn}
+use Rattle.exact.specs.Book as book
+use Rattle.exact.specs.Book.{Declared, entries, bookFrom, deskFrom}
+use Rattle.exact.specs.Actions.{declaredIn, bookAction}
+use Rattle.exact.specs.Claim.{ifCalled, fedBy}
+use Rattle.exact.proofs.Follows.{Agree, ActionBoth}
+use Rattle.exact.proofs.Measured.{measure-follows}
+use Rattle.exact.proofs.Calls as Calls
+use Rattle.exact.proofs.Calls.{calls-follow, book-append}
+
+-- ---- what the book is fed, in parts
+
+fed-append : (p : Program) (l m : List Made) → fedBy p (l ++ m) ≡ fedBy p l ++ fedBy p m
+unfolding fedBy
+fed-append p [] m = refl
+fed-append p (x ∷ l) m = go (bookAction p (x .called)) (fed-append p l m)
+  where
+    go : (o : Option (Action entries)) → fedBy p (l ++ m) ≡ fedBy p l ++ fedBy p m
+        → ifCalled o (x .number) (fedBy p (l ++ m)) ≡ ifCalled o (x .number) (fedBy p l) ++ fedBy p m
+    go none e = e
+    go (some c) e = ap (λ (r : List book.Made). record { call = c; number = x .number } ∷ r) e
+
+fed-first : (b : Tuning entries) (o : Option (Action entries)) (n : ℕ) (rest : List book.Made)
+    → bookFrom (bookFrom b (ifCalled o n [])) rest ≡ bookFrom b (ifCalled o n rest)
+unfolding bookFrom
+fed-first b none n rest = refl
+fed-first b (some c) n rest = refl
+
+-- ---- one call
+
+-- what a row and the book call, on a state: nothing, or the call of an action that keeps states valid and that the book works out alike
+pub data Matches (ds : List (Option Declared)) (s : Tuning cents) : Option (Action cents) → Option (Action entries) → Type 0 where
+  no-call : Matches ds s none none
+  one-call : {c d : Action cents} {b : Action entries} → called s c ≡ called s d → ValidAction d → ActionBoth (measure-follows ds) b d
+      → Matches ds s (some c) (some b)
+
+-- the state is valid, and each of its tones is where the book's entry is measured
+pub record Kept (ds : List (Option Declared)) (s : State) (b : Tuning entries) : Type 0 where
+  pub valid : ValidTuning (held s)
+  pub agree : Agree (measure-follows ds) b (held s)
+
+module _ (ds : List (Option Declared)) where
+  call-agrees : (s : Tuning cents) (b : Tuning entries) → Agree (measure-follows ds) b s → {d : Action cents} {c : Action entries}
+      → ActionBoth (measure-follows ds) c d
+      → Agree (measure-follows ds) (bookFrom b (record { call = c; number = called s d .number } ∷ [])) (called s d .state)
+  unfolding deskFrom book.madeFrom bookFrom
+  call-agrees s b h {d} {c} k = calls-follow ds (Calls.call-and {c = record { desk = d; book = c }} k Calls.no-call) s b h
+
+  pub coded-kept : (s : Tuning cents) (b : Tuning entries) → ValidTuning s → Agree (measure-follows ds) b s → Kept ds (coded s) b
+  coded-kept s b v h = record { valid = rw (held-coded s) v; agree = rw (held-coded s) h }
+
+  call-kept : (s : State) (b : Tuning entries) → Kept ds s b → {x : Option (Action cents)} {y : Option (Action entries)} → Matches ds (held s) x y
+      → Kept ds (byAction s x .state) (bookFrom b (ifCalled y (byAction s x .number) []))
+  unfolding bookFrom
+  call-kept s b h no-call = h
+  call-kept s b h (one-call {c} {d} {b = a} e v k) =
+      subst (λ (r : Called). Kept ds (coded (r .state)) (bookFrom b (record { call = a; number = r .number } ∷ []))) (sym e)
+      (coded-kept (called (held s) d .state) (bookFrom b (record { call = a; number = called (held s) d .number } ∷ []))
+      (valid-stays (held s) (h .valid) d v) (call-agrees (held s) b (h .agree) k))
+
+-- ---- calls, frames, streams
+
+-- every row of the tables calls what the declaration of its number calls
+abbrev pub AllMatch : Tables → Program → Type 0
+AllMatch t p = (s : Tuning cents) → ValidTuning s → (k : ℕ) → Matches (declaredIn p) s (actionAt t k) (bookAction p k)
+
+module _ (t : Tables) (p : Program) (matches : AllMatch t p) where
+  calls-kept : (ks : List ℕ) (s : State) (b : Tuning entries) → Kept (declaredIn p) s b
+      → Kept (declaredIn p) (tuningFrom t s ks) (bookFrom b (fedBy p (madeFrom t s ks)))
+  unfolding tuningFrom madeFrom callOn fedBy bookFrom
+  calls-kept [] s b h = h
+  calls-kept (k ∷ ks) s b h =
+      let r = callOn t s k in
+      rw (← (fed-first b (bookAction p k) (r .number) (fedBy p (madeFrom t (r .state) ks))))
+      (calls-kept ks (r .state) (bookFrom b (ifCalled (bookAction p k) (r .number) []))
+      (call-kept (declaredIn p) s b h (matches (held s) (h .valid) k)))
+
+  -- what is kept after a frame
+  abbrev After : Tuning entries → Outcome → Type 0
+  After b o = Kept (declaredIn p) (o .desk .tuning) (bookFrom b (fedBy p (o .made)))
+
+  frame-kept : (d : Desk) (b : Tuning entries) → Kept (declaredIn p) (d .tuning) b → (f : Frame) → After b (frameOutcome t d f)
+  unfolding frameOutcome letterOutcome keyOutcome fedBy bookFrom
+  frame-kept d b h Bad = h
+  frame-kept d b h (Letter house letter) = calls-kept (pressed t (d .active) letter .calls) (d .tuning) b h
+  frame-kept d b h (Key house key) = h
+  frame-kept d b h (Dump house) = h
+
+  answer-kept : (d : Desk) (b : Tuning entries) → Kept (declaredIn p) (d .tuning) b → (frame : List ℕ) (room : ℕ) → After b (answerOf t d frame room)
+  unfolding answerOf fedBy bookFrom
+  answer-kept d b h frame room = small (ltb room smallestBuffer)
+    where
+      sound : (valid : Bool) → After b (cond valid (frameOutcome t d (frameOf frame)) (unchanged d tableDamaged))
+      sound true = frame-kept d b h (frameOf frame)
+      sound false = h
+
+      small : (is : Bool)
+          → After b (cond is (unchanged d bufferTooSmall) (cond (validDesk t d) (frameOutcome t d (frameOf frame)) (unchanged d tableDamaged)))
+      small true = h
+      small false = sound (validDesk t d)
+
+  pub stream-kept : (stream : List Lent) (d : Desk) (b : Tuning entries) → Kept (declaredIn p) (d .tuning) b
+      → Kept (declaredIn p) (deskAfter t d stream .tuning) (bookFrom b (fedBy p (madeIn t d stream)))
+  unfolding deskAfter madeIn fedBy bookFrom
+  stream-kept [] d b h = h
+  stream-kept (l ∷ ls) d b h =
+      let o = answerOf t d (l .frame) (l .room) in
+      let rest = madeIn t (o .desk) ls in
+      rw (fed-append p (o .made) rest, book-append b (fedBy p (o .made)) (fedBy p rest))
+      (stream-kept ls (o .desk) (bookFrom b (fedBy p (o .made))) (answer-kept d b h (l .frame) (l .room)))
