@@ -56,4 +56,3 @@ fn place_of(items: &[u32], count: usize, starts: &[u32], n: usize, d: usize) -> 
     let at = starts[d] as usize;
     items[ITEM_SIZE * at + ITEM_PLACE]
 }
-
