@@ -1,12 +1,13 @@
 -- A right desk over valid tables stays right, whatever the stream: so 23 is never given after the start. Assumes nothing.
-use mathlib.Core.Path.{_≡_, refl, ap, _∙_}
-use mathlib.Core.Bool.{Bool, true, false, cond}
+use mathlib.Core.Path.{_≡_, refl, sym, ap, _∙_, subst}
+use mathlib.Core.Bool.{true}
 use mathlib.Core.List.{List, [], _∷_}
 use mathlib.Core.Option.{Option, some, none}
 use Prim.Native.Nat.{ℕ, _<_}
+use native.Mathlib.Decide.{decLt}
+use native.Mathlib.Omega.{arith}
 use borrow.Author.Tests.{lt-ltb, eq-eqb, eqb-true}
-use lib.Dec.{ltb, eqb}
-use Rattle.status.specs.Status.{bufferTooSmall, tableDamaged}
+use lib.Dec.{eqb}
 use Rattle.tuning.specs.Tuning.{start}
 use Rattle.tuning.specs.Desk.{cents}
 use Rattle.tuning.proofs.Lists.{both}
@@ -24,12 +25,13 @@ use Rattle.protocol.specs.declared.Active.{Active}
 use Rattle.protocol.specs.declared.Active.the-variants as active
 use Rattle.protocol.specs.declared.Desk.{Desk}
 use Rattle.protocol.specs.Letters.{isLogicOf, callsBy, unlessUnbound, pressed}
-use Rattle.protocol.specs.Answers.{startDesk, letterOutcome, keyOutcome, frameOutcome, activeRight, validDesk, unchanged, answerOf}
+use Rattle.protocol.specs.Answers.{startDesk, Outcome, letterOutcome, keyOutcome, frameOutcome, activeRight, validDesk, answerOf}
 use Rattle.protocol.specs.Streams.{Lent, deskAfter}
 use Rattle.protocol.proofs.Searches.{logic-by}
 use Rattle.protocol.proofs.Presses.{named}
 use Rattle.protocol.proofs.Pressable.{named-within, pressed-within}
 use Rattle.protocol.proofs.Callable.{Whole, tuning-valid}
+use Rattle.protocol.proofs.Ways.{too-small, taken, letter-desk}
 
 -- a row that is a logic has the form of one
 logic-form : (t : Tables) (i : ℕ) {c s from to : ℕ} → rowAt t i ≡ Logic c s from to → readAt (t .rows) i .form ≡ logicForm
@@ -69,12 +71,11 @@ module _ (t : Tables) (v : validTables t ≡ true) where
 
   module _ (d : Desk) (r : Right d) where
     letter-right : (house letter : ℕ) → Right (letterOutcome t d house letter .desk)
-    unfolding letterOutcome
     letter-right house letter =
-        record {
+        subst Right (sym (letter-desk t d house letter)) (record {
           tuning = tuning-valid t v (d .tuning) _ (pressed-within t v (d .active) (r .active) letter) (r .tuning);
           active = pressed-right (d .active) (r .active) letter;
-        }
+        })
 
     frame-right : (f : Frame) → Right (frameOutcome t d f .desk)
     unfolding frameOutcome keyOutcome
@@ -84,14 +85,11 @@ module _ (t : Tables) (v : validTables t ≡ true) where
     frame-right (Dump house) = r
 
     pub answer-right : (frame : List ℕ) (room : ℕ) → Right (answerOf t d frame room .desk)
-    unfolding answerOf
-    answer-right frame room = go (ltb room smallestBuffer) (validDesk t d)
-      where
-        go : (small valid : Bool)
-            → Right (cond small (unchanged d bufferTooSmall) (cond valid (frameOutcome t d (frameOf frame)) (unchanged d tableDamaged)) .desk)
-        go true valid = r
-        go false true = frame-right (frameOf frame)
-        go false false = r
+    answer-right frame room =
+        elim (decLt room smallestBuffer) [
+          | yes h ↦ subst (λ (o : Outcome). Right (o .desk)) (too-small t d frame room h) r
+          | no h ↦ subst (λ (o : Outcome). Right (o .desk)) (taken t d frame room (omega arith) refl (right-valid d r)) (frame-right (frameOf frame))
+        ]
 
   pub stream-right : (d : Desk) → Right d → (ls : List Lent) → Right (deskAfter t d ls)
   unfolding deskAfter

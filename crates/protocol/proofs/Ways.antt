@@ -75,11 +75,13 @@ module _ (t : Tables) (d : Desk) (frame : List ℕ) (room : ℕ) where
   unfolding answerOf
   too-small l = rw (lt-ltb room smallestBuffer l)
 
-  pub damaged : {v : Bool} → smallestBuffer ≤ room → v ≡ validDesk t d → v ≡ false → unchanged d tableDamaged ≡ answerOf t d frame room
+  pub damaged : {v : Bool} → smallestBuffer ≤ room → v ≡ validDesk t d → v ≡ false
+      → unchanged d tableDamaged ≡ answerOf t d frame room
   unfolding answerOf
   damaged l e f = rw (le-ltb room smallestBuffer l, ← e, f)
 
-  pub taken : {v : Bool} → smallestBuffer ≤ room → v ≡ validDesk t d → v ≡ true → frameOutcome t d (frameOf frame) ≡ answerOf t d frame room
+  pub taken : {v : Bool} → smallestBuffer ≤ room → v ≡ validDesk t d → v ≡ true
+      → frameOutcome t d (frameOf frame) ≡ answerOf t d frame room
   unfolding answerOf
   taken l e f = rw (le-ltb room smallestBuffer l, ← e, f)
 
@@ -130,6 +132,11 @@ module _ (t : Tables) (d : Desk) (house letter : ℕ) where
       }) (letterOutcome t d house letter)
   unfolding letterOutcome
   letter-gives p q n e f g h = rw (h, g, f) (ap outcome e)
+
+  pub letter-desk : let x = pressed t (d .active) letter in
+      letterOutcome t d house letter .desk ≡ record { tuning = tuningFrom t (d .tuning) (x .calls); active = x .active }
+  unfolding letterOutcome
+  letter-desk = refl
 
 -- ---- a key
 

@@ -1,0 +1,6 @@
+pub mod Lists
+pub mod Between
+pub mod Contents
+pub mod Terms
+pub mod Ready
+pub mod Tables
