@@ -1,4 +1,4 @@
--- A row of calls: the desk and the book that is fed the same calls with their numbers agree after each of them.
+-- A call: the desk and the book that is fed the same call with its number agree after it.
 use mathlib.Core.Path.{_≡_, refl, sym, subst}
 use mathlib.Core.List.{List, [], _∷_, _++_}
 use mathlib.Core.Option.{Option}
@@ -9,13 +9,13 @@ use Rattle.integers.proofs.Signed.{signed, one, _⊕_, _⊖_, lin}
 use Rattle.cents.specs.Measure.{pitch440}
 use Rattle.cents.proofs.Near.{Close, close-lift, to-near}
 use Rattle.tuning.specs.Scale.{Sound}
-use Rattle.tuning.specs.Tuning.{Tuning, done, start}
+use Rattle.tuning.specs.Tuning.{Tuning, Action, done}
 use Rattle.tuning.specs.Desk.{cents, ifTaken, called}
 use Rattle.exact.specs.Entry.{Entry, degrees, weight, u, v, Within}
-use Rattle.exact.specs.Book.{Declared, Powers, entries, numbersOf, written, Made, bookFrom, bookAfter, Call, deskFrom, madeFrom, KeyAgrees, both-silent, near, Agrees, AllInRange}
+use Rattle.exact.specs.Book.{Declared, Powers, entries, numbersOf, written, Made, bookFrom, KeyAgrees, both-silent, near, Agrees, AllInRange}
 use Rattle.exact.proofs.EntryNear.{pitch, entry-near}
 use Rattle.exact.proofs.Follows as F
-use Rattle.exact.proofs.Follows.{Both, Agree, ActionBoth, same-length, sound-follows, done-follows, start-follows}
+use Rattle.exact.proofs.Follows.{Both, Agree, ActionBoth, same-length, sound-follows, done-follows}
 use Rattle.exact.proofs.Measured.{MeasuredTone, measure-follows}
 use Rattle.exact.proofs.Numbers.{written-good}
 
@@ -44,35 +44,20 @@ module _ {ds : List (Option Declared)} (a : AllInRange ds) where
     key = λ x. key-agrees (sound-follows entries cents (measure-follows ds) book desk h x);
   }
 
--- ---- a row of calls
-
--- each call is worked out alike on both sides
-pub data Alike (ds : List (Option Declared)) : List Call → Type 0 where
-  no-call : Alike ds []
-  call-and : {c : Call} {cs : List Call} → ActionBoth (measure-follows ds) (c .book) (c .desk) → Alike ds cs → Alike ds (c ∷ cs)
+-- ---- a call
 
 taken-agree : (ds : List (Option Declared)) (n : ℕ) (desk new : Tuning cents) (book anew : Tuning entries) → Agree (measure-follows ds) book desk → Agree (measure-follows ds) anew new
     → Agree (measure-follows ds) (ifTaken n anew book) (ifTaken n new desk)
 taken-agree ds zero desk new book anew h k = k
 taken-agree ds (suc n) desk new book anew h k = h
 
--- the invariant after a row of calls, taken or not
-pub calls-follow : (ds : List (Option Declared)) {cs : List Call} → Alike ds cs → (desk : Tuning cents) (book : Tuning entries) → Agree (measure-follows ds) book desk
-    → Agree (measure-follows ds) (bookFrom book (madeFrom desk cs)) (deskFrom desk cs)
-unfolding deskFrom madeFrom bookFrom called
-calls-follow ds no-call desk book h = h
-calls-follow ds (call-and {c} {cs} k ks) desk book h =
-    let n = called desk (c .desk) .number in
-    calls-follow ds ks (called desk (c .desk) .state) (ifTaken n (done entries book (c .book)) book)
-    (taken-agree ds n desk (done cents desk (c .desk)) book (done entries book (c .book)) h (done-follows entries cents (measure-follows ds) book desk h k))
-
--- From the start, after any row of calls that are worked out alike, refused ones among them: the same anchor and width, the same silent keys,
--- and each sounding key at most a thousandth of a cent for each power of a declared number from its exact frequency.
-pub calls-agree : (ds : List (Option Declared)) → AllInRange ds → (cs : List Call) → Alike ds cs
-    → Agrees ds (deskFrom (start cents) cs) (bookAfter (madeFrom (start cents) cs))
-calls-agree ds a cs k =
-    agrees a (deskFrom (start cents) cs) (bookAfter (madeFrom (start cents) cs))
-    (calls-follow ds k (start cents) (start entries) (start-follows entries cents (measure-follows ds)))
+-- the invariant after a call, taken or not
+pub call-follows : (ds : List (Option Declared)) (desk : Tuning cents) (book : Tuning entries) → Agree (measure-follows ds) book desk → {d : Action cents} {c : Action entries}
+    → ActionBoth (measure-follows ds) c d → Agree (measure-follows ds) (bookFrom book (record { call = c; number = called desk d .number } ∷ [])) (called desk d .state)
+unfolding bookFrom called
+call-follows ds desk book h {d} {c} k =
+    let n = called desk d .number in
+    taken-agree ds n desk (done cents desk d) book (done entries book c) h (done-follows entries cents (measure-follows ds) book desk h k)
 
 -- what the book is fed in two parts
 pub book-append : (b : Tuning entries) (l m : List Made) → bookFrom b (l ++ m) ≡ bookFrom (bookFrom b l) m

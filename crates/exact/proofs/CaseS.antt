@@ -1,53 +1,77 @@
--- Case S: key 71 stands at 7EB526 on the desk; in the book it has `a` once and the fifth twice, with N = 1 and w = 3, and the two agree.
-use mathlib.Core.Path.{_≡_, refl}
+-- Case S as a stream: the desk and the book agree on it and on any other stream of frames; after its frames key 71 stands at 7EB526 on the desk,
+-- and in the book it has `a` once and the fifth twice, with N = 1 and w = 3.
+use mathlib.Core.Path.{_≡_, refl, ap, subst}
 use mathlib.Core.List.{List, [], _∷_, map}
-use Prim.Native.Nat.{_*_, _^_}
-use native.Mathlib.Omega.{arith}
+use mathlib.Core.Option.{Option·elim}
+use Prim.Native.Nat.{ℕ, _*_, _^_}
 use lib.Count.{leadingZeros}
 use lib.IntN.{ℤ, pos, _-ℤ_}
 use Rattle.cents.specs.Log.{place, bits, L}
 use Rattle.cents.specs.Measure.{measure, nearest, pitch440}
-use Rattle.tuning.specs.declared.Amount.the-variants.{Relative}
-use Rattle.tuning.specs.declared.Operator.the-variants.{Plus}
-use Rattle.tuning.specs.Scale.{sounds}
-use Rattle.tuning.specs.Tuning.{Tuning, soundOf, start}
+use Rattle.cents.specs.Distance.{Compared}
+use Rattle.values.proofs.Cases.{impossible}
+use Rattle.values.specs.Values.{plus, total, ranged, valueAt}
+use Rattle.program.specs.Meaning.{valueOf}
+use Rattle.program.specs.CaseS.{text, program}
+use Rattle.program.proofs.Texts.{case-s-read}
+use Rattle.tables.specs.Layout.{writtenAll, joined, rowOf}
+use Rattle.filling.specs.Tables.{filledFrom, tablesOf}
+use Rattle.validity.specs.Valid.{validTables, rowRight, rowsRight, ordersRight, eachRight, allZero, allNought}
+use Rattle.tuning.specs.Scale.{Sound, sounds}
+use Rattle.tuning.specs.Tuning.{soundOf, start}
 use Rattle.tuning.specs.Desk.{cents, called, firstFailing, anyBeyond}
-use Rattle.exact.specs.Entry.{Factor, degreeOf, degrees, weight, part, aboveBy, belowBy, above, below, u, v}
-use Rattle.exact.specs.Book.{number, start440, startRoot, once, entries, numbered, numbersOf, written, bookFrom, bookAfter, deskFrom, madeFrom, Agrees, AllInRange, no-more, number-and, passing, ratio, frequency}
-use Rattle.exact.specs.CaseS.{numbers, two, up, calls, key71, entryOf}
-use Rattle.exact.proofs.Follows as F
-use Rattle.exact.proofs.Measured.{measure-follows, plus, own-ratio, own-frequency}
-use Rattle.exact.proofs.Calls.{Alike, no-call, call-and, calls-agree}
+use Rattle.tuning.specs.State.{held, validState, allMuted}
+use Rattle.frames.specs.Frames.{digitOf, byteOf, bytesOf, framed, frameOf}
+use Rattle.protocol.specs.Letters.{firstLogic, firstOrder, pressed}
+use Rattle.protocol.specs.Answers.{Made, startDesk, callOn, tuningFrom, madeFrom, letterOutcome, keyOutcome, frameOutcome, answerOf}
+use Rattle.protocol.specs.Streams.{Lent, deskAfter, madeIn}
+use Rattle.exact.specs.Entry.{Factor, Entry, degreeOf, degrees, weight, part, aboveBy, belowBy, above, below, u, v, Within}
+use Rattle.exact.specs.Book.{Powers, entries, number, start440, startRoot, once, numbered, numbersOf, written, bookFrom}
+use Rattle.exact.specs.Book.{KeyAgrees, both-silent, near}
+use Rattle.exact.specs.Actions.{declaredIn, entryWithin}
+use Rattle.exact.specs.Claim.{fedBy, bookAfter, StreamAgrees}
+use Rattle.exact.specs.CaseS.{frames, entryIn, entry71}
+use Rattle.exact.proofs.Claim.{stream-agrees}
 
--- "020247 .. 02024700007EB526": the pitch of key 71
-pub desk-71 : soundOf cents (deskFrom (start cents) calls) 71 ≡ sounds (pos 0x7eb526)
-unfolding deskFrom called firstFailing anyBeyond
-desk-71 = refl
+pub case-s-agrees : (stream : List Lent) → StreamAgrees program stream
+case-s-agrees = stream-agrees text program case-s-read
+
+-- Two, and Up twice, each taken
+abbrev calls : List Made
+calls = record { called = 4; number = 0 } ∷ record { called = 5; number = 0 } ∷ record { called = 5; number = 0 } ∷ []
+
+-- the calls that the frames make; and "020247 .. 02024700007EB526": the pitch of key 71 after them, less 6,900,000 the d of the comparison
+pub desk-71 : (madeIn (tablesOf program) startDesk frames ≡ calls)
+    × (soundOf cents (held (deskAfter (tablesOf program) startDesk frames .tuning)) 71 ≡ sounds (pos 0x7eb526))
+unfolding Option·elim leadingZeros place bits L measure nearest plus total ranged valueAt valueOf writtenAll joined rowOf filledFrom tablesOf
+    validTables rowRight rowsRight ordersRight eachRight allZero allNought called firstFailing anyBeyond validState allMuted digitOf byteOf bytesOf
+    framed frameOf firstLogic firstOrder pressed callOn tuningFrom madeFrom letterOutcome keyOutcome frameOutcome answerOf deskAfter madeIn
+desk-71 = (refl, refl)
+
+fed-71 : entry71 ≡ entryIn (soundOf entries (bookFrom (start entries) (fedBy program calls)) 71)
+unfolding entry71 bookAfter
+fed-71 = ap (λ (ms : List Made). entryIn (soundOf entries (bookFrom (start entries) (fedBy program ms)) 71)) (desk-71 .0)
 
 -- the powers of 440, the twelfth root of 2, Octave, Fifth and a; N and w; u / v = (440·(3/2)^2) / 440, written in ten-thousandths
-pub book-71 : (map (λ (f : Factor). f .power) (entryOf key71) ≡ pos 0 ∷ pos 0 ∷ pos 0 ∷ pos 2 ∷ pos 1 ∷ []) × (degrees (entryOf key71) ≡ 1) × (weight (entryOf key71) ≡ 3)
-    × (u (entryOf key71) ≡ 30000 ^ 2 * 4400000) × (v (entryOf key71) ≡ 20000 ^ 2 * 10000 * 440)
-unfolding key71 bookFrom madeFrom called firstFailing anyBeyond written numbersOf numbered once degrees degreeOf weight above below aboveBy belowBy part number start440 startRoot
-book-71 = (refl, refl, refl, refl, refl)
+pub book-71 : (map (λ (f : Factor). f .power) entry71 ≡ pos 0 ∷ pos 0 ∷ pos 0 ∷ pos 2 ∷ pos 1 ∷ []) × (degrees entry71 ≡ 1) × (weight entry71 ≡ 3)
+    × (u entry71 ≡ 30000 ^ 2 * 4400000) × (v entry71 ≡ 20000 ^ 2 * 10000 * 440)
+unfolding entryWithin once fedBy bookFrom numbersOf numbered written number start440 startRoot degrees degreeOf weight above
+    below aboveBy belowBy part
+book-71 = rw fed-71 (refl, refl, refl, refl, refl)
 
-in-range : AllInRange numbers
-in-range =
-    number-and {d = ratio 20000 10000} (record { least = omega arith; most = omega arith }, record { least = omega arith; most = omega arith })
-    (number-and {d = ratio 30000 20000} (record { least = omega arith; most = omega arith }, record { least = omega arith; most = omega arith })
-    (number-and {d = frequency 4400000} (record { least = omega arith; most = omega arith }) (passing no-more)))
+sounding-within : {x : Sound Powers} {y : Sound ℤ} {z : ℤ} → KeyAgrees (declaredIn program) x y → y ≡ sounds z → Within (entryIn x) (z -ℤ pitch440)
+sounding-within both-silent e = impossible (cc)
+sounding-within {z} (near {e} {z = y} w) q =
+    let same : y ≡ z = cc in
+    subst (λ (d : ℤ). Within (written (numbersOf (declaredIn program)) e) (d -ℤ pitch440)) same w
 
--- the measures of the fifth and of `a` are those of the definition
-two-alike : F.ActionBoth (measure-follows numbers) (two .book) (two .desk)
-unfolding measure nearest L bits place leadingZeros
-two-alike =
-    F.both-system (record {
-      anchor = refl;
-      tones = F.with (F.heard (own-frequency numbers 2 4400000 refl)) (F.with (F.heard (plus numbers (own-frequency numbers 2 4400000 refl) (own-ratio numbers 1 30000 20000 refl))) F.empty);
-      period = own-ratio numbers 0 20000 10000 refl;
-    })
+within-71 : Within entry71 (pos 1403910)
+unfolding entry71
+within-71 = sounding-within (case-s-agrees frames .key 71) (desk-71 .1)
 
-alike : Alike numbers calls
-alike = call-and two-alike (call-and (F.both-anchor (Relative Plus 1)) (call-and (F.both-anchor (Relative Plus 1)) no-call))
+compared : {l : Entry} {N w x y : ℕ} {d : ℤ} → degrees l ≡ N → weight l ≡ w → u l ≡ x → v l ≡ y → Within l d → Compared N w x y d
+compared eN ew eu ev h = rw (eu, ev, ew, eN) at (h .once)
 
-pub case-s-agrees : Agrees numbers (deskFrom (start cents) calls) (bookAfter (madeFrom (start cents) calls))
-case-s-agrees = calls-agree numbers in-range calls alike
+-- so (3/2)^2 is at most 3 thousandths of a cent from 1,403,910 of them
+pub compared-71 : Compared 1 3 (30000 ^ 2 * 4400000) (20000 ^ 2 * 10000 * 440) (pos 1403910)
+compared-71 = let b = book-71 in compared (b .1) (b .2) (b .3) (b .4) within-71

@@ -24,17 +24,20 @@ use Rattle.exact.proofs.Follows.{start-follows}
 use Rattle.exact.proofs.Measured.{measure-follows}
 use Rattle.exact.proofs.Calls.{agrees}
 use Rattle.exact.proofs.Declared.{in-range}
-use Rattle.exact.proofs.Stream.{coded-kept, stream-kept}
+use Rattle.exact.proofs.Stream.{Kept, coded-kept, stream-kept}
 use Rattle.exact.proofs.Matched.{matches}
 
--- the same for a program whose numbers are allowed and whose values are in their ranges
-allowed-agrees : (p : Program) → Allowed p → valued p ≡ Done → (stream : List Lent) → StreamAgrees p stream
-unfolding bookAfter
-allowed-agrees p allowed done stream =
-    let ds = declaredIn p in
-    let begun = coded-kept ds (start cents) (start entries) start-valid (start-follows entries cents (measure-follows ds)) in
-    let kept = stream-kept (tablesOf p) p (matches p allowed done) stream startDesk (start entries) begun in
-    agrees (in-range p allowed) (held (deskAfter (tablesOf p) startDesk stream .tuning)) (bookAfter p stream) (kept .agree)
+-- of a program whose numbers are allowed and whose values are in their ranges: what is kept along a stream, and the claim
+module _ (p : Program) (allowed : Allowed p) (done : valued p ≡ Done) (stream : List Lent) where
+  pub kept : Kept (declaredIn p) (deskAfter (tablesOf p) startDesk stream .tuning) (bookAfter p stream)
+  unfolding bookAfter
+  kept =
+      let ds = declaredIn p in
+      let begun = coded-kept ds (start cents) (start entries) start-valid (start-follows entries cents (measure-follows ds)) in
+      stream-kept (tablesOf p) p (matches p allowed done) stream startDesk (start entries) begun
+
+  allowed-agrees : StreamAgrees p stream
+  allowed-agrees = agrees (in-range p allowed) (held (deskAfter (tablesOf p) startDesk stream .tuning)) (bookAfter p stream) (kept .agree)
 
 pub stream-agrees : (text : List ℕ) (p : Program) → readText text ≡ accepted p → (stream : List Lent) → StreamAgrees p stream
 stream-agrees text p e stream = allowed-agrees p (accepted-allowed text p e) (steps text p e .values) stream

@@ -12,5 +12,5 @@ pub mod Declared
 pub mod Stream
 pub mod Matched
 pub mod Claim
+pub mod Soundness
 pub mod CaseS
-pub mod CaseSFrames

@@ -5,11 +5,12 @@ use mathlib.Core.List.{List, [], _∷_, _++_}
 use mathlib.Core.Option.{Option, some, none}
 use Prim.Native.Nat.{ℕ}
 use lib.Dec.{ltb}
+use lib.ListN.{length}
 use Rattle.tuning.specs.Tuning.{Tuning, Action}
 use Rattle.tuning.specs.Desk.{cents, Called, called}
-use Rattle.tuning.specs.State.{held, coded}
+use Rattle.tuning.specs.State.{places, held, coded, validState}
 use Rattle.tuning.specs.declared.State.{State}
-use Rattle.tuning.proofs.Held.{ValidTuning, held-coded}
+use Rattle.tuning.proofs.Held.{ValidTuning, held-coded, length-coded, valid-coded, valid-held}
 use Rattle.tuning.proofs.Laws.{ValidAction, valid-stays}
 use Rattle.tables.specs.Layout.{Tables}
 use Rattle.program.specs.Program.{Program}
@@ -24,13 +25,12 @@ use Rattle.protocol.specs.Answers.{Made, byAction, callOn, tuningFrom, madeFrom
 use Rattle.protocol.specs.Answers.{Outcome, letterOutcome, keyOutcome, frameOutcome, validDesk, unchanged, answerOf}
 use Rattle.protocol.specs.Streams.{Lent, deskAfter, madeIn}
 use Rattle.exact.specs.Book as book
-use Rattle.exact.specs.Book.{Declared, entries, bookFrom, deskFrom}
+use Rattle.exact.specs.Book.{Declared, entries, bookFrom}
 use Rattle.exact.specs.Actions.{declaredIn, bookAction}
 use Rattle.exact.specs.Claim.{ifCalled, fedBy}
 use Rattle.exact.proofs.Follows.{Agree, ActionBoth}
 use Rattle.exact.proofs.Measured.{measure-follows}
-use Rattle.exact.proofs.Calls as Calls
-use Rattle.exact.proofs.Calls.{calls-follow, book-append}
+use Rattle.exact.proofs.Calls.{call-follows, book-append}
 
 -- ---- what the book is fed, in parts
 
@@ -58,20 +58,18 @@ pub data Matches (ds : List (Option Declared)) (s : Tuning cents) : Option (Acti
   one-call : {c d : Action cents} {b : Action entries} → called s c ≡ called s d → ValidAction d → ActionBoth (measure-follows ds) b d
       → Matches ds s (some c) (some b)
 
--- the state is valid, and each of its tones is where the book's entry is measured
+-- the state is valid, with all its places, and each of its tones is where the book's entry is measured
 pub record Kept (ds : List (Option Declared)) (s : State) (b : Tuning entries) : Type 0 where
-  pub valid : ValidTuning (held s)
+  pub valid : validState s ≡ true
+  pub full : length (s .tones) ≡ places
   pub agree : Agree (measure-follows ds) b (held s)
 
 module _ (ds : List (Option Declared)) where
-  call-agrees : (s : Tuning cents) (b : Tuning entries) → Agree (measure-follows ds) b s → {d : Action cents} {c : Action entries}
-      → ActionBoth (measure-follows ds) c d
-      → Agree (measure-follows ds) (bookFrom b (record { call = c; number = called s d .number } ∷ [])) (called s d .state)
-  unfolding deskFrom book.madeFrom bookFrom
-  call-agrees s b h {d} {c} k = calls-follow ds (Calls.call-and {c = record { desk = d; book = c }} k Calls.no-call) s b h
-
   pub coded-kept : (s : Tuning cents) (b : Tuning entries) → ValidTuning s → Agree (measure-follows ds) b s → Kept ds (coded s) b
-  coded-kept s b v h = record { valid = rw (held-coded s) v; agree = rw (held-coded s) h }
+  coded-kept s b v h = record { valid = valid-coded s v; full = length-coded s (v .most); agree = rw (held-coded s) h }
+
+  held-valid : (s : State) (b : Tuning entries) → Kept ds s b → ValidTuning (held s)
+  held-valid s b h = valid-held s (h .valid) (h .full)
 
   call-kept : (s : State) (b : Tuning entries) → Kept ds s b → {x : Option (Action cents)} {y : Option (Action entries)} → Matches ds (held s) x y
       → Kept ds (byAction s x .state) (bookFrom b (ifCalled y (byAction s x .number) []))
@@ -80,7 +78,23 @@ module _ (ds : List (Option Declared)) where
   call-kept s b h (one-call {c} {d} {b = a} e v k) =
       subst (λ (r : Called). Kept ds (coded (r .state)) (bookFrom b (record { call = a; number = r .number } ∷ []))) (sym e)
       (coded-kept (called (held s) d .state) (bookFrom b (record { call = a; number = called (held s) d .number } ∷ []))
-      (valid-stays (held s) (h .valid) d v) (call-agrees (held s) b (h .agree) k))
+      (valid-stays (held s) (held-valid s b h) d v) (call-follows ds (held s) b (h .agree) k))
+
+-- ---- a frame's outcome, by its buffer and by the tables and the desk that it finds
+
+pub by-outcome : (t : Tables) (d : Desk) (frame : List ℕ) (room : ℕ) (P : Outcome → Type 0) → P (unchanged d bufferTooSmall)
+    → (validDesk t d ≡ false → P (unchanged d tableDamaged)) → P (frameOutcome t d (frameOf frame)) → P (answerOf t d frame room)
+unfolding answerOf
+by-outcome t d frame room P small damaged sound = by-room (ltb room smallestBuffer)
+  where
+    by-desk : (valid : Bool) → validDesk t d ≡ valid → P (cond valid (frameOutcome t d (frameOf frame)) (unchanged d tableDamaged))
+    by-desk true e = sound
+    by-desk false e = damaged e
+
+    by-room : (is : Bool)
+        → P (cond is (unchanged d bufferTooSmall) (cond (validDesk t d) (frameOutcome t d (frameOf frame)) (unchanged d tableDamaged)))
+    by-room true = small
+    by-room false = by-desk (validDesk t d) refl
 
 -- ---- calls, frames, streams
 
@@ -97,7 +111,7 @@ module _ (t : Tables) (p : Program) (matches : AllMatch t p) where
       let r = callOn t s k in
       rw (← (fed-first b (bookAction p k) (r .number) (fedBy p (madeFrom t (r .state) ks))))
       (calls-kept ks (r .state) (bookFrom b (ifCalled (bookAction p k) (r .number) []))
-      (call-kept (declaredIn p) s b h (matches (held s) (h .valid) k)))
+      (call-kept (declaredIn p) s b h (matches (held s) (held-valid (declaredIn p) s b h) k)))
 
   -- what is kept after a frame
   abbrev After : Tuning entries → Outcome → Type 0
@@ -111,17 +125,8 @@ module _ (t : Tables) (p : Program) (matches : AllMatch t p) where
   frame-kept d b h (Dump house) = h
 
   answer-kept : (d : Desk) (b : Tuning entries) → Kept (declaredIn p) (d .tuning) b → (frame : List ℕ) (room : ℕ) → After b (answerOf t d frame room)
-  unfolding answerOf fedBy bookFrom
-  answer-kept d b h frame room = small (ltb room smallestBuffer)
-    where
-      sound : (valid : Bool) → After b (cond valid (frameOutcome t d (frameOf frame)) (unchanged d tableDamaged))
-      sound true = frame-kept d b h (frameOf frame)
-      sound false = h
-
-      small : (is : Bool)
-          → After b (cond is (unchanged d bufferTooSmall) (cond (validDesk t d) (frameOutcome t d (frameOf frame)) (unchanged d tableDamaged)))
-      small true = h
-      small false = sound (validDesk t d)
+  unfolding fedBy bookFrom
+  answer-kept d b h frame room = by-outcome t d frame room (After b) h (λ e. h) (frame-kept d b h (frameOf frame))
 
   pub stream-kept : (stream : List Lent) (d : Desk) (b : Tuning entries) → Kept (declaredIn p) (d .tuning) b
       → Kept (declaredIn p) (deskAfter t d stream .tuning) (bookFrom b (fedBy p (madeIn t d stream)))

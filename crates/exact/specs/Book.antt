@@ -9,8 +9,8 @@ use lib.Dec.{eqb}
 use Rattle.cents.specs.Measure as measures
 use Rattle.cents.specs.Measure.{one, hertz440, pitch440}
 use Rattle.tuning.specs.Scale.{Scale, Sound, muted, sounds}
-use Rattle.tuning.specs.Tuning.{Tuning, Action, width, soundOf, done, start}
-use Rattle.tuning.specs.Desk.{cents, ifTaken, called}
+use Rattle.tuning.specs.Tuning.{Tuning, Action, width, soundOf, done}
+use Rattle.tuning.specs.Desk.{cents, ifTaken}
 use Rattle.exact.specs.Entry.{Number, Entry, Within}
 
 -- ---- "A declared number is one declaration's frequency, `p : q` or `A ROOT B`", each part in ten-thousandths
@@ -108,27 +108,6 @@ pub record Made : Type 0 where
 unfoldable pub bookFrom : Tuning entries → List Made → Tuning entries
 bookFrom b [] = b
 bookFrom b (m ∷ ms) = bookFrom (ifTaken (m .number) (done entries b (m .call)) b) ms
-
--- "It starts with 60, 12, at position i 440 once and the root i - 9 times, as period the root 12 times."
-abbrev pub bookAfter : List Made → Tuning entries
-bookAfter ms = bookFrom (start entries) ms
-
--- ---- a row of calls on both sides
-
--- a call as the desk and as the book work it out
-pub record Call : Type 0 where
-  pub desk : Action cents
-  pub book : Action entries
-
--- the desk after a row of calls, each on the state that the one before it left
-unfoldable pub deskFrom : Tuning cents → List Call → Tuning cents
-deskFrom s [] = s
-deskFrom s (c ∷ cs) = deskFrom (called s (c .desk) .state) cs
-
--- what the book is fed: "each call that these rules make of a tone system or retuning, with its number"
-unfoldable pub madeFrom : Tuning cents → List Call → List Made
-madeFrom s [] = []
-madeFrom s (c ∷ cs) = record { call = c .book; number = called s (c .desk) .number } ∷ madeFrom (called s (c .desk) .state) cs
 
 -- ---- the desk and the book agree
 

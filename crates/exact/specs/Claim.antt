@@ -21,10 +21,11 @@ unfoldable pub fedBy : Program → List Made → List book.Made
 fedBy p [] = []
 fedBy p (m ∷ ms) = ifCalled (bookAction p (m .called)) (m .number) (fedBy p ms)
 
--- the exact book after a stream, and what is claimed: for any text that the reader accepts as the program p, and any stream, the desk that started
--- anew and was handed on from frame to frame agrees with the book
+-- "It starts with 60, 12, at position i 440 once and the root i - 9 times, as period the root 12 times": the exact book after a stream
 unfoldable pub bookAfter : Program → List Lent → Tuning entries
 bookAfter p stream = bookFrom (start entries) (fedBy p (madeIn (tablesOf p) startDesk stream))
 
+-- what is claimed: for any text that the reader accepts as the program p, and any stream, the desk that started
+-- anew and was handed on from frame to frame agrees with the book
 abbrev pub StreamAgrees : Program → List Lent → Type 0
 StreamAgrees p stream = Agrees (declaredIn p) (held (deskAfter (tablesOf p) startDesk stream .tuning)) (bookAfter p stream)

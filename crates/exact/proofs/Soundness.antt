@@ -1,0 +1,107 @@
+-- 23 is never answered: an accepted text's tables are valid, and a right desk stays right along any stream.
+use mathlib.Core.Path.{_≡_, refl}
+use mathlib.Core.Bool.{Bool, true, false, cond}
+use mathlib.Core.List.{List, [], _∷_}
+use mathlib.Core.Option.{Option, some, none}
+use Prim.Native.Nat.{ℕ, _<_}
+use native.Mathlib.Omega.{arith}
+use borrow.Author.Tests.{ltb-true}
+use lib.Dec.{ltb}
+use lib.IntN.{ℤ}
+use Rattle.status.specs.Status.{letterUnbound, tableDamaged}
+use Rattle.values.proofs.Cases.{clash}
+use Rattle.tuning.specs.Scale.{Sound, muted, sounds}
+use Rattle.tuning.specs.Tuning.{Tuning, Action, anchorTo, widthTo, periodTo, tonesTo, system}
+use Rattle.tuning.specs.Desk.{cents, Check, firstFailing, checks, called}
+use Rattle.tuning.specs.State.{held}
+use Rattle.tuning.specs.declared.State.{State}
+use Rattle.tuning.proofs.Lists.{every, both}
+use Rattle.tables.specs.Layout.{Tables}
+use Rattle.program.specs.Program.{Program}
+use Rattle.program.specs.Text.{accepted, readText}
+use Rattle.program.proofs.AllowedText.{accepted-allowed}
+use Rattle.filling.specs.Tables.{tablesOf}
+use Rattle.mutabor.proofs.ValidTables.{accepted-valid}
+use Rattle.frames.specs.declared.Frame.{Frame}
+use Rattle.frames.specs.declared.Frame.the-variants.{Bad, Letter, Key, Dump}
+use Rattle.frames.specs.Frames.{frameOf}
+use Rattle.protocol.specs.declared.Desk.{Desk}
+use Rattle.protocol.specs.Letters.{actionAt, pressed}
+use Rattle.protocol.specs.Answers.{startDesk, byAction, callOn, madeFrom, lastNumber, Outcome, letterOutcome, soundAt, keyNumber, keyOutcome}
+use Rattle.protocol.specs.Answers.{frameOutcome, validDesk, answerOf}
+use Rattle.protocol.specs.Streams.{Lent, deskAfter}
+use Rattle.protocol.proofs.Stays.{right-valid, start-right, stream-right}
+use Rattle.exact.specs.Soundness.{StreamSound, NeverDamaged}
+use Rattle.exact.proofs.Stream.{by-outcome}
+
+-- ---- the numbers of answers: of a desk that is right they are below 23
+
+abbrev isBelow : Check → Bool
+isBelow c = ltb (c .number) tableDamaged
+
+first-below : (cs : List Check) → every isBelow cs ≡ true → firstFailing cs < tableDamaged
+unfolding firstFailing every
+first-below [] h = omega arith
+first-below (c ∷ cs) h =
+    let a = both (isBelow c) (every isBelow cs) h in
+    go (c .fails) (ltb-true _ _ (a .0)) (first-below cs (a .1))
+  where
+    go : (b : Bool) → c .number < tableDamaged → firstFailing cs < tableDamaged
+        → elim b [ true ↦ c .number | false ↦ firstFailing cs ] < tableDamaged
+    go true here later = here
+    go false here later = later
+
+call-below : (s : Tuning cents) (c : Action cents) → called s c .number < tableDamaged
+unfolding called every
+call-below s c = first-below (checks s c) (known c)
+  where
+    known : (c : Action cents) → every isBelow (checks s c) ≡ true
+    known (anchorTo m) = refl
+    known (widthTo m) = refl
+    known (periodTo m) = refl
+    known (tonesTo l) = refl
+    known (system y) = refl
+
+module _ (t : Tables) where
+  made-below : (s : State) (ks : List ℕ) → lastNumber (madeFrom t s ks) < tableDamaged
+  unfolding madeFrom callOn
+  made-below s [] = omega arith
+  made-below s (k ∷ []) = go (actionAt t k)
+    where
+      go : (o : Option (Action cents)) → byAction s o .number < tableDamaged
+      go none = omega arith
+      go (some c) = call-below (held s) c
+  made-below s (k ∷ j ∷ ks) = made-below (callOn t s k .state) (j ∷ ks)
+
+  frame-below : (d : Desk) (f : Frame) → frameOutcome t d f .number < tableDamaged
+  unfolding frameOutcome letterOutcome keyOutcome
+  frame-below d Bad = omega arith
+  frame-below d (Letter house letter) = go (pressed t (d .active) letter .bound)
+    where
+      go : (bound : Bool) → cond bound (lastNumber (madeFrom t (d .tuning) (pressed t (d .active) letter .calls))) letterUnbound < tableDamaged
+      go true = made-below (d .tuning) (pressed t (d .active) letter .calls)
+      go false = omega arith
+  frame-below d (Key house key) = go (soundAt d key)
+    where
+      go : (x : Sound ℤ) → keyNumber x < tableDamaged
+      go muted = omega arith
+      go (sounds z) = omega arith
+  frame-below d (Dump house) = omega arith
+
+  answer-below : (d : Desk) → validDesk t d ≡ true → (frame : List ℕ) (room : ℕ) → answerOf t d frame room .number < tableDamaged
+  answer-below d h frame room =
+      by-outcome t d frame room (λ (o : Outcome). o .number < tableDamaged) (omega arith) (λ e. absurd (clash h e)) (frame-below d (frameOf frame))
+
+-- ---- the theorems
+
+pub stream-sound : (text : List ℕ) (p : Program) → readText text ≡ accepted p → (stream : List Lent) → StreamSound p stream
+stream-sound text p e stream =
+    let t = tablesOf p in
+    let v = accepted-valid text p (accepted-allowed text p e) e in
+    right-valid t v (deskAfter t startDesk stream) (stream-right t v startDesk (start-right t v) stream)
+
+pub never-damaged : (text : List ℕ) (p : Program) → readText text ≡ accepted p → (stream : List Lent) (next : Lent) → NeverDamaged p stream next
+never-damaged text p e stream next same =
+    let sound = stream-sound text p e stream in
+    let below = answer-below (tablesOf p) (deskAfter (tablesOf p) startDesk stream) sound (next .frame) (next .room) in
+    omega arith
