@@ -1,5 +1,7 @@
 -- What a letter calls, the calls, and the ways through a frame.
+pub mod Forms
 pub mod Searches
+pub mod Records
 pub mod Presses
 pub mod Pressable
 pub mod Calls

@@ -1,5 +1,5 @@
 -- What valid tables have for a letter: all that the search for it reads; and what is called is one of the rows. Assumes nothing.
-use mathlib.Core.Path.{_≡_, refl, sym, ap, _∙_, subst}
+use mathlib.Core.Path.{_≡_, refl, ap, _∙_, subst}
 use mathlib.Core.Bool.{true, _&&_}
 use mathlib.Core.List.{List, [], _∷_}
 use mathlib.Core.Option.{Option, some, none, Option·none-ne-some}
@@ -17,8 +17,8 @@ use Rattle.protocol.specs.declared.Active.{Active}
 use Rattle.protocol.specs.declared.Active.the-variants as active
 use Rattle.protocol.specs.Letters.{firstLogic, orderBy, orderOf, elseOrder, callsBy, unlessUnbound, pressed}
 use Rattle.protocol.specs.Answers.{activeRight}
-use Rattle.protocol.specs.Inner.{forLetters, OrdersThere, ActiveReadable, Pressable}
-use Rattle.protocol.proofs.Searches.{logic-within, order-called}
+use Rattle.protocol.specs.Inner.{forLetters, OrdersThere, ActiveReadable}
+use Rattle.protocol.proofs.Searches.{logic-found, order-called}
 use Rattle.protocol.proofs.Presses.{named}
 
 -- ---- the part of the tables that a letter reads does for the tables
@@ -76,9 +76,14 @@ module _ (t : Tables) (v : validTables t ≡ true) where
   orders-there (Retuning r from to) h = tt
   orders-there (Logic c s from to) h =
       let w = valid-of t v in
-      (omega (arith, h .within, w .room .orders, w .sizes .letters), omega (arith, h .within, w .room .orders, w .sizes .calls))
+      record {
+        order = h .order;
+        most = omega (arith, h .within, w .room .orders);
+        letters = omega (arith, h .within, w .room .orders, w .sizes .letters);
+        calls = omega (arith, h .within, w .room .orders, w .sizes .calls);
+      }
 
-  active-readable : (a : Active) → activeRight t a ≡ true → ActiveReadable (letterPart t) a
+  pub active-readable : (a : Active) → activeRight t a ≡ true → ActiveReadable (letterPart t) a
   active-readable active.Nothing h = tt
   active-readable (active.Logic i) h =
       let k = active-within i h in
@@ -92,7 +97,7 @@ module _ (t : Tables) (v : validTables t ≡ true) where
   order-within letter (System a P from to) h {k} e = absurd (Option·none-ne-some k e)
   order-within letter (Retuning r from to) h {k} e = absurd (Option·none-ne-some k e)
   order-within letter (Logic c s from to) h {k} e =
-      let o = order-called letter (t .letters) (t .calls) from to (orders-there (Logic c s from to) h .1) e in
+      let o = order-called letter (t .letters) (t .calls) from to (orders-there (Logic c s from to) h .calls) e in
       subst (λ (x : ℕ). x < rowCount t) (o .is) (order-valid t v (o .index) (omega (arith, o .most, h .within)) .within)
 
   module _ (a : Active) (h : activeRight t a ≡ true) (letter : ℕ) where
@@ -105,10 +110,7 @@ module _ (t : Tables) (v : validTables t ≡ true) where
 
         go : (o : Option ℕ) → firstLogic (t .rows) letter 0 (rowCount t) ≡ o → elseOrder t a letter o ≡ some k → k < rowCount t
         go none f q = ordered a h q
-        go (some i) f q = let z = logic-within (t .rows) letter 0 (rowCount t) (f ∙ q) in omega arith
-
-    pub pressable : Pressable (letterPart t) a letter
-    pressable = record { active = active-readable a h; called = λ k e. fields-fit t v k (named-within (sym (named-alike t a letter) ∙ e)) }
+        go (some i) f q = omega (arith, logic-found (t .rows) letter 0 (rowCount t) (f ∙ q) .0)
 
     calls-within : (k : ℕ) (r : TableRow) → ValidRow t r → k < rowCount t → Within t (callsBy a k r .calls)
     calls-within k Unused w l = (l, tt)

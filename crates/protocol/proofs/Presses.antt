@@ -1,21 +1,29 @@
 -- What a letter comes to, by what is found for it. Assumes nothing.
 use mathlib.Core.Path.{_≡_, refl, sym, ap, _∙_}
-use mathlib.Core.Bool.{true}
+use mathlib.Core.Bool.{Bool, true, false, cond, false≢true}
 use mathlib.Core.List.{List, [], _∷_}
 use mathlib.Core.Option.{Option, some, none}
 use Prim.Native.Nat.{ℕ}
+use borrow.Author.Tests.{eqb-true}
 use types.Run.{OneOf, miss}
 use denote.Enum.Declared.{tagOf}
+use lib.Dec.{eqb}
+use lib.IntN.{ℤ}
+use Rattle.integers.specs.Parts.{up}
 use Rattle.tables.specs.declared.Row.{Row as TableRow}
 use Rattle.tables.specs.declared.Row.the-variants.{Unused, Interval, Tone, System, Retuning, Logic}
-use Rattle.tables.specs.Layout.{Tables, rowCount, rowAt}
+use Rattle.tables.specs.Layout.{Tables, rowCount, logicForm, readAt, rowOf, rowAt}
 use Rattle.tables.proofs.Row as variants
+use Rattle.tables.proofs.Rows.{form-row}
 use Rattle.protocol.specs.declared.Active.{Active}
 use Rattle.protocol.specs.declared.Active.the-variants as active
 use Rattle.protocol.specs.declared.Found.{Found}
 use Rattle.protocol.specs.declared.Found.the-variants.{Nothing, Row}
-use Rattle.protocol.specs.Letters.{Pressed, firstLogic, orderBy, orderOf, elseOrder, callsBy, unlessUnbound, pressed}
-use Rattle.protocol.specs.Inner.{found}
+use Rattle.protocol.specs.declared.letters.Called.{Called}
+use Rattle.protocol.specs.declared.letters.Called.the-variants as called
+use Rattle.protocol.specs.Letters.{isLogicOf, Pressed, firstLogic, orderBy, orderOf, elseOrder, startCalls, callsBy, unlessUnbound, pressed}
+use Rattle.protocol.specs.Inner.{found, logicKind, kindOf, kindAt, byKind, calledIn}
+use Rattle.protocol.proofs.Forms.{logic-kind}
 
 -- ---- what the code's enum says
 
@@ -55,26 +63,51 @@ module _ (t : Tables) (letter : ℕ) where
     pub order-active : {i : ℕ} {r : TableRow} → a ≡ active.Logic i → r ≡ rowAt t i → orderBy t letter r ≡ elseOrder t a letter o
     order-active h f = ap (orderBy t letter) f ∙ ap (orderOf t letter) (sym h) ∙ else-order
 
--- ---- what is called
+-- ---- what is called, by its kind
 
-module _ (t : Tables) (a : Active) (letter : ℕ) where
-  -- the declaration that the letter names
-  abbrev pub named : Option ℕ
-  named = elseOrder t a letter (firstLogic (t .rows) letter 0 (rowCount t))
+pub logic-called : (letter : ℕ) (rows : List ℤ) (k : ℕ) → isLogicOf letter (rowOf (readAt rows k)) ≡ true → called.Logic k ≡ calledIn rows (some k)
+logic-called letter rows k h = ap (λ (n : ℕ). byKind n k) (sym (go (rowOf (readAt rows k)) h))
+  where
+    go : (r : TableRow) → isLogicOf letter r ≡ true → kindOf r ≡ logicKind
+    go Unused h = absurd (false≢true h)
+    go (Interval d) h = absurd (false≢true h)
+    go (Tone p) h = absurd (false≢true h)
+    go (System a P from to) h = absurd (false≢true h)
+    go (Retuning r from to) h = absurd (false≢true h)
+    go (Logic c s from to) h = refl
 
-  pub press-none : named ≡ none → unlessUnbound t a none ≡ pressed t a letter
-  unfolding pressed
-  press-none e = ap (unlessUnbound t a) (sym e)
+-- what a letter comes to, as the code has it
+abbrev pub pressedAs : List ℤ → Active → Called → Pressed
+pressedAs rows a called.Nothing = record { bound = false; active = a; calls = [] }
+pressedAs rows a (called.Other k) = record { bound = true; active = a; calls = k ∷ [] }
+pressedAs rows a (called.Logic k) = record { bound = true; active = active.Logic k; calls = startCalls (up (readAt rows k .second)) }
 
-  pub press-row : {k : ℕ} {r : TableRow} → named ≡ some k → r ≡ rowAt t k → callsBy a k r ≡ pressed t a letter
-  unfolding pressed
-  press-row {k} e f = ap (callsBy a k) f ∙ ap (unlessUnbound t a) (sym e)
-
-pub calls-itself : (a : Active) (k : ℕ) (r : TableRow) → OneOf noLogic (tagOf variants.the-type r)
+calls-itself : (a : Active) (k : ℕ) (r : TableRow) → eqb (kindOf r) logicKind ≡ false
     → _≡_ {A = Pressed} (record { bound = true; active = a; calls = k ∷ [] }) (callsBy a k r)
 calls-itself a k Unused h = refl
 calls-itself a k (Interval d) h = refl
 calls-itself a k (Tone p) h = refl
 calls-itself a k (System b P from to) h = refl
 calls-itself a k (Retuning r from to) h = refl
-calls-itself a k (Logic c s from to) h = absurd (miss noLogic 5 tt h)
+calls-itself a k (Logic c s from to) h = absurd (false≢true (sym h))
+
+pressed-as : (t : Tables) (a : Active) (o : Option ℕ) → pressedAs (t .rows) a (calledIn (t .rows) o) ≡ unlessUnbound t a o
+unfolding rowOf
+pressed-as t a none = refl
+pressed-as t a (some k) = go (eqb (kindAt (t .rows) k) logicKind) refl
+  where
+    go : (b : Bool) → eqb (kindAt (t .rows) k) logicKind ≡ b
+        → pressedAs (t .rows) a (cond b (called.Logic k) (called.Other k)) ≡ callsBy a k (rowAt t k)
+    go true h =
+        let n = readAt (t .rows) k in
+        ap (callsBy a k) (form-row n logicForm (eqb-true (n .form) logicForm (sym (logic-kind n) ∙ h)))
+    go false h = calls-itself a k (rowAt t k) h
+
+module _ (t : Tables) (a : Active) (letter : ℕ) where
+  -- the declaration that the letter names
+  abbrev pub named : Option ℕ
+  named = elseOrder t a letter (firstLogic (t .rows) letter 0 (rowCount t))
+
+  pub pressed-named : {f g : Called} → f ≡ calledIn (t .rows) named → f ≡ g → pressedAs (t .rows) a g ≡ pressed t a letter
+  unfolding pressed
+  pressed-named e h = ap (pressedAs (t .rows) a) (sym h ∙ e) ∙ pressed-as t a named

@@ -27,7 +27,7 @@ use Rattle.protocol.specs.declared.Desk.{Desk}
 use Rattle.protocol.specs.Letters.{isLogicOf, callsBy, unlessUnbound, pressed}
 use Rattle.protocol.specs.Answers.{startDesk, Outcome, letterOutcome, keyOutcome, frameOutcome, activeRight, validDesk, answerOf}
 use Rattle.protocol.specs.Streams.{Lent, deskAfter}
-use Rattle.protocol.proofs.Searches.{logic-by}
+use Rattle.protocol.proofs.Forms.{logic-by}
 use Rattle.protocol.proofs.Presses.{named}
 use Rattle.protocol.proofs.Pressable.{named-within, pressed-within}
 use Rattle.protocol.proofs.Callable.{Whole, tuning-valid}
@@ -37,7 +37,7 @@ use Rattle.protocol.proofs.Ways.{too-small, taken, letter-desk}
 logic-form : (t : Tables) (i : ℕ) {c s from to : ℕ} → rowAt t i ≡ Logic c s from to → readAt (t .rows) i .form ≡ logicForm
 logic-form t i {c} e =
     let r = readAt (t .rows) i in
-    let h = logic-by (r .form) (r .first) (r .second) (r .from) (r .to) c ∙ ap (isLogicOf c) e ∙ eq-eqb c c refl in
+    let h = logic-by r c ∙ ap (isLogicOf c) e ∙ eq-eqb c c refl in
     eqb-true _ _ (both (eqb (r .form) logicForm) _ h .0)
 
 module _ (t : Tables) (v : validTables t ≡ true) where

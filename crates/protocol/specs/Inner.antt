@@ -1,16 +1,20 @@
 -- What the contracts of private functions cite: no part of the rules.
 use mathlib.Core.Path.{_≡_}
-use mathlib.Core.Bool.{true}
-use mathlib.Core.List.{List, [], _∷_}
+use mathlib.Core.Bool.{true, cond}
+use mathlib.Core.List.{List, [], _∷_, zipWith}
 use mathlib.Core.Option.{Option, some, none}
-use Prim.Native.Nat.{ℕ, _≤_}
+use Prim.Native.Nat.{ℕ, _+_, _≤_}
+use lib.Dec.{eqb}
 use lib.IntN.{ℤ}
 use lib.ListN.{length}
+use lib.Seq.{slice}
 use Rattle.status.specs.Status.{done, badFrame}
+use Rattle.orders.specs.declared.Order.{Order}
+use Rattle.orders.specs.Orders.{noOrder}
 use Rattle.tuning.specs.State.{held, validState}
 use Rattle.tables.specs.declared.Row.{Row as TableRow}
 use Rattle.tables.specs.declared.Row.the-variants.{Unused, Interval, Tone, System, Retuning, Logic}
-use Rattle.tables.specs.Layout.{Tables, rowCount, readAt, rowAt}
+use Rattle.tables.specs.Layout.{Tables, mostOrders, readAt, rowOf, rowAt, full}
 use Rattle.tables.specs.Values.{FieldsFit}
 use Rattle.validity.specs.Valid.{validTables}
 use Rattle.validity.proofs.Laws.{ValidSystem, ValidRetuning}
@@ -22,7 +26,9 @@ use Rattle.protocol.specs.declared.Found.{Found}
 use Rattle.protocol.specs.declared.Found.the-variants.{Nothing, Row}
 use Rattle.protocol.specs.declared.Desk.{Desk}
 use Rattle.protocol.specs.declared.letters.Press.{Press}
-use Rattle.protocol.specs.Letters.{Pressed, firstLogic, elseOrder}
+use Rattle.protocol.specs.declared.letters.Called.{Called}
+use Rattle.protocol.specs.declared.letters.Called.the-variants as called
+use Rattle.protocol.specs.Letters.{Pressed}
 use Rattle.protocol.specs.Answers.{Outcome, activeRight}
 
 -- ---- the code's values
@@ -31,6 +37,49 @@ use Rattle.protocol.specs.Answers.{Outcome, activeRight}
 abbrev pub found : Option ℕ → Found
 found none = Nothing
 found (some k) = Row k
+
+-- the kinds of what is called
+abbrev pub noKind : ℕ
+noKind = 0
+
+abbrev pub systemKind : ℕ
+systemKind = 1
+
+abbrev pub retuningKind : ℕ
+retuningKind = 2
+
+abbrev pub logicKind : ℕ
+logicKind = 3
+
+abbrev pub kindOf : TableRow → ℕ
+kindOf Unused = noKind
+kindOf (Interval d) = noKind
+kindOf (Tone p) = noKind
+kindOf (System a P from to) = systemKind
+kindOf (Retuning r from to) = retuningKind
+kindOf (Logic c s from to) = logicKind
+
+abbrev pub kindAt : List ℤ → ℕ → ℕ
+kindAt rows k = kindOf (rowOf (readAt rows k))
+
+-- a declaration's number, or none, as the code's enum that tells logics from others
+abbrev pub byKind : ℕ → ℕ → Called
+byKind kind k = cond (eqb kind logicKind) (called.Logic k) (called.Other k)
+
+abbrev pub calledIn : List ℤ → Option ℕ → Called
+calledIn rows none = called.Nothing
+calledIn rows (some k) = byKind (kindAt rows k) k
+
+-- orders as records: of each its letter, the kind of the declaration that it calls, and that declaration's number
+abbrev pub recordOf : List ℤ → ℕ → ℕ → Order
+recordOf rows letter k = record { letter = letter; kind = kindAt rows k; number = k }
+
+abbrev pub recordsOf : List ℤ → List ℕ → List ℕ → List Order
+recordsOf rows letters calls = zipWith (recordOf rows) letters calls
+
+-- those of the orders from one place to another, and zeros after them
+abbrev pub gathered : List ℤ → List ℕ → List ℕ → ℕ → ℕ → List Order
+gathered rows letters calls from to = full noOrder mostOrders (recordsOf rows (slice from to letters) (slice from to calls))
 
 -- the declarations that are called: at most one
 abbrev pub callsOf : Found → List ℕ
@@ -57,6 +106,13 @@ forCalls rows sounding tones kinds changes =
 
 -- ---- what is required of them
 
+-- from one place to another of the orders, as many as there is room for
+pub record OrderPart (cs ks : List ℕ) (from to : ℕ) : Type 0 where
+  pub order : from ≤ to
+  pub most : to ≤ from + mostOrders
+  pub letters : to ≤ length cs
+  pub calls : to ≤ length ks
+
 -- the orders of a logic are all there
 abbrev pub OrdersThere : Tables → TableRow → Type 0
 OrdersThere t Unused = Unit
@@ -64,17 +120,12 @@ OrdersThere t (Interval d) = Unit
 OrdersThere t (Tone p) = Unit
 OrdersThere t (System a P from to) = Unit
 OrdersThere t (Retuning r from to) = Unit
-OrdersThere t (Logic c s from to) = (to ≤ length (t .letters)) × (to ≤ length (t .calls))
+OrdersThere t (Logic c s from to) = OrderPart (t .letters) (t .calls) from to
 
 -- the active logic's row can be read, and its orders
 abbrev pub ActiveReadable : Tables → Active → Type 0
 ActiveReadable t active.Nothing = Unit
 ActiveReadable t (active.Logic i) = FieldsFit (readAt (t .rows) i) × OrdersThere t (rowAt t i)
-
--- and the row of the declaration that a letter names
-pub record Pressable (t : Tables) (a : Active) (letter : ℕ) : Type 0 where
-  pub active : ActiveReadable t a
-  pub called : (k : ℕ) → elseOrder t a letter (firstLogic (t .rows) letter 0 (rowCount t)) ≡ some k → FieldsFit (readAt (t .rows) k)
 
 -- a tone system or retuning has what a call of it needs
 abbrev pub CallableRow : Tables → TableRow → Type 0

@@ -9,8 +9,8 @@ use Rattle.tables.specs.Layout.{Tables}
 use Rattle.validity.proofs.Laws.{valid-of}
 use Rattle.protocol.specs.Letters.{Pressed, pressed}
 use Rattle.protocol.specs.Answers.{tuningFrom, madeFrom, lastNumber}
-use Rattle.protocol.specs.Inner.{callsOf, pressedBy, lent, forLetters, Pressable}
-use Rattle.protocol.proofs.Pressable.{Within, pressed-alike, pressable, pressed-within}
+use Rattle.protocol.specs.Inner.{callsOf, pressedBy, lent, forLetters, ActiveReadable}
+use Rattle.protocol.proofs.Pressable.{Within, pressed-alike, active-readable, pressed-within}
 use Rattle.protocol.proofs.Callable.{tuning-alike, made-alike, callable-found, tuning-valid}
 use Rattle.protocol.proofs.Ways.{gives, letter-gives}
 use Rattle.protocol.proofs.answer_letter.Statement.{statement}
@@ -35,15 +35,14 @@ press-letter-requires : tie.Need-press-letter-requires
 press-letter-requires c κs =
     let a = c .before .before .before .before .before .before .before .before in
     let t = lentTo a in
-    subst (λ (u : Counts). Pressable (forLetters (t .rows) (u .rows) (t .letters) (t .calls)) (a .args .desk .active) (a .args .letter)) (sym (c .read .ensures))
-    (pressable t (a .pre .tables) (a .args .desk .active) (a .pre .active) (a .args .letter))
+    subst (λ (u : Counts). ActiveReadable (forLetters (t .rows) (u .rows) (t .letters) (t .calls)) (a .args .desk .active)) (sym (c .read .ensures))
+    (active-readable t (a .pre .tables) (a .args .desk .active) (a .pre .active))
 
 -- where the function begins, from where the letter is known
 abbrev begun : tie.After-press-letter → tie.Start
 begun c = c .before .before .before .before .before .before .before .before .before
 
-pressed-here : (c : tie.After-press-letter)
-    → pressedBy (c .press-letter .result) ≡ pressed (lentTo (begun c)) (begun c .args .desk .active) (begun c .args .letter)
+pressed-here : (c : tie.After-press-letter) → pressedBy (c .press-letter .result) ≡ pressed (lentTo (begun c)) (begun c .args .desk .active) (begun c .args .letter)
 pressed-here c =
     let a = begun c in
     let t = lentTo a in

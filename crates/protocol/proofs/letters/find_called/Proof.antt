@@ -6,8 +6,9 @@ use borrow.Author.Needs.{needs}
 use Rattle.tables.specs.Layout.{Tables}
 use Rattle.protocol.specs.declared.Active.the-variants as active
 use Rattle.protocol.specs.Letters.{firstLogic, elseOrder}
-use Rattle.protocol.specs.Inner.{found, forLetters, OrdersThere, ActiveReadable}
-use Rattle.protocol.proofs.Presses.{told, no-orders, order-inactive, order-active}
+use Rattle.protocol.specs.Inner.{calledIn, forLetters, OrdersThere, ActiveReadable}
+use Rattle.protocol.proofs.Searches.{logic-found}
+use Rattle.protocol.proofs.Presses.{told, no-orders, order-inactive, order-active, logic-called}
 use Rattle.protocol.proofs.letters.find_called.Statement.{statement}
 use Rattle.protocol.proofs.letters.find_called.Tie as tie
 
@@ -30,8 +31,10 @@ unfolding lent
 returns c =
     let searched = c .before .before .before in
     let a = searched .before .before .before in
-    ap (λ o. found (elseOrder (lent a) (a .args .active) (a .args .letter) o))
-    (sym (told (logic a) (searched .find-logic .ensures) (c .before .i .given .1)))
+    let rows = a .args .rows .now in
+    let e = told (logic a) (searched .find-logic .ensures) (c .before .i .given .1) in
+    logic-called (a .args .letter) rows _ (logic-found rows (a .args .letter) 0 (a .args .count) e .1)
+    ∙ ap (λ o. calledIn rows (elseOrder (lent a) (a .args .active) (a .args .letter) o)) (sym e)
 
 enum-told : tie.Need-enum-told
 enum-told c = search needs
@@ -53,7 +56,7 @@ unfolding lent
 returns-2 c =
     let none-found = c .before .before in
     let a = none-found .before .before .before .before .before in
-    ap found (order-inactive (lent a) (a .args .letter) (a .args .active) (no-logic none-found) (c .enum-told2 .given .1))
+    ap (calledIn (a .args .rows .now)) (order-inactive (lent a) (a .args .letter) (a .args .active) (no-logic none-found) (c .enum-told2 .given .1))
 
 cast-row-at : tie.Need-cast-row-at
 cast-row-at c = search needs
@@ -79,7 +82,7 @@ returns-3 c =
     let known = read .before .before in
     let none-found = known .before .before in
     let a = none-found .before .before .before .before .before in
-    ap found
+    ap (calledIn (a .args .rows .now))
     (no-orders (lent a) (a .args .letter) (read .row-at .result) (c .match3 .keys2)
     ∙ order-active (lent a) (a .args .letter) (a .args .active) (no-logic none-found) (known .active .given .1) (read .row-at .ensures))
 
@@ -107,7 +110,7 @@ returns-4 c =
     let none-found = known .before .before in
     let a = none-found .before .before .before .before .before in
     c .find-order .ensures
-    ∙ ap found
+    ∙ ap (calledIn (a .args .rows .now))
     (order-active (lent a) (a .args .letter) (a .args .active) (no-logic none-found) (known .active .given .1)
     (sym (bounds .from .given .1) ∙ read .row-at .ensures))
 

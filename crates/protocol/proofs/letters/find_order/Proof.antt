@@ -1,82 +1,84 @@
--- `protocol::letters::find_order` meets its contract. The loop's invariant: what is found from the present order on is what is found from the first.
--- Assumes nothing.
-use mathlib.Core.Path.{_≡_, refl, ap, _∙_}
-use Prim.Native.Nat.{_-_}
+-- `protocol::letters::find_order` meets its contract. Assumes nothing.
+use mathlib.Core.Path.{_≡_, sym, _∙_}
+use Prim.Native.Nat.{_<_}
 use native.Mathlib.Omega.{arith}
 use borrow.Author.Needs.{needs}
+use borrow.Author.Tests.{eq-eqb, ne-eqb}
 use lib.Seq.{slice}
+use Rattle.orders.specs.declared.Found.{Found as Match}
+use Rattle.tables.specs.Layout.{mostOrders}
 use Rattle.protocol.specs.Letters.{firstOrder}
-use Rattle.protocol.specs.Inner.{found}
-use Rattle.protocol.proofs.Searches.{order-here, order-on, order-none}
+use Rattle.protocol.specs.Inner.{logicKind, calledIn}
+use Rattle.protocol.proofs.Records.{calledAt, called-gathered, found-gathered}
 use Rattle.protocol.proofs.letters.find_order.Statement.{statement}
 use Rattle.protocol.proofs.letters.find_order.Tie as tie
 
-abbrev Inv-loop : tie.InvT-loop
-Inv-loop letters calls from to letter i₀ i =
-    firstOrder letter (slice i to letters) (slice i to calls) ≡ firstOrder letter (slice from to letters) (slice from to calls)
+gather-orders-requires : tie.Need-gather-orders-requires
+gather-orders-requires c κs = search needs
 
-abbrev μ-loop : tie.MeasureT-loop
-μ-loop letters calls from to letter i₀ i = to - i
+sub-find-match-in : tie.Need-sub-find-match-in
+sub-find-match-in c = search needs
 
-loop-holds : tie.Need-loop-holds Inv-loop μ-loop
-loop-holds c = refl
+find-match-in-requires : tie.Need-find-match-in-requires
+find-match-in-requires c κs = search needs
 
-shared-slice-read-if1 : tie.Need-shared-slice-read-if1 Inv-loop μ-loop
-shared-slice-read-if1 c = search needs
+enum-known-i : tie.Need-enum-known-i
+enum-known-i c = search needs
 
-mul-t10 : tie.Need-mul-t10 Inv-loop μ-loop
-mul-t10 c = search needs
+enum-told : tie.Need-enum-told
+enum-told c = search needs
 
-shared-slice-read-t12 : tie.Need-shared-slice-read-t12 Inv-loop μ-loop
-shared-slice-read-t12 c = search needs
+-- what was found calls what the first order with the letter calls
+called-here : (c : tie.After-find-match-in) {m : Match} → c .find-match-in .result ≡ m
+    → let x = c .before .before .before .before .args in
+    calledAt (c .before .gather-orders .result) m
+    ≡ calledIn (x .rows .now) (firstOrder (x .letter) (slice (x .from) (x .to) (x .letters .now)) (slice (x .from) (x .to) (x .calls .now)))
+called-here c e =
+    let a = c .before .before .before .before in
+    called-gathered (a .args .rows .now) (a .args .letter) (a .pre) (c .before .gather-orders .ensures) (sym (c .find-match-in .ensures) ∙ e)
 
-cast-t13 : tie.Need-cast-t13 Inv-loop μ-loop
-cast-t13 c = omega (arith, c .shared-slice-known2 .given (c .before .before .before .before .loop .i))
+-- it is one of the records
+found-here : (c : tie.After-known-told) → c .before .i .given .0 .0 < mostOrders
+found-here c =
+    let searched = c .before .before .before in
+    let a = searched .before .before .before .before in
+    found-gathered (a .args .rows .now) (a .args .letter) (a .pre) (searched .before .gather-orders .ensures) (sym (searched .find-match-in .ensures))
+    (c .before .i .given .1)
 
-returns : tie.Need-returns Inv-loop μ-loop
-returns c =
-    let turn = c .before .before .before in
-    let l = turn .before in
-    let a = l .before in
-    ap found
-    (order-here (a .args .letter) (a .args .letters .now) (a .args .calls .now) (l .loop .i) (a .args .to) (turn .loop-test .taken) (a .pre .0) (a .pre .1)
-    (c .before .if1 .taken)
-    ∙ l .loop .inv)
+returns : tie.Need-returns
+returns c = called-here (c .before .before) (c .enum-told .given .1)
 
-add-i : tie.Need-add-i Inv-loop μ-loop
-add-i c = search needs
+mul-order : tie.Need-mul-order
+mul-order c = omega (arith, found-here c)
 
-loop-less : tie.Need-loop-less Inv-loop μ-loop
-loop-less c = search needs
+array-copy-out-order : tie.Need-array-copy-out-order
+array-copy-out-order c = found-here c
 
-loop-again : tie.Need-loop-again Inv-loop μ-loop
-loop-again c =
-    let turn = c .before .before in
-    let l = turn .before in
-    let a = l .before in
-    order-on (a .args .letter) (a .args .letters .now) (a .args .calls .now) (l .loop .i) (a .args .to) (turn .loop-test .taken) (a .pre .0) (a .pre .1)
-    (c .if1 .left)
-    ∙ l .loop .inv
+cast-number : tie.Need-cast-number
+cast-number c = search needs
 
-returns-2 : tie.Need-returns-2 Inv-loop μ-loop
+returns-2 : tie.Need-returns-2
 returns-2 c =
-    let l = c .before in
-    let a = l .before .args in
-    ap found (order-none (a .letter) (a .letters .now) (a .calls .now) (l .loop .i) (a .to) (c .loop-test .left) ∙ l .loop .inv)
+    let known = c .before .before .before .before .before in
+    rw (eq-eqb _ logicKind (c .if1 .taken)) at (called-here (known .before .before) (known .i .given .1))
+
+returns-3 : tie.Need-returns-3
+returns-3 c =
+    let known = c .before .before .before .before .before in
+    rw (ne-eqb _ logicKind (c .if1 .left)) at (called-here (known .before .before) (known .i .given .1))
 
 pub find-order-spec : {M : Type 1} → statement M
 find-order-spec =
     tie.close
     (tie.spec
-    Inv-loop
-    μ-loop
-    loop-holds
-    shared-slice-read-if1
-    mul-t10
-    shared-slice-read-t12
-    cast-t13
+    gather-orders-requires
+    sub-find-match-in
+    find-match-in-requires
+    enum-known-i
+    enum-told
     returns
-    add-i
-    loop-less
-    loop-again
-    returns-2)
+    mul-order
+    array-copy-out-order
+    cast-number
+    returns-2
+    returns-3)

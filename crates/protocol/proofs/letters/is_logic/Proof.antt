@@ -5,7 +5,7 @@ use mir.Facts.{toZ-ofZ}
 use mir.Syntax.{w32}
 use mir.Val.{SFits}
 use Rattle.integers.specs.Parts.{up}
-use Rattle.protocol.proofs.Searches.{logic-by}
+use Rattle.protocol.proofs.Forms.{logic-by}
 use Rattle.protocol.proofs.letters.is_logic.Statement.{statement}
 use Rattle.protocol.proofs.letters.is_logic.Tie as tie
 
@@ -20,8 +20,8 @@ first-natural c = let f = first-fits c in simp toZ-ofZ at (c .natural .ensures)
 
 returns : tie.Need-returns
 returns c =
-    let n = c .before .before .args .n in
-    rw (first-natural c) (logic-by (n .form) (n .first) (n .second) (n .from) (n .to) (c .before .before .args .letter))
+    let a = c .before .before .args in
+    rw (first-natural c) (logic-by (a .n) (a .letter))
 
 pub is-logic-spec : {M : Type 1} → statement M
 is-logic-spec = tie.close (tie.spec natural-requires returns)

@@ -1,86 +1,91 @@
 -- `protocol::letters::press_letter` meets its contract. Assumes nothing.
-use mathlib.Core.Path.{_≡_, sym, ap, _∙_}
+use mathlib.Core.Path.{_≡_, ap, _∙_}
 use mathlib.Core.Bool.{true}
 use mathlib.Core.List.{List}
-use mathlib.Core.Option.{Option, some}
 use Prim.Native.Nat.{ℕ}
 use borrow.Author.Needs.{needs}
-use Rattle.tables.specs.Layout.{Tables}
+use mir.Facts.{toZ-ofZ}
+use mir.Syntax.{w32}
+use mir.Val.{SFits}
+use Rattle.integers.specs.Parts.{up}
+use Rattle.tables.specs.declared.Numbers.{Numbers}
+use Rattle.tables.specs.Layout.{readAt}
 use Rattle.protocol.specs.declared.Active.the-variants as active
+use Rattle.protocol.specs.declared.letters.Called.{Called}
+use Rattle.protocol.specs.Letters.{startCalls, pressed}
 use Rattle.protocol.specs.Inner.{forLetters}
-use Rattle.protocol.proofs.Presses.{told, named, press-none, press-row, calls-itself}
+use Rattle.protocol.proofs.Presses.{pressedAs, pressed-named}
 use Rattle.protocol.proofs.letters.press_letter.Statement.{statement}
 use Rattle.protocol.proofs.letters.press_letter.Tie as tie
 
--- what is lent, as tables
-abbrev lent : tie.Start → Tables
-lent a = forLetters (a .args .rows .now) (a .args .count) (a .args .letters .now) (a .args .calls .now)
-
--- the declaration that the letter names
-abbrev sought : tie.Start → Option ℕ
-sought a = named (lent a) (a .args .active) (a .args .letter)
-
 find-called-requires : tie.Need-find-called-requires
-find-called-requires c κs = c .before .before .pre .active
-
-enum-known-k : tie.Need-enum-known-k
-enum-known-k c = search needs
+find-called-requires c κs = search needs
 
 enum-told : tie.Need-enum-told
 enum-told c = search needs
 
-returns : tie.Need-returns
-returns c =
-    let searched = c .before .before in
-    let a = searched .before .before .before in
-    press-none (lent a) (a .args .active) (a .args .letter) (told (sought a) (searched .find-called .ensures) (c .enum-told .given .1))
+enum-known-k : tie.Need-enum-known-k
+enum-known-k c = search needs
 
-cast-row-at : tie.Need-cast-row-at
-cast-row-at c = search needs
+enum-known-k-2 : tie.Need-enum-known-k-2
+enum-known-k-2 c = search needs
 
--- it names one
-named-here : (c : tie.After-k) → sought (c .before .before .before .before .before) ≡ some (c .k .given .0 .0)
-named-here c =
-    let searched = c .before .before in
-    told (sought (searched .before .before .before)) (searched .find-called .ensures) (c .k .given .1)
+cast-numbers-at : tie.Need-cast-numbers-at
+cast-numbers-at c = search needs
 
-row-at-requires : tie.Need-row-at-requires
-row-at-requires c κs = c .before .before .before .before .before .before .pre .called _ (named-here (c .before))
+numbers-at-requires : tie.Need-numbers-at-requires
+numbers-at-requires c κs = search needs
 
-enum-known-start : tie.Need-enum-known-start
-enum-known-start c = search needs
-
-returns-2 : tie.Need-returns-2
-returns-2 c =
-    let read = c .before in
-    let known = read .before .before in
-    let a = known .before .before .before .before .before in
-    calls-itself (a .args .active) _ (read .row-at .result) (c .match2 .keys2)
-    ∙ press-row (lent a) (a .args .active) (a .args .letter) (named-here known) (read .row-at .ensures)
+natural-requires : tie.Need-natural-requires
+natural-requires c κs = search needs
 
 find-start-requires : tie.Need-find-start-requires
 find-start-requires c κs = search needs
 
+-- what was found comes to what the letter comes to
+pressed-here : (c : tie.After-find-called) {f : Called} → c .find-called .result ≡ f
+    → let x = c .before .before .before .args in
+    pressedAs (x .rows .now) (x .active) f ≡ pressed (forLetters (x .rows .now) (x .count) (x .letters .now) (x .calls .now)) (x .active) (x .letter)
+pressed-here c e =
+    let x = c .before .before .before .args in
+    pressed-named (forLetters (x .rows .now) (x .count) (x .letters .now) (x .calls .now)) (x .active) (x .letter) (c .find-called .ensures) e
+
+second-fits : (c : tie.After-natural) → SFits w32 (c .before .before .numbers-at .result .second)
+second-fits c = search needs
+
+-- the start that was read
+start-here : (c : tie.After-natural)
+    → let known = c .before .before .before .before in
+    c .natural .result ≡ up (readAt (known .before .before .before .before .before .args .rows .now) (known .k2 .given .0 .0) .second)
+start-here c =
+    let f = second-fits c in
+    simp toZ-ofZ at (c .natural .ensures) ∙ ap (λ (n : Numbers). up (n .second)) (c .before .before .numbers-at .ensures)
+
+returns : tie.Need-returns
+returns c = pressed-here (c .before .before) (c .enum-told .given .1)
+
+returns-2 : tie.Need-returns-2
+returns-2 c = pressed-here (c .before .before .before) (c .before .k .given .1)
+
 returns-3 : tie.Need-returns-3
 returns-3 c =
-    let logic = c .before .before in
-    let read = logic .before .before in
-    let known = read .before .before in
-    let a = known .before .before .before .before .before in
-    ap (λ (l : List ℕ). record { bound = true; active = active.Logic (known .k .given .0 .0); calls = l }) (c .find-start .ensures)
-    ∙ press-row (lent a) (a .args .active) (a .args .letter) (named-here known) (sym (logic .start .given .1) ∙ read .row-at .ensures)
+    let known = c .before .before .before .before .before in
+    ap (λ (l : List ℕ). record { bound = true; active = active.Logic (known .k2 .given .0 .0); calls = l })
+    (c .find-start .ensures ∙ ap startCalls (start-here (c .before)))
+    ∙ pressed-here (known .before .before) (known .k2 .given .1)
 
 pub press-letter-spec : {M : Type 1} → statement M
 press-letter-spec =
     tie.close
     (tie.spec
     find-called-requires
-    enum-known-k
     enum-told
-    returns
-    cast-row-at
-    row-at-requires
-    enum-known-start
-    returns-2
+    enum-known-k
+    enum-known-k-2
+    cast-numbers-at
+    numbers-at-requires
+    natural-requires
     find-start-requires
+    returns
+    returns-2
     returns-3)

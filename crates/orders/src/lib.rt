@@ -1,0 +1,41 @@
+// Order records, and the search for the first with a letter in a lent slice of them.
+ghost use mathlib.Core.Path.{_≡_};
+ghost use Rattle.orders.specs.Orders.{firstMatch};
+
+// A letter, the kind of what it calls, and the number of the declaration that is called.
+pub struct Order {
+    pub letter: u8,
+    pub kind: u8,
+    pub number: u16,
+}
+
+pub enum Found {
+    Nothing,
+    At(usize),
+}
+
+// The first of the `count` records from `first` on that has the letter. The part may reach past the end.
+pub fn find_match(orders: &[Order], letter: u8, first: usize, count: usize) -> Found
+    ensures { λ r. ⌜ r ≡ firstMatch letter (now (orders .entry)) first count ⌝ }
+{
+    let mut i = first;
+    let mut left = count;
+    while left > 0 {
+        if i >= orders.len() {
+            return Found::Nothing;
+        }
+        if orders[i].letter == letter {
+            return Found::At(i);
+        }
+        i += 1;
+        left -= 1;
+    }
+    Found::Nothing
+}
+
+// The same of an array that is lent here, for callers with plain parameters.
+pub fn find_match_in(orders: [Order; 512], letter: u8, first: usize, count: usize) -> Found
+    ensures { λ r. ⌜ r ≡ firstMatch letter orders first count ⌝ }
+{
+    find_match(&orders, letter, first, count)
+}

@@ -1,0 +1,118 @@
+-- Orders as records: how they are gathered, and what the search among them finds. Assumes nothing.
+use mathlib.Core.Path.{_≡_, refl, sym, ap, _∙_}
+use mathlib.Core.Bool.{Bool, true, false}
+use mathlib.Core.List.{List, [], _∷_, _++_, zipWith}
+use mathlib.Core.Option.{some}
+use Prim.Native.Nat.{ℕ, suc, _+_, _-_, _≤_, _<_}
+use native.Mathlib.Numerals.{add-one}
+use native.Mathlib.Omega.{arith}
+use lib.Dec.{eqb}
+use lib.IntN.{ℤ}
+use lib.ListN.{length, length-append, length-take, getD, set, take, drop-of-length-le}
+use lib.Seq.{sets, slice, slice-cons, length-slice, append-snoc, getD-at}
+use Rattle.orders.specs.declared.Order.{Order}
+use Rattle.orders.specs.declared.Found.{Found as Match}
+use Rattle.orders.specs.declared.Found.the-variants as match
+use Rattle.orders.specs.Orders.{noOrder, orderAt, matchFrom, firstMatch}
+use Rattle.orders.proofs.Laws.{match-within}
+use Rattle.tables.specs.Layout.{mostOrders, full}
+use Rattle.tables.proofs.Lists.{full-length, full-next}
+use Rattle.protocol.specs.declared.letters.Called.{Called}
+use Rattle.protocol.specs.declared.letters.Called.the-variants as called
+use Rattle.protocol.specs.Letters.{firstOrder}
+use Rattle.protocol.specs.Inner.{kindAt, byKind, calledIn, recordOf, recordsOf, gathered, OrderPart}
+
+-- ---- gathering: where the loop begins, one turn of it, and its end
+
+past : {A : Type 0} (l : List A) (i n : ℕ) → n ≤ i → slice i n l ≡ []
+past l i n h = let m : length (take n l) ≤ i = simp length-take (omega arith) in drop-of-length-le (take n l) m
+
+records-most : (rows : List ℤ) (cs ks : List ℕ) → length (recordsOf rows cs ks) ≤ length cs
+unfolding zipWith
+records-most rows [] ks = omega arith
+records-most rows (c ∷ cs) [] = omega arith
+records-most rows (c ∷ cs) (k ∷ ks) = let h = records-most rows cs ks in omega arith
+
+-- the records from the i-th order on
+abbrev rest : List ℤ → List ℕ → List ℕ → ℕ → ℕ → List Order
+rest rows letters calls to i = recordsOf rows (slice i to letters) (slice i to calls)
+
+rest-fits : (rows : List ℤ) {letters calls : List ℕ} {from to : ℕ} → OrderPart letters calls from to → length (rest rows letters calls to from) ≤ mostOrders
+rest-fits rows {letters} {calls} {from} {to} p =
+    omega (arith, records-most rows (slice from to letters) (slice from to calls), length-slice from to letters (p .letters), p .most)
+
+-- what the loop keeps: with the records that are left stored, the array is the one that is asked for
+pub record Gathering (rows : List ℤ) (letters calls : List ℕ) (from to : ℕ) (all : List Order) (i : ℕ) : Type 0 where
+  pub least : from ≤ i
+  pub left : sets all (i - from) (rest rows letters calls to i) ≡ gathered rows letters calls from to
+
+module _ {rows : List ℤ} {letters calls : List ℕ} {from to : ℕ} (p : OrderPart letters calls from to) where
+  pub gathering-starts : Gathering rows letters calls from to (full noOrder mostOrders []) from
+  gathering-starts =
+      let n : from - from ≡ 0 = omega arith in
+      let e = full-next noOrder mostOrders [] (rest rows letters calls to from) 0 refl (omega (arith, rest-fits rows p)) in
+      record { least = omega arith; left = rw n e }
+
+  module _ {all : List Order} {i : ℕ} (g : Gathering rows letters calls from to all i) where
+    pub gathering-next : {kind : ℕ} → i < to → kind ≡ kindAt rows (getD calls i 0)
+        → Gathering rows letters calls from to (set all (i - from) (record { letter = getD letters i 0; kind = kind; number = getD calls i 0 })) (i + 1)
+    unfolding zipWith
+    gathering-next h e =
+        let first : rest rows letters calls to i ≡ recordOf rows (getD letters i 0) (getD calls i 0) ∷ rest rows letters calls to (i + 1) =
+        rw (slice-cons i to letters 0 h (p .letters), slice-cons i to calls 0 h (p .calls), add-one i) in
+        let n : i + 1 - from ≡ suc (i - from) = omega (arith, g .least) in
+        record { least = omega (arith, g .least); left = rw (n, e) (ap (sets all (i - from)) (sym first) ∙ g .left) }
+
+    pub gathering-ends : to ≤ i → all ≡ gathered rows letters calls from to
+    unfolding zipWith
+    gathering-ends h = ap (λ (l : List ℕ). sets all (i - from) (recordsOf rows l (slice i to calls))) (sym (past letters i to h)) ∙ g .left
+
+-- ---- searching
+
+-- what the record calls that a search has found
+abbrev pub calledAt : List Order → Match → Called
+calledAt xs match.Nothing = called.Nothing
+calledAt xs (match.At i) = byKind (orderAt xs i .kind) (orderAt xs i .number)
+
+module _ (rows : List ℤ) (letter : ℕ) where
+  -- `seen` stands before the records, `rest` after them
+  called-from : (seen : List Order) (at : ℕ) (cs ks : List ℕ) (rest : List Order) → length seen ≡ at → length cs ≡ length ks
+      → let xs = recordsOf rows cs ks ++ rest in calledAt (seen ++ xs) (matchFrom letter at xs (length cs)) ≡ calledIn rows (firstOrder letter cs ks)
+  unfolding zipWith matchFrom firstOrder
+  called-from seen at [] ks [] l e = refl
+  called-from seen at [] ks (x ∷ rest) l e = refl
+  called-from seen at (c ∷ cs) [] rest l e = let z : ⊥ = omega arith in absurd z
+  called-from seen at (c ∷ cs) (k ∷ ks) rest l e =
+      let x = recordOf rows c k in
+      let m : length (seen ++ x ∷ []) ≡ at + 1 = omega (arith, length-append seen (x ∷ [])) in
+      go (eqb c letter) (called-from (seen ++ x ∷ []) (at + 1) cs ks rest m (omega arith))
+    where
+      go : (b : Bool) → let x = recordOf rows c k in let xs = recordsOf rows cs ks ++ rest in
+          calledAt (seen ++ x ∷ [] ++ xs) (matchFrom letter (at + 1) xs (length cs)) ≡ calledIn rows (firstOrder letter cs ks)
+          → calledAt (seen ++ x ∷ xs) (elim b [ true ↦ match.At at | false ↦ matchFrom letter (at + 1) xs (length cs) ])
+          ≡ calledIn rows (elim b [ true ↦ some k | false ↦ firstOrder letter cs ks ])
+      go true later = rw (getD-at seen (recordOf rows c k) (recordsOf rows cs ks ++ rest) noOrder at l)
+      go false later = rw append-snoc at later
+
+  -- the first record with the letter calls what the first order with it calls
+  called-first : (cs ks : List ℕ) → length cs ≡ length ks
+      → let xs = full noOrder mostOrders (recordsOf rows cs ks) in
+      calledAt xs (firstMatch letter xs 0 (length cs)) ≡ calledIn rows (firstOrder letter cs ks)
+  unfolding firstMatch
+  called-first cs ks e = called-from [] 0 cs ks _ refl e
+
+  module _ {letters calls : List ℕ} {from to : ℕ} (p : OrderPart letters calls from to) {all : List Order} {m : Match}
+      (e : all ≡ gathered rows letters calls from to) (f : firstMatch letter all 0 (to - from) ≡ m) where
+    pub called-gathered : calledAt all m ≡ calledIn rows (firstOrder letter (slice from to letters) (slice from to calls))
+    called-gathered =
+        let xs = gathered rows letters calls from to in
+        let n : length (slice from to letters) ≡ to - from = length-slice from to letters (p .letters) in
+        ap (calledAt all) (sym f)
+        ∙ ap (λ (l : List Order). calledAt l (firstMatch letter l 0 (to - from))) e
+        ∙ ap (λ (k : ℕ). calledAt xs (firstMatch letter xs 0 k)) (sym n)
+        ∙ called-first (slice from to letters) (slice from to calls) (n ∙ sym (length-slice from to calls (p .calls)))
+
+    pub found-gathered : {i : ℕ} → m ≡ match.At i → i < mostOrders
+    found-gathered h =
+        let n = full-length noOrder mostOrders (rest rows letters calls to from) (rest-fits rows p) in
+        omega (arith, match-within letter all 0 (to - from) (f ∙ h), ap length e, n)
