@@ -1,1 +1,13 @@
+pub mod Caps
 pub mod CaseS
+pub mod Entries
+pub mod Filling
+pub mod Fitting
+pub mod Forms
+pub mod Groups
+pub mod Inside
+pub mod Items
+pub mod Terms
+pub mod Totals
+pub mod Writing
+pub mod Written

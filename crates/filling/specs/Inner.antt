@@ -1,14 +1,36 @@
 -- What the contracts cite: no part of the rules.
 use mathlib.Core.Path.{_≡_}
-use mathlib.Core.List.{List}
-use Prim.Native.Nat.{ℕ, _*_, _≤_, _<_}
+use mathlib.Core.Bool.{Bool}
+use mathlib.Core.List.{List, [], _∷_, map}
+use mathlib.Core.Option.{Option, some, none}
+use Prim.Native.Nat.{ℕ, _+_, _-_, _*_, _≤_, _<_, _^_}
+use lib.Dec.{ltb}
 use lib.IntN.{ℤ, pos, natAbs}
-use lib.ListN.{length, getD, replicate}
-use Rattle.values.specs.Values.{toneLimit}
+use lib.ListN.{length, getD, drop, replicate}
+use lib.Seq.{sets}
+use Rattle.grammar.specs.declared.Item.{Item}
+use Rattle.grammar.specs.Items.{rowSize, itemAt}
+use Rattle.grammar.specs.Reading.{mostTerms}
+use Rattle.names.specs.Parts.{Part, part}
+use Rattle.values.specs.Values.{Term, toneLimit}
 use Rattle.values.specs.Rows.{rows}
-use Rattle.tables.specs.Layout.{Tables, mostRows, rowWidth, mostTones, mostChanges, mostOrders, countsSize}
-use Rattle.program.specs.Program.{Program}
+use Rattle.values.specs.Inner.{greatestFactor}
+use Rattle.tuning.specs.declared.Tone.{Tone}
+use Rattle.tuning.specs.declared.ToneChange.{ToneChange}
+use Rattle.tuning.specs.declared.Retuning.the-variants.{Anchor, Width, Period, Tones}
+use Rattle.tables.specs.declared.Counts.{Counts}
+use Rattle.tables.specs.declared.Row.{Row}
+use Rattle.tables.specs.declared.Row.the-variants as row
+use Rattle.tables.specs.Layout.{Tables, mostRows, rowWidth, mostTones, mostChanges, mostOrders, countsSize, numbersOf, written, amountNumber, soundingOf, pitchOf, changeCode, changeNumber}
+use Rattle.program.specs.Program.{Declaration, ratio, root, sequence, frequency, from, system, anchor, width, freshPeriod, onwardPeriod, tones, logic, Program, Position, mute, same, named, Order, Grouped, groupThen, grouped}
 use Rattle.program.specs.Meaning.{valueOf}
+use Rattle.program.specs.Allowed.{Each}
+use Rattle.valuation.specs.Inner.{between}
+use Rattle.filling.specs.declared.lists.ToneHere.{ToneHere}
+use Rattle.filling.specs.declared.lists.ToneHere.the-variants as toneHere
+use Rattle.filling.specs.declared.lists.ChangeHere.{ChangeHere}
+use Rattle.filling.specs.declared.lists.ChangeHere.the-variants as changeHere
+use Rattle.filling.specs.Tables.{tonesOf, changesOf, ordersOf, startCode, rowOf}
 
 -- a slice has the value of each declaration
 pub record Valued (p : Program) (values : List ℤ) : Type 0 where
@@ -28,3 +50,177 @@ blank = record {
   calls = replicate mostOrders 0;
   counts = replicate countsSize 0;
 }
+
+-- ---- what the functions read
+
+-- the value that a slice has for a declaration
+abbrev pub valueIn : List ℤ → ℕ → ℤ
+valueIn values k = getD values k (pos 0)
+
+-- the position that begins with a part and has these terms, if one does
+abbrev pub positionBy : Part → List Term → List Position
+positionBy q ts = groupThen q (record { before = ts; positions = [] }) .positions
+
+abbrev pub begins : Part → Bool
+begins q = ltb 0 (length (positionBy q []))
+
+abbrev pub positionAt : List ℕ → ℕ → ℕ → List Position
+positionAt items i to = positionBy (part (itemAt items i)) (grouped (between items (i + 1) to) .before)
+
+-- what an item gives to the tones, or a position to the changes
+abbrev pub tonesHere : ToneHere → List Tone
+tonesHere toneHere.Nothing = []
+tonesHere (toneHere.Tone t) = t ∷ []
+
+abbrev pub changesHere : ChangeHere → List ToneChange
+changesHere changeHere.Nothing = []
+changesHere (changeHere.Change x) = x ∷ []
+
+-- an order's letter and what it calls
+abbrev pub letterOf : Order → ℕ
+letterOf x = x .letter
+
+abbrev pub callOf : Order → ℕ
+callOf x = x .calls
+
+-- a start as a row has it: no value matters
+abbrev pub calledBy : Option ℕ → ℕ
+calledBy s = startCode (λ k. pos 0) s
+
+-- ---- what they require: each value that is read is there and in the range of tones, and each number fits its table, so that nothing overflows
+
+pub record FitValue (values : List ℤ) (k : ℕ) : Type 0 where
+  pub within : k < length values
+  pub small : natAbs (valueIn values k) ≤ toneLimit
+
+pub record FitTerm (values : List ℤ) (t : Term) : Type 0 where
+  pub factor : t .factor ≤ greatestFactor
+  pub of : FitValue values (t .of)
+
+pub record Summable (values : List ℤ) (ts : List Term) : Type 0 where
+  pub few : length ts ≤ mostTerms
+  pub each : Each (FitTerm values) ts
+
+abbrev pub FitPlace : List ℤ → Option ℕ → Type 0
+FitPlace values none = Unit
+FitPlace values (some k) = FitValue values k
+
+abbrev pub FitPosition : List ℤ → Position → Type 0
+FitPosition values mute = Unit
+FitPosition values (same ts) = Summable values ts
+FitPosition values (named k ts) = FitValue values k × Summable values ts
+
+pub record FitOrder (o : Order) : Type 0 where
+  pub letter : o .letter < 2 ^ 8
+  pub calls : o .calls < 2 ^ 16
+
+pub record FitLogic (c : ℕ) (s : Option ℕ) (os : List Order) : Type 0 where
+  pub letter : c < 2 ^ 8
+  pub start : calledBy s < 2 ^ 31
+  pub orders : Each FitOrder os
+
+abbrev pub FitParts : List ℤ → Declaration → Type 0
+FitParts values (ratio p q) = Unit
+FitParts values (root a b) = Unit
+FitParts values (sequence ts) = Unit
+FitParts values (frequency f) = Unit
+FitParts values (from k ts) = Unit
+FitParts values (system a l ts) = (a < 2 ^ 8) × Each (FitPlace values) l
+FitParts values (anchor m) = amountNumber m < 2 ^ 16
+FitParts values (width m) = amountNumber m < 2 ^ 16
+FitParts values (freshPeriod ts) = Summable values ts
+FitParts values (onwardPeriod ts) = Summable values ts
+FitParts values (tones l) = Each (FitPosition values) l
+FitParts values (logic c s os) = FitLogic c s os
+
+-- a declaration can be written after so many rows, tones, changes and orders
+pub record Writable (values : List ℤ) (used : Counts) (d : Declaration) : Type 0 where
+  pub rows : used .rows < mostRows
+  pub value : FitValue values (used .rows)
+  pub parts : FitParts values d
+  pub tones : used .tones + length (tonesOf (valueIn values) d) ≤ mostTones
+  pub changes : used .changes + length (changesOf (valueIn values) d) ≤ mostChanges
+  pub orders : used .orders + length (ordersOf d) ≤ mostOrders
+
+-- ---- what they leave
+
+-- two tables before and after a list was put into them from one place on
+pub record Stored {A B C : Type 0} (f : A → B) (g : A → C) (xs : List A) (at : ℕ) (bs : List B) (cs : List C) (bs′ : List B) (cs′ : List C) : Type 0 where
+  pub first : bs′ ≡ sets bs at (map f xs)
+  pub second : cs′ ≡ sets cs at (map g xs)
+
+-- and the place after it
+pub record Appended {A B C : Type 0} (f : A → B) (g : A → C) (xs : List A) (at : ℕ) (bs : List B) (cs : List C) (end : ℕ) (bs′ : List B) (cs′ : List C) : Type 0 where
+  pub count : end ≡ at + length xs
+  pub stored : Stored f g xs at bs cs bs′ cs′
+
+-- the row of a declaration after so many
+abbrev pub rowAfter : (ℕ → ℤ) → Counts → Declaration → Row
+rowAfter value used d = rowOf value (used .rows) (used .tones) (used .changes) (used .orders) d
+
+-- the row of a declaration with no list and no sum of its own; the others have an interval's
+abbrev pub plainRow : ℤ → Declaration → Row
+plainRow z (ratio p q) = row.Interval (record { 0 = z })
+plainRow z (root a b) = row.Interval (record { 0 = z })
+plainRow z (sequence ts) = row.Interval (record { 0 = z })
+plainRow z (frequency f) = row.Tone (record { 0 = z })
+plainRow z (from k ts) = row.Tone (record { 0 = z })
+plainRow z (system a l ts) = row.Interval (record { 0 = z })
+plainRow z (anchor m) = row.Retuning (Anchor m) 0 0
+plainRow z (width m) = row.Retuning (Width m) 0 0
+plainRow z (freshPeriod ts) = row.Interval (record { 0 = z })
+plainRow z (onwardPeriod ts) = row.Interval (record { 0 = z })
+plainRow z (tones l) = row.Interval (record { 0 = z })
+plainRow z (logic c s os) = row.Interval (record { 0 = z })
+
+-- the tables of tones, changes and orders
+pub record Lists : Type 0 where
+  pub sounding : List ℕ
+  pub tones : List ℤ
+  pub kinds : List ℕ
+  pub changes : List ℤ
+  pub letters : List ℕ
+  pub calls : List ℕ
+
+-- with those of a declaration stored after so many
+abbrev pub listed : (ℕ → ℤ) → Counts → Declaration → Lists → Lists
+listed value used d l = record {
+  sounding = sets (l .sounding) (used .tones) (map soundingOf (tonesOf value d));
+  tones = sets (l .tones) (used .tones) (map pitchOf (tonesOf value d));
+  kinds = sets (l .kinds) (used .changes) (map changeCode (changesOf value d));
+  changes = sets (l .changes) (used .changes) (map changeNumber (changesOf value d));
+  letters = sets (l .letters) (used .orders) (map letterOf (ordersOf d));
+  calls = sets (l .calls) (used .orders) (map callOf (ordersOf d));
+}
+
+-- a row, and the tables before and after what belongs to it was stored
+pub record Rowed (value : ℕ → ℤ) (used : Counts) (d : Declaration) (before : Lists) (r : Row) (after : Lists) : Type 0 where
+  pub row : r ≡ rowAfter value used d
+  pub lists : after ≡ listed value used d before
+
+-- how many there are then: a row more, with so many tones, changes and orders
+abbrev pub oneMore : Counts → ℕ → ℕ → ℕ → Counts
+oneMore used t c o = record { rows = used .rows + 1; tones = t; changes = c; orders = o }
+
+-- as the row says
+abbrev pub countedBy : Counts → Row → Counts
+countedBy used row.Unused = oneMore used (used .tones) (used .changes) (used .orders)
+countedBy used (row.Interval d) = oneMore used (used .tones) (used .changes) (used .orders)
+countedBy used (row.Tone p) = oneMore used (used .tones) (used .changes) (used .orders)
+countedBy used (row.System a P m n) = oneMore used n (used .changes) (used .orders)
+countedBy used (row.Retuning (Anchor x) m n) = oneMore used (used .tones) (used .changes) (used .orders)
+countedBy used (row.Retuning (Width x) m n) = oneMore used (used .tones) (used .changes) (used .orders)
+countedBy used (row.Retuning (Period x) m n) = oneMore used (used .tones) (used .changes) (used .orders)
+countedBy used (row.Retuning Tones m n) = oneMore used (used .tones) n (used .orders)
+countedBy used (row.Logic c s m n) = oneMore used (used .tones) (used .changes) n
+
+-- as the declaration says
+abbrev pub counted : (ℕ → ℤ) → Counts → Declaration → Counts
+counted value used d =
+    oneMore used (used .tones + length (tonesOf value d)) (used .changes + length (changesOf value d)) (used .orders + length (ordersOf d))
+
+-- all that a declaration adds: how many there are then, its row, and what belongs to it
+pub record Added (value : ℕ → ℤ) (used : Counts) (d : Declaration) (rows : List ℤ) (before : Lists) (r : Counts) (rows′ : List ℤ) (after : Lists) : Type 0 where
+  pub count : r ≡ counted value used d
+  pub row : rows′ ≡ sets rows (rowWidth * used .rows) (written (numbersOf (rowAfter value used d)))
+  pub lists : after ≡ listed value used d before

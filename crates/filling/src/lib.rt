@@ -1,1 +1,66 @@
 // The tables of a program, written row by row from the items of its text.
+mod lists;
+mod rows;
+mod sums;
+
+use rows::write_declaration;
+use tables::Counts;
+use tables::encode;
+ghost use mathlib.Core.Path.{_≡_};
+ghost use mathlib.Core.List.{List};
+ghost use Rattle.grammar.specs.declared.Item.{Item};
+ghost use Rattle.names.specs.Inner.{itemsIn};
+ghost use Rattle.program.specs.Program.{programOf};
+ghost use Rattle.valuation.specs.Inner.{Ready};
+ghost use Rattle.filling.specs.Tables.{tablesOf};
+ghost use Rattle.filling.specs.Inner.{Valued, blank};
+
+// Writes the tables of n declarations into tables that are zero.
+pub fn write_tables(
+    items: &[u32],
+    count: usize,
+    starts: &[u32],
+    n: usize,
+    values: &[i64],
+    rows: &mut [i32],
+    sounding: &mut [u8],
+    tones: &mut [i32],
+    kinds: &mut [u8],
+    changes: &mut [i32],
+    letters: &mut [u8],
+    calls: &mut [u16],
+    counts: &mut [u32],
+)
+    ghost { List Item }
+    requires { λ is. ⌜ itemsIn count (now items) ≡ is ⌝ }
+    requires { λ is. ⌜ Ready is (now items) count (now starts) n ⌝ }
+    requires { λ is. ⌜ Valued (programOf is) (now values) ⌝ }
+    requires { λ is. ⌜ record { rows = now rows; sounding = now sounding; tones = now tones; kinds = now kinds; changes = now changes; letters = now letters; calls = now calls; counts = now counts } ≡ blank ⌝ }
+    ensures { λ is r. ⌜ record { rows = now (rows .exit); sounding = now (sounding .exit); tones = now (tones .exit); kinds = now (kinds .exit); changes = now (changes .exit); letters = now (letters .exit); calls = now (calls .exit); counts = now (counts .exit) } ≡ tablesOf (programOf is) ⌝ }
+{
+    let mut used = Counts {
+        rows: 0,
+        tones: 0,
+        changes: 0,
+        orders: 0,
+    };
+    for d in 0..n {
+        let from = starts[d] as usize + 1;
+        let to = valuation::end_of(starts, n, count, d);
+        used = write_declaration(
+            items,
+            from,
+            to,
+            values,
+            used,
+            rows,
+            sounding,
+            tones,
+            kinds,
+            changes,
+            letters,
+            calls,
+        );
+    }
+    encode::store_counts(counts, used);
+}

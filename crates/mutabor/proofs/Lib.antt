@@ -1,3 +1,4 @@
+-- Theorems on the tables of a program, then the steps of reading a text, in the order in which they build on each other.
 pub mod Lists
 pub mod Filled
 pub mod Decoded
@@ -6,6 +7,7 @@ pub mod InRange
 pub mod ValidTables
 pub mod Parts
 pub mod Steps
+pub mod ItemsRead
 pub mod Named
 pub mod Valuing
 pub mod NamePlaces

@@ -17,12 +17,19 @@ use Rattle.names.specs.declared.Naming.{Naming}
 use Rattle.names.proofs.Lists.{begun-taken}
 use Rattle.names.proofs.Held.{length-items-in, held-after, items-after}
 use Rattle.names.proofs.Meanings.{Accepted, accepted}
+use Rattle.tables.specs.Layout.{Tables}
 use Rattle.program.specs.Program.{programOf}
+use Rattle.program.specs.Meaning.{valued}
+use Rattle.program.specs.Text.{Verdict, byValue, byMeaning}
 use Rattle.program.proofs.Formed.{FormedText}
 use Rattle.program.proofs.ReadFormed.{read-formed}
 use Rattle.program.proofs.AllowedText.{formed-allowed}
 use Rattle.program.proofs.Bodies.{program-length}
 use Rattle.valuation.specs.Inner.{Ready}
+use Rattle.filling.specs.Inner.{blank}
+use Rattle.mutabor.specs.declared.TextReading.{TextReading}
+use Rattle.mutabor.specs.Reading.{byVerdict, Leaves}
+use Rattle.mutabor.proofs.Steps.{if-zero}
 
 -- each declared name begins a declaration
 as-many : (k : ℕ) (is : List Item) → length (beginningsFrom k is) ≡ length (declared is)
@@ -77,3 +84,15 @@ module _ (text : List ℕ) (is : List Item) {items names starts items′ names�
         begun = begun;
         allowed = formed-allowed text is (subst FormedText f (read-formed text g)) meant;
       }
+
+  module _ (count : ℕ) (e : itemsIn count items ≡ is) (f : readItems text .items ≡ is) (g : readItems text .number ≡ done) (n : length items′ ≡ itemSlots) where
+    -- the same, of the items as the slice has them now
+    pub ready-now : Ready (itemsIn count items′) items′ count starts′ (r .declarations)
+    ready-now = let w = ready e f g n in subst (λ (x : List Item). Ready x items′ count starts′ (r .declarations)) (sym (w .counted)) w
+
+    -- what is left then is what is left of the names' meanings
+    pub names-resolved : {q : TextReading} {after : Tables} → Leaves (byVerdict blank (byValue (programOf (itemsIn count items′)) (valued (programOf (itemsIn count items′))))) q after
+        → Leaves (byVerdict blank (byMeaning (meanings text is))) q after
+    names-resolved {q} {after} w =
+        let x = subst (λ (l : List Item). Leaves (byVerdict blank (byValue (programOf l) (valued (programOf l)))) q after) (ready e f g n .counted) w in
+        subst (λ (v : Verdict). Leaves (byVerdict blank v) q after) (sym (if-zero (meanings text is .number) (meanings text is .place) _ meant)) x

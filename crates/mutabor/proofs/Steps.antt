@@ -1,7 +1,7 @@
 -- The steps of reading a text: each step's result is a part of `reading`.
 -- Assumes nothing.
 use mathlib.Core.Path.{_≡_, refl, sym, _∙_, ap, subst}
-use mathlib.Core.Bool.{Bool, true, false, cond, _&&_}
+use mathlib.Core.Bool.{Bool, true, false, cond, not}
 use mathlib.Core.List.{List, [], _∷_}
 use Prim.Native.Nat.{ℕ, zero, suc, _+_, _*_, _≤_, _<_}
 use native.Mathlib.Omega.{arith}
@@ -20,6 +20,7 @@ use Rattle.filling.specs.Tables.{tablesOf}
 use Rattle.filling.specs.Inner.{blank}
 use Rattle.mutabor.specs.declared.TextReading.{TextReading}
 use Rattle.mutabor.specs.Reading.{Left, zeroed, byVerdict, reading, Leaves}
+use Rattle.mutabor.specs.Inner.{Cleared}
 use Rattle.mutabor.proofs.Parts.{same-tables}
 
 -- ---- tables that are cleared
@@ -54,18 +55,27 @@ refuses n p e f g = record { number = e; place = f; tables = g ∙ sym blank-zer
 
 -- ---- the tables' sizes, and then the text
 
-pub too-small : (text : List ℕ) (t : Tables) {now : Tables} {b : Bool} {r : TextReading} → now ≡ zeroed t → b ≡ fullSize now → b ≡ false
+not-true : (b : Bool) → not b ≡ true → b ≡ false
+not-true true h = sym h
+not-true false h = refl
+
+not-false : (b : Bool) → not b ≡ false → b ≡ true
+not-false true h = refl
+not-false false h = sym h
+
+pub too-small : (text : List ℕ) {t : Tables} {now : Tables} {b : Bool} {r : TextReading} → Cleared t now → b ≡ fullSize now → not b ≡ true
     → r .number ≡ textTooLong → r .place ≡ 0 → Leaves (reading text t) r now
 unfolding reading
-too-small text t e f g n p =
-    let s : fullSize t ≡ false = sym (ap fullSize e ∙ size-kept t) ∙ sym f ∙ g in
+too-small text {t} {b = b} w f g n p =
+    let e = w .zeros in
+    let s : fullSize t ≡ false = sym (ap fullSize e ∙ size-kept t) ∙ sym f ∙ not-true b g in
     rw s (record { number = n; place = p; tables = e })
 
-pub large-enough : (t : Tables) {now : Tables} {b : Bool} → now ≡ zeroed t → b ≡ fullSize now → b ≡ true → fullSize t ≡ true
-large-enough t e f g = sym (ap fullSize e ∙ size-kept t) ∙ sym f ∙ g
+pub large-enough : {t now : Tables} {b : Bool} → Cleared t now → b ≡ fullSize now → not b ≡ false → fullSize t ≡ true
+large-enough {t} {b = b} w f g = sym (ap fullSize (w .zeros) ∙ size-kept t) ∙ sym f ∙ not-false b g
 
-pub now-blank : (t : Tables) {now : Tables} → now ≡ zeroed t → fullSize t ≡ true → now ≡ blank
-now-blank t e h = e ∙ cleared-blank t h
+pub now-blank : {t now : Tables} → Cleared t now → fullSize t ≡ true → now ≡ blank
+now-blank {t} w h = w .zeros ∙ cleared-blank t h
 
 pub goes-on : (text : List ℕ) (t : Tables) {r : TextReading} {after : Tables} → fullSize t ≡ true → Leaves (byVerdict blank (readText text)) r after → Leaves (reading text t) r after
 unfolding reading
@@ -77,7 +87,7 @@ if-not-zero : (n p : ℕ) (v : Verdict) → (n ≡ 0 → ⊥) → ifZero n p v �
 if-not-zero zero p v h = absurd (h refl)
 if-not-zero (suc n) p v h = refl
 
-if-zero : (n p : ℕ) (v : Verdict) → n ≡ 0 → ifZero n p v ≡ v
+pub if-zero : (n p : ℕ) (v : Verdict) → n ≡ 0 → ifZero n p v ≡ v
 if-zero n p v h = rw h
 
 -- 2, 3, 4 and 9

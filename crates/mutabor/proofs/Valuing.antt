@@ -16,9 +16,11 @@ use Rattle.values.specs.declared.Value.{Value}
 use Rattle.values.specs.declared.Outcome.{Outcome}
 use Rattle.values.specs.declared.Outcome.the-variants.{Done, Circular, OutOfRange}
 use Rattle.tables.specs.Layout.{Tables}
-use Rattle.program.specs.Program.{Program}
+use Rattle.grammar.specs.declared.Item.{Item}
+use Rattle.program.specs.Program.{Program, programOf}
 use Rattle.program.specs.Meaning.{own, terms, exactly, valueOf, valued}
 use Rattle.program.specs.Text.{Verdict, placeOf, byValue}
+use Rattle.valuation.specs.Inner.{Ready}
 use Rattle.filling.specs.Tables.{tablesOf}
 use Rattle.filling.specs.Inner.{Valued, blank}
 use Rattle.mutabor.specs.declared.TextReading.{TextReading}
@@ -57,7 +59,14 @@ fault-within p n = go (firstFrom (circular (terms p) n) 0 n) refl (firstFrom (λ
     go Nothing e (At i) q = omega (arith, first-within (λ i. isBeyond (valueAt (own p) (terms p) n i)) 0 n i q)
     go Nothing e Nothing q = tt
 
-module _ (p : Program) {n : ℕ} {o : Outcome} {values : List ℤ} (e : n ≡ length p) (w : Resolved (own p) (terms p) n o values) where
+module _ {is : List Item} {items starts : List ℕ} {count n : ℕ} {o : Outcome} {values : List ℤ} (d : Ready is items count starts n)
+    (w : Resolved (own (programOf is)) (terms (programOf is)) n o values) where
+  abbrev p : Program
+  p = programOf is
+
+  e : n ≡ length p
+  e = d .number
+
   is-valued : valued p ≡ o
   unfolding valued
   is-valued = ap (outcome (own p) (terms p)) (sym e) ∙ sym (w .answer)
@@ -65,11 +74,11 @@ module _ (p : Program) {n : ℕ} {o : Outcome} {values : List ℤ} (e : n ≡ le
   found : at-fault o n
   found = subst (λ (x : Outcome). at-fault x n) (sym (w .answer)) (fault-within p n)
 
-  pub circular-within : {d : ℕ} → o ≡ Circular d → d < n
+  pub circular-within : {i : ℕ} → o ≡ Circular i → i < n
   unfolding at-fault
   circular-within h = subst (λ (x : Outcome). at-fault x n) h found
 
-  pub beyond-within : {d : ℕ} → o ≡ OutOfRange d → d < n
+  pub beyond-within : {i : ℕ} → o ≡ OutOfRange i → i < n
   unfolding at-fault
   beyond-within h = subst (λ (x : Outcome). at-fault x n) h found
 
@@ -83,16 +92,16 @@ module _ (p : Program) {n : ℕ} {o : Outcome} {values : List ℤ} (e : n ≡ le
 
   module _ {r : TextReading} {after : Tables} where
     -- 7
-    pub circular-refused : {d : ℕ} → o ≡ Circular d → r .number ≡ dependsOnItself → r .place ≡ placeOf p d → after ≡ blank
+    pub circular-refused : {i : ℕ} → o ≡ Circular i → r .number ≡ dependsOnItself → r .place ≡ placeOf p i → after ≡ blank
         → Leaves (byVerdict blank (byValue p (valued p))) r after
-    circular-refused {d} h q f g =
-        subst (λ (x : Outcome). Leaves (byVerdict blank (byValue p x)) r after) (sym (is-valued ∙ h)) (refuses dependsOnItself (placeOf p d) q f g)
+    circular-refused {i} h q f g =
+        subst (λ (x : Outcome). Leaves (byVerdict blank (byValue p x)) r after) (sym (is-valued ∙ h)) (refuses dependsOnItself (placeOf p i) q f g)
 
     -- 8
-    pub beyond-refused : {d : ℕ} → o ≡ OutOfRange d → r .number ≡ valueOutOfRange → r .place ≡ placeOf p d → after ≡ blank
+    pub beyond-refused : {i : ℕ} → o ≡ OutOfRange i → r .number ≡ valueOutOfRange → r .place ≡ placeOf p i → after ≡ blank
         → Leaves (byVerdict blank (byValue p (valued p))) r after
-    beyond-refused {d} h q f g =
-        subst (λ (x : Outcome). Leaves (byVerdict blank (byValue p x)) r after) (sym (is-valued ∙ h)) (refuses valueOutOfRange (placeOf p d) q f g)
+    beyond-refused {i} h q f g =
+        subst (λ (x : Outcome). Leaves (byVerdict blank (byValue p x)) r after) (sym (is-valued ∙ h)) (refuses valueOutOfRange (placeOf p i) q f g)
 
     -- done
     pub all-done : o ≡ Done → r .number ≡ 0 → r .place ≡ 0 → after ≡ tablesOf p → Leaves (byVerdict blank (byValue p (valued p))) r after

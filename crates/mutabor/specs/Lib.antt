@@ -1,2 +1,3 @@
 -- What a text leaves.
 pub mod Reading
+pub mod Inner

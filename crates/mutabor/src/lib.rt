@@ -1,17 +1,37 @@
 // The reader: a text becomes tables, or a number and a place, with every lent table zero.
+use filling::write_tables;
+use grammar::reading::read_items;
+use names::resolve_names;
+use status::DEPENDS_ON_ITSELF;
+use status::DONE;
+use status::TEXT_TOO_LONG;
+use status::VALUE_OUT_OF_RANGE;
+use tables::ROWS;
 use tables::clear::clear_bytes;
 use tables::clear::clear_calls;
 use tables::clear::clear_counts;
 use tables::clear::clear_numbers;
+use tables::has_full_size;
+use valuation::value_declarations;
+use values::Outcome;
 ghost use mathlib.Core.Path.{_≡_};
 ghost use mathlib.Core.List.{List};
 ghost use Prim.Native.Nat.{_<_};
+ghost use Rattle.status.specs.Status.{done};
 ghost use Rattle.grammar.specs.declared.Item.{Item};
-ghost use Rattle.names.specs.Inner.{itemsIn};
+ghost use Rattle.grammar.specs.Reading.{readItems};
+ghost use Rattle.names.specs.Names.{meanings};
+ghost use Rattle.names.specs.Inner.{itemsIn, Held};
 ghost use Rattle.program.specs.Program.{programOf};
-ghost use Rattle.program.specs.Text.{placeOf};
+ghost use Rattle.program.specs.Meaning.{valued};
+ghost use Rattle.program.specs.Text.{placeOf, byValue, byMeaning};
 ghost use Rattle.valuation.specs.Inner.{Ready};
-ghost use Rattle.mutabor.specs.Reading.{zeroed};
+ghost use Rattle.filling.specs.Inner.{blank};
+ghost use Rattle.mutabor.specs.Reading.{byVerdict, reading, Leaves};
+ghost use Rattle.mutabor.specs.Inner.{Cleared};
+
+// Room for an item at every byte of the longest text, three numbers each, of which the last is a name's place.
+const ITEM_SLOTS: usize = 98_304;
 
 const ITEM_SIZE: usize = 3;
 
@@ -33,7 +53,7 @@ fn clear_tables(
     calls: &mut [u16],
     counts: &mut [u32],
 )
-    ensures { λ _. ⌜ record { rows = now (rows .exit); sounding = now (sounding .exit); tones = now (tones .exit); kinds = now (kinds .exit); changes = now (changes .exit); letters = now (letters .exit); calls = now (calls .exit); counts = now (counts .exit) } ≡ zeroed (record { rows = now (rows .entry); sounding = now (sounding .entry); tones = now (tones .entry); kinds = now (kinds .entry); changes = now (changes .entry); letters = now (letters .entry); calls = now (calls .entry); counts = now (counts .entry) }) ⌝ }
+    ensures { λ _. ⌜ Cleared (record { rows = now (rows .entry); sounding = now (sounding .entry); tones = now (tones .entry); kinds = now (kinds .entry); changes = now (changes .entry); letters = now (letters .entry); calls = now (calls .entry); counts = now (counts .entry) }) (record { rows = now (rows .exit); sounding = now (sounding .exit); tones = now (tones .exit); kinds = now (kinds .exit); changes = now (changes .exit); letters = now (letters .exit); calls = now (calls .exit); counts = now (counts .exit) }) ⌝ }
 {
     clear_numbers(rows);
     clear_bytes(sounding);
@@ -55,4 +75,170 @@ fn place_of(items: &[u32], count: usize, starts: &[u32], n: usize, d: usize) -> 
 {
     let at = starts[d] as usize;
     items[ITEM_SIZE * at + ITEM_PLACE]
+}
+
+// Values the declarations and writes their tables, or refuses the text at the name of one (7, 8).
+fn take_declarations(
+    items: &[u32],
+    count: usize,
+    starts: &[u32],
+    n: usize,
+    rows: &mut [i32],
+    sounding: &mut [u8],
+    tones: &mut [i32],
+    kinds: &mut [u8],
+    changes: &mut [i32],
+    letters: &mut [u8],
+    calls: &mut [u16],
+    counts: &mut [u32],
+) -> TextReading
+    ghost { List Item }
+    requires { λ is. ⌜ itemsIn count (now items) ≡ is ⌝ }
+    requires { λ is. ⌜ Ready is (now items) count (now starts) n ⌝ }
+    requires { λ is. ⌜ record { rows = now rows; sounding = now sounding; tones = now tones; kinds = now kinds; changes = now changes; letters = now letters; calls = now calls; counts = now counts } ≡ blank ⌝ }
+    ensures { λ is r. ⌜ Leaves (byVerdict blank (byValue (programOf is) (valued (programOf is)))) r (record { rows = now (rows .exit); sounding = now (sounding .exit); tones = now (tones .exit); kinds = now (kinds .exit); changes = now (changes .exit); letters = now (letters .exit); calls = now (calls .exit); counts = now (counts .exit) }) ⌝ }
+{
+    let mut values = [0i64; ROWS];
+    let outcome = value_declarations(items, count, starts, n, &mut values);
+    match outcome {
+        Outcome::Circular(d) => TextReading {
+            number: DEPENDS_ON_ITSELF,
+            place: place_of(items, count, starts, n, d),
+        },
+        Outcome::OutOfRange(d) => TextReading {
+            number: VALUE_OUT_OF_RANGE,
+            place: place_of(items, count, starts, n, d),
+        },
+        Outcome::Done => {
+            write_tables(
+                items,
+                count,
+                starts,
+                n,
+                &values,
+                rows,
+                sounding,
+                tones,
+                kinds,
+                changes,
+                letters,
+                calls,
+                counts,
+            );
+            TextReading {
+                number: DONE,
+                place: 0,
+            }
+        }
+    }
+}
+
+// Resolves the names (5, 6), and goes on with the declarations.
+fn take_items(
+    text: &[u8],
+    items: &mut [u32],
+    count: usize,
+    rows: &mut [i32],
+    sounding: &mut [u8],
+    tones: &mut [i32],
+    kinds: &mut [u8],
+    changes: &mut [i32],
+    letters: &mut [u8],
+    calls: &mut [u16],
+    counts: &mut [u32],
+) -> TextReading
+    ghost { List Item }
+    requires { λ is. ⌜ itemsIn count (now items) ≡ is ⌝ }
+    requires { λ is. ⌜ Held is (now items) ⌝ }
+    requires { λ is. ⌜ (readItems (now text) .items ≡ is) × (readItems (now text) .number ≡ done) ⌝ }
+    requires { λ is. ⌜ record { rows = now rows; sounding = now sounding; tones = now tones; kinds = now kinds; changes = now changes; letters = now letters; calls = now calls; counts = now counts } ≡ blank ⌝ }
+    ensures { λ is r. ⌜ Leaves (byVerdict blank (byMeaning (meanings (now (text .entry)) is))) r (record { rows = now (rows .exit); sounding = now (sounding .exit); tones = now (tones .exit); kinds = now (kinds .exit); changes = now (changes .exit); letters = now (letters .exit); calls = now (calls .exit); counts = now (counts .exit) }) ⌝ }
+{
+    let mut declared = [0u32; ROWS];
+    let mut starts = [0u32; ROWS];
+    let named = resolve_names(text, items, count, &mut declared, &mut starts);
+    if named.number != DONE {
+        return TextReading {
+            number: named.number,
+            place: named.place,
+        };
+    }
+    let n = named.declarations;
+    take_declarations(
+        items,
+        count,
+        &starts,
+        n,
+        rows,
+        sounding,
+        tones,
+        kinds,
+        changes,
+        letters,
+        calls,
+        counts,
+    )
+}
+
+// Reads a text into the tables. Where it is refused, or a table is not of full size, every table is zero.
+pub fn read_text(
+    text: &[u8],
+    rows: &mut [i32],
+    sounding: &mut [u8],
+    tones: &mut [i32],
+    kinds: &mut [u8],
+    changes: &mut [i32],
+    letters: &mut [u8],
+    calls: &mut [u16],
+    counts: &mut [u32],
+) -> TextReading
+    ensures { λ r. ⌜ Leaves (reading (now (text .entry)) (record { rows = now (rows .entry); sounding = now (sounding .entry); tones = now (tones .entry); kinds = now (kinds .entry); changes = now (changes .entry); letters = now (letters .entry); calls = now (calls .entry); counts = now (counts .entry) })) r (record { rows = now (rows .exit); sounding = now (sounding .exit); tones = now (tones .exit); kinds = now (kinds .exit); changes = now (changes .exit); letters = now (letters .exit); calls = now (calls .exit); counts = now (counts .exit) }) ⌝ }
+{
+    clear_tables(
+        rows,
+        sounding,
+        tones,
+        kinds,
+        changes,
+        letters,
+        calls,
+        counts,
+    );
+    if !has_full_size(
+        rows,
+        sounding,
+        tones,
+        kinds,
+        changes,
+        letters,
+        calls,
+        counts,
+    ) {
+        return TextReading {
+            number: TEXT_TOO_LONG,
+            place: 0,
+        };
+    }
+    let mut items = [0u32; ITEM_SLOTS];
+    let read = read_items(text, &mut items);
+    if read.number != DONE {
+        return TextReading {
+            number: read.number,
+            place: read.place,
+        };
+    }
+    let count = read.count;
+    take_items(
+        text,
+        &mut items,
+        count,
+        rows,
+        sounding,
+        tones,
+        kinds,
+        changes,
+        letters,
+        calls,
+        counts,
+    )
 }

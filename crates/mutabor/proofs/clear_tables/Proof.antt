@@ -75,7 +75,7 @@ same-length-8 c = search needs
 
 -- src/lib.rt:15:1
 returns : tie.Need-returns
-returns c = same-tables (c .before .before .before .before .before .before .before .before .before .before .before .before .before .before .before .before .before .before .before .before .before .before .before .before .before .before .before .clear-numbers .ensures) (c .before .before .before .before .before .before .before .before .before .before .before .before .before .before .before .before .before .before .before .before .before .before .before .before .clear-bytes .ensures) (c .before .before .before .before .before .before .before .before .before .before .before .before .before .before .before .before .before .before .before .before .clear-numbers2 .ensures) (c .before .before .before .before .before .before .before .before .before .before .before .before .before .before .before .before .before .clear-bytes2 .ensures) (c .before .before .before .before .before .before .before .before .before .before .before .before .before .clear-numbers3 .ensures) (c .before .before .before .before .before .before .before .before .before .before .clear-bytes3 .ensures) (c .before .before .before .before .before .before .clear-calls .ensures) (c .before .before .clear-counts .ensures)
+returns c = record { zeros = same-tables (c .before .before .before .before .before .before .before .before .before .before .before .before .before .before .before .before .before .before .before .before .before .before .before .before .before .before .before .clear-numbers .ensures) (c .before .before .before .before .before .before .before .before .before .before .before .before .before .before .before .before .before .before .before .before .before .before .before .before .clear-bytes .ensures) (c .before .before .before .before .before .before .before .before .before .before .before .before .before .before .before .before .before .before .before .before .clear-numbers2 .ensures) (c .before .before .before .before .before .before .before .before .before .before .before .before .before .before .before .before .before .clear-bytes2 .ensures) (c .before .before .before .before .before .before .before .before .before .before .before .before .before .clear-numbers3 .ensures) (c .before .before .before .before .before .before .before .before .before .before .clear-bytes3 .ensures) (c .before .before .before .before .before .before .clear-calls .ensures) (c .before .before .clear-counts .ensures) }
 
 pub clear-tables-spec : {M : Type 1} → statement M
 clear-tables-spec =

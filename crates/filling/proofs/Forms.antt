@@ -1,0 +1,218 @@
+-- The row of a declaration by its first item. Assumes nothing.
+use mathlib.Core.Path.{_≡_, refl, sym, _∙_, ap, subst}
+use mathlib.Core.Bool.{true, false}
+use mathlib.Core.List.{List, [], _∷_}
+use mathlib.Core.Option.{Option, some, none}
+use Prim.Native.Nat.{ℕ, _+_, _≤_, _<_}
+use types.Run.{OneOf, miss}
+use lib.IntN.{ℤ}
+use lib.ListN.{length}
+use Rattle.grammar.specs.declared.Item.{Item}
+use Rattle.grammar.specs.declared.Item.the-variants as item
+use Rattle.grammar.specs.Items.{itemAt}
+use Rattle.names.specs.Parts as parts
+use Rattle.names.specs.Parts.{Part, declares, gives, uses, says, part}
+use Rattle.values.specs.Values.{Term}
+use Rattle.tables.specs.Layout.{soundingOf, pitchOf, changeCode, changeNumber}
+use Rattle.tables.specs.declared.Counts.{Counts}
+use Rattle.tables.specs.declared.Row.{Row}
+use Rattle.tables.specs.declared.Row.the-variants as row
+use Rattle.program.specs.Program.{Declaration, declarationOf, periodBy, periodOf, termThen, freshPeriod, onwardPeriod, termsOf, system, tones, logic, Position, Order, grouped}
+use Rattle.valuation.specs.Inner.{between}
+use Rattle.filling.specs.Tables.{tonesOf, changesOf, startCode, rowOf}
+use Rattle.filling.specs.Inner.{valueIn, letterOf, callOf, calledBy, begins, Summable, FitParts, Stored, rowAfter, plainRow, Lists, listed, Rowed}
+use Rattle.filling.proofs.Inside.{tag, Inside, add, subtract, muted, kept, tone, start, order, outside, inside, no-begin, impossible}
+use Rattle.valuation.proofs.Between.{between-none}
+use Rattle.filling.proofs.Items.{item-next}
+
+-- what the items after the first do not matter for
+pub record Plain (values : List ℤ) (used : Counts) (i : Item) (rest : List Item) : Type 0 where
+  pub row : rowAfter (valueIn values) used (declarationOf (i ∷ rest)) ≡ plainRow (valueIn values (used .rows)) (declarationOf (i ∷ []))
+  pub lists : (l : Lists) → listed (valueIn values) used (declarationOf (i ∷ rest)) l ≡ l
+  pub fit : FitParts values (declarationOf (i ∷ rest)) → FitParts values (declarationOf (i ∷ []))
+
+-- ---- a first item that is not one of some variants
+
+-- no tone, no anchor and no width: the row is an interval's
+abbrev pub intervals : List ℕ
+intervals = 0 ∷ 1 ∷ 2 ∷ 3 ∷ 4 ∷ 7 ∷ 8 ∷ 9 ∷ 10 ∷ 21 ∷ 22 ∷ 23 ∷ 24 ∷ 25 ∷ []
+
+pub as-interval : (z : ℤ) (i : Item) → OneOf intervals (tag i) → row.Interval (record { 0 = z }) ≡ plainRow z (declarationOf (i ∷ []))
+as-interval z (item.Declared a b) h = refl
+as-interval z (item.Ratio a b) h = refl
+as-interval z (item.Root a b) h = refl
+as-interval z (item.Add a b) h = refl
+as-interval z (item.Subtract a b) h = refl
+as-interval z (item.Frequency a) h = absurd (miss intervals 5 tt h)
+as-interval z (item.Base a) h = absurd (miss intervals 6 tt h)
+as-interval z (item.AnchorKey a) h = refl
+as-interval z item.MutedPosition h = refl
+as-interval z item.KeptPosition h = refl
+as-interval z (item.TonePosition a) h = refl
+as-interval z item.AnchorKept h = absurd (miss intervals 11 tt h)
+as-interval z (item.AnchorTo a) h = absurd (miss intervals 12 tt h)
+as-interval z (item.AnchorUp a) h = absurd (miss intervals 13 tt h)
+as-interval z (item.AnchorDown a) h = absurd (miss intervals 14 tt h)
+as-interval z item.WidthKept h = absurd (miss intervals 15 tt h)
+as-interval z (item.WidthTo a) h = absurd (miss intervals 16 tt h)
+as-interval z (item.WidthUp a) h = absurd (miss intervals 17 tt h)
+as-interval z (item.WidthDown a) h = absurd (miss intervals 18 tt h)
+as-interval z (item.WidthTimes a) h = absurd (miss intervals 19 tt h)
+as-interval z (item.WidthOver a) h = absurd (miss intervals 20 tt h)
+as-interval z item.Period h = refl
+as-interval z item.Onward h = refl
+as-interval z (item.Letter a) h = refl
+as-interval z (item.Start a) h = refl
+as-interval z (item.Order a b) h = refl
+
+-- `[ ]` and no `@`: the period is a new one
+abbrev pub noOnward : List ℕ
+noOnward = 0 ∷ 1 ∷ 2 ∷ 3 ∷ 4 ∷ 5 ∷ 6 ∷ 7 ∷ 8 ∷ 9 ∷ 10 ∷ 11 ∷ 12 ∷ 13 ∷ 14 ∷ 15 ∷ 16 ∷ 17 ∷ 18 ∷ 19 ∷ 20 ∷ 21 ∷ 23 ∷ 24 ∷ 25 ∷ []
+
+pub as-fresh : (i : Item) → OneOf noOnward (tag i) → (rest : List Item) → periodOf (i ∷ rest) ≡ freshPeriod (termsOf (i ∷ rest))
+as-fresh (item.Declared a b) h rest = refl
+as-fresh (item.Ratio a b) h rest = refl
+as-fresh (item.Root a b) h rest = refl
+as-fresh (item.Add a b) h rest = refl
+as-fresh (item.Subtract a b) h rest = refl
+as-fresh (item.Frequency a) h rest = refl
+as-fresh (item.Base a) h rest = refl
+as-fresh (item.AnchorKey a) h rest = refl
+as-fresh item.MutedPosition h rest = refl
+as-fresh item.KeptPosition h rest = refl
+as-fresh (item.TonePosition a) h rest = refl
+as-fresh item.AnchorKept h rest = refl
+as-fresh (item.AnchorTo a) h rest = refl
+as-fresh (item.AnchorUp a) h rest = refl
+as-fresh (item.AnchorDown a) h rest = refl
+as-fresh item.WidthKept h rest = refl
+as-fresh (item.WidthTo a) h rest = refl
+as-fresh (item.WidthUp a) h rest = refl
+as-fresh (item.WidthDown a) h rest = refl
+as-fresh (item.WidthTimes a) h rest = refl
+as-fresh (item.WidthOver a) h rest = refl
+as-fresh item.Period h rest = refl
+as-fresh item.Onward h rest = absurd (miss noOnward 22 tt h)
+as-fresh (item.Letter a) h rest = refl
+as-fresh (item.Start a) h rest = refl
+as-fresh (item.Order a b) h rest = refl
+
+-- no list and no sum
+abbrev pub plains : List ℕ
+plains = 0 ∷ 1 ∷ 2 ∷ 3 ∷ 4 ∷ 5 ∷ 6 ∷ 8 ∷ 9 ∷ 10 ∷ 11 ∷ 12 ∷ 13 ∷ 14 ∷ 15 ∷ 16 ∷ 17 ∷ 18 ∷ 19 ∷ 20 ∷ 24 ∷ 25 ∷ []
+
+pub as-plain : (values : List ℤ) (used : Counts) (i : Item) → OneOf plains (tag i) → begins (part i) ≡ false → (rest : List Item) → Plain values used i rest
+as-plain values used (item.Declared a b) h e rest = record { row = refl; lists = λ l. refl; fit = λ f. f }
+as-plain values used (item.Ratio a b) h e rest = record { row = refl; lists = λ l. refl; fit = λ f. f }
+as-plain values used (item.Root a b) h e rest = record { row = refl; lists = λ l. refl; fit = λ f. f }
+as-plain values used (item.Add a b) h e rest = record { row = refl; lists = λ l. refl; fit = λ f. f }
+as-plain values used (item.Subtract a b) h e rest = record { row = refl; lists = λ l. refl; fit = λ f. f }
+as-plain values used (item.Frequency a) h e rest = record { row = refl; lists = λ l. refl; fit = λ f. f }
+as-plain values used (item.Base a) h e rest = record { row = refl; lists = λ l. refl; fit = λ f. f }
+as-plain values used (item.AnchorKey a) h e rest = absurd (miss plains 7 tt h)
+as-plain values used item.MutedPosition h e rest = impossible e
+as-plain values used item.KeptPosition h e rest = impossible e
+as-plain values used (item.TonePosition a) h e rest = impossible e
+as-plain values used item.AnchorKept h e rest = record { row = refl; lists = λ l. refl; fit = λ f. f }
+as-plain values used (item.AnchorTo a) h e rest = record { row = refl; lists = λ l. refl; fit = λ f. f }
+as-plain values used (item.AnchorUp a) h e rest = record { row = refl; lists = λ l. refl; fit = λ f. f }
+as-plain values used (item.AnchorDown a) h e rest = record { row = refl; lists = λ l. refl; fit = λ f. f }
+as-plain values used item.WidthKept h e rest = record { row = refl; lists = λ l. refl; fit = λ f. f }
+as-plain values used (item.WidthTo a) h e rest = record { row = refl; lists = λ l. refl; fit = λ f. f }
+as-plain values used (item.WidthUp a) h e rest = record { row = refl; lists = λ l. refl; fit = λ f. f }
+as-plain values used (item.WidthDown a) h e rest = record { row = refl; lists = λ l. refl; fit = λ f. f }
+as-plain values used (item.WidthTimes a) h e rest = record { row = refl; lists = λ l. refl; fit = λ f. f }
+as-plain values used (item.WidthOver a) h e rest = record { row = refl; lists = λ l. refl; fit = λ f. f }
+as-plain values used item.Period h e rest = absurd (miss plains 21 tt h)
+as-plain values used item.Onward h e rest = absurd (miss plains 22 tt h)
+as-plain values used (item.Letter a) h e rest = absurd (miss plains 23 tt h)
+as-plain values used (item.Start a) h e rest = record { row = refl; lists = λ l. refl; fit = λ f. f }
+as-plain values used (item.Order a b) h e rest = record { row = refl; lists = λ l. refl; fit = λ f. f }
+
+-- ---- positions
+
+pub as-tones : {i : Item} → Inside i → begins (part i) ≡ true → (rest : List Item) → declarationOf (i ∷ rest) ≡ tones (grouped (i ∷ rest) .positions)
+as-tones add e rest = impossible (sym e)
+as-tones subtract e rest = impossible (sym e)
+as-tones muted e rest = refl
+as-tones kept e rest = refl
+as-tones tone e rest = refl
+as-tones start e rest = impossible (sym e)
+as-tones order e rest = impossible (sym e)
+as-tones (outside o) e rest = impossible (sym e ∙ no-begin o)
+
+-- ---- periods: a new one, or onto the old one, by the first item after `[ ]`
+
+pub data PeriodForm (is : List Item) : Type 0 where
+  fresh : periodOf is ≡ freshPeriod (termsOf is) → PeriodForm is
+  onto : periodOf is ≡ onwardPeriod (termsOf is) → PeriodForm is
+
+pub period-form : (is : List Item) → PeriodForm is
+unfolding termsOf
+period-form [] = fresh refl
+period-form (i ∷ rest) = go (part i) refl
+  where
+    by : {q : Part} → part i ≡ q → periodOf (i ∷ rest) ≡ periodBy q (i ∷ rest) rest
+    by e = ap (λ (q : Part). periodBy q (i ∷ rest) rest) e
+
+    go : (q : Part) → part i ≡ q → PeriodForm (i ∷ rest)
+    go (declares k p) e = fresh (by e)
+    go (gives g a b) e = fresh (by e)
+    go (uses u a b) e = fresh (by e)
+    go (says parts.muted) e = fresh (by e)
+    go (says parts.kept) e = fresh (by e)
+    go (says parts.anchorKept) e = fresh (by e)
+    go (says parts.widthKept) e = fresh (by e)
+    go (says parts.period) e = fresh (by e)
+    go (says parts.onward) e = onto (by e ∙ ap (λ (q : Part). onwardPeriod (termThen q (termsOf rest))) (sym e))
+
+pub period-fit : (values : List ℤ) {is : List Item} → PeriodForm is → FitParts values (periodOf is) → Summable values (termsOf is)
+period-fit values (fresh e) h = rw e at h
+period-fit values (onto e) h = rw e at h
+
+module _ (l : List ℕ) (i to : ℕ) where
+  pub period-none : to ≤ i → periodOf (between l i to) ≡ freshPeriod (termsOf (between l i to))
+  unfolding termsOf
+  period-none h = rw (between-none l i to h)
+
+  module _ {x : Item} (e : x ≡ itemAt l i) (k : i < to) where
+    pub period-fresh : OneOf noOnward (tag x) → periodOf (between l i to) ≡ freshPeriod (termsOf (between l i to))
+    period-fresh h = rw (item-next l i to e k) (as-fresh x h (between l (i + 1) to))
+
+    pub period-onward : x ≡ item.Onward → periodOf (between l i to) ≡ onwardPeriod (termsOf (between l i to))
+    unfolding termsOf
+    period-onward h = rw (item-next l i to e k, h)
+
+-- ---- the row with what belongs to it, stored in two of the tables
+
+-- no value matters for a start
+pub start-any : (value : ℕ → ℤ) (s : Option ℕ) → calledBy s ≡ startCode value s
+start-any value none = refl
+start-any value (some k) = refl
+
+module _ {value : ℕ → ℤ} {used : Counts} {r : Row} {l : Lists} where
+  -- what is shown of a declaration holds of an equal one
+  pub rowed-as : {d e : Declaration} {after : Lists} → d ≡ e → Rowed value used e l r after → Rowed value used d l r after
+  rowed-as {after} q h = subst (λ (d : Declaration). Rowed value used d l r after) (sym q) h
+
+  pub system-rowed : {a : ℕ} {ps : List (Option ℕ)} {ts : List Term} {s : List ℕ} {t : List ℤ} → r ≡ rowAfter value used (system a ps ts)
+      → Stored soundingOf pitchOf (tonesOf value (system a ps ts)) (used .tones) (l .sounding) (l .tones) s t
+      → Rowed value used (system a ps ts) l r (record { sounding = s; tones = t; kinds = l .kinds; changes = l .changes; letters = l .letters; calls = l .calls })
+  system-rowed e h = record { row = e; lists = rw (h .first, h .second) }
+
+  pub tones-rowed : {ps : List Position} {k : List ℕ} {c : List ℤ} → r ≡ rowAfter value used (tones ps)
+      → Stored changeCode changeNumber (changesOf value (tones ps)) (used .changes) (l .kinds) (l .changes) k c
+      → Rowed value used (tones ps) l r (record { sounding = l .sounding; tones = l .tones; kinds = k; changes = c; letters = l .letters; calls = l .calls })
+  tones-rowed e h = record { row = e; lists = rw (h .first, h .second) }
+
+  pub logic-rowed : {c : ℕ} {s : Option ℕ} {os : List Order} {x y : List ℕ} → r ≡ row.Logic c (calledBy s) (used .orders) (used .orders + length os)
+      → Stored letterOf callOf os (used .orders) (l .letters) (l .calls) x y
+      → Rowed value used (logic c s os) l r (record { sounding = l .sounding; tones = l .tones; kinds = l .kinds; changes = l .changes; letters = x; calls = y })
+  logic-rowed {c} {s} {os} e h = record {
+    row = e ∙ ap (λ (n : ℕ). row.Logic c n (used .orders) (used .orders + length os)) (start-any value s);
+    lists = rw (h .first, h .second);
+  }
+
+  pub period-rowed : {is : List Item} → PeriodForm is → r ≡ rowOf value 0 0 0 0 (periodOf is) → Rowed value used (periodOf is) l r l
+  period-rowed (fresh q) e = record { row = e ∙ rw q; lists = rw q }
+  period-rowed (onto q) e = record { row = e ∙ rw q; lists = rw q }

@@ -1,0 +1,110 @@
+-- Laws of the lists that the items from one place to another of a slice give, item by item. Assumes nothing.
+use mathlib.Core.Path.{_≡_, refl, sym, _∙_, ap}
+use mathlib.Core.List.{List, [], _∷_, _++_}
+use mathlib.Core.Option.{Option, none}
+use Prim.Native.Nat.{ℕ, _+_, _≤_, _<_}
+use Rattle.grammar.specs.declared.Item.{Item}
+use Rattle.grammar.specs.Items.{itemAt}
+use Rattle.names.specs.Parts.{part}
+use Rattle.values.specs.Values.{Term}
+use Rattle.program.specs.Program.{Position, Order, Grouped, termThen, termsOf, placeThen, placesOf, groupThen, grouped, orderThen, ordersOf, startThen, startOf}
+use Rattle.valuation.specs.Inner.{between}
+use Rattle.filling.specs.Inner.{positionBy}
+use Rattle.valuation.proofs.Between.{between-none, between-here}
+use Rattle.filling.proofs.Inside.{Inside, add, subtract, muted, kept, tone, start, order, outside, inside}
+
+-- ---- what the first item gives, and what those after it give
+
+term-first : {i : Item} → Inside i → (ts : List Term) → termThen (part i) ts ≡ termThen (part i) [] ++ ts
+term-first add ts = refl
+term-first subtract ts = refl
+term-first muted ts = refl
+term-first kept ts = refl
+term-first tone ts = refl
+term-first start ts = refl
+term-first order ts = refl
+term-first (outside o) ts = o .term ts ∙ ap (λ (us : List Term). us ++ ts) (sym (o .term []))
+
+place-first : {i : Item} → Inside i → (l : List (Option ℕ)) → placeThen (part i) l ≡ placeThen (part i) [] ++ l
+place-first add l = refl
+place-first subtract l = refl
+place-first muted l = refl
+place-first kept l = refl
+place-first tone l = refl
+place-first start l = refl
+place-first order l = refl
+place-first (outside o) l = o .place l ∙ ap (λ (m : List (Option ℕ)). m ++ l) (sym (o .place []))
+
+order-first : {i : Item} → Inside i → (l : List Order) → orderThen (part i) l ≡ orderThen (part i) [] ++ l
+order-first add l = refl
+order-first subtract l = refl
+order-first muted l = refl
+order-first kept l = refl
+order-first tone l = refl
+order-first start l = refl
+order-first order l = refl
+order-first (outside o) l = o .order l ∙ ap (λ (m : List Order). m ++ l) (sym (o .order []))
+
+position-first : {i : Item} → Inside i → (g : Grouped) → groupThen (part i) g .positions ≡ positionBy (part i) (g .before) ++ g .positions
+position-first add g = refl
+position-first subtract g = refl
+position-first muted g = refl
+position-first kept g = refl
+position-first tone g = refl
+position-first start g = refl
+position-first order g = refl
+position-first (outside o) g =
+    ap (λ (h : Grouped). h .positions) (o .group g)
+    ∙ ap (λ (h : Grouped). h .positions ++ g .positions) (sym (o .group (record { before = g .before; positions = [] })))
+
+-- ---- the same from one place of a slice to another
+
+module _ (l : List ℕ) (i to : ℕ) where
+  module _ (k : to ≤ i) where
+    pub terms-end : termsOf (between l i to) ≡ []
+    unfolding termsOf
+    terms-end = ap termsOf (between-none l i to k)
+
+    pub places-end : placesOf (between l i to) ≡ []
+    unfolding placesOf
+    places-end = ap placesOf (between-none l i to k)
+
+    pub orders-end : ordersOf (between l i to) ≡ []
+    unfolding ordersOf
+    orders-end = ap ordersOf (between-none l i to k)
+
+    pub groups-end : grouped (between l i to) ≡ record { before = []; positions = [] }
+    unfolding grouped
+    groups-end = ap grouped (between-none l i to k)
+
+    pub start-end : startOf (between l i to) ≡ none
+    unfolding startOf
+    start-end = ap startOf (between-none l i to k)
+
+  module _ {x : Item} (e : x ≡ itemAt l i) (k : i < to) where
+    pub item-next : between l i to ≡ x ∷ between l (i + 1) to
+    item-next = rw e (between-here l i to k)
+
+    pub terms-next : termsOf (between l i to) ≡ termThen (part x) [] ++ termsOf (between l (i + 1) to)
+    unfolding termsOf
+    terms-next = ap termsOf item-next ∙ term-first (inside x) (termsOf (between l (i + 1) to))
+
+    pub places-next : placesOf (between l i to) ≡ placeThen (part x) [] ++ placesOf (between l (i + 1) to)
+    unfolding placesOf
+    places-next = ap placesOf item-next ∙ place-first (inside x) (placesOf (between l (i + 1) to))
+
+    pub orders-next : ordersOf (between l i to) ≡ orderThen (part x) [] ++ ordersOf (between l (i + 1) to)
+    unfolding ordersOf
+    orders-next = ap ordersOf item-next ∙ order-first (inside x) (ordersOf (between l (i + 1) to))
+
+    pub groups-next : grouped (between l i to) ≡ groupThen (part x) (grouped (between l (i + 1) to))
+    unfolding grouped
+    groups-next = ap grouped item-next
+
+    pub positions-next : grouped (between l i to) .positions
+        ≡ positionBy (part x) (grouped (between l (i + 1) to) .before) ++ grouped (between l (i + 1) to) .positions
+    positions-next = ap (λ (g : Grouped). g .positions) groups-next ∙ position-first (inside x) (grouped (between l (i + 1) to))
+
+    pub start-next : startOf (between l i to) ≡ startThen (part x) (startOf (between l (i + 1) to))
+    unfolding startOf
+    start-next = ap startOf item-next

@@ -1,0 +1,83 @@
+-- The tables of a text whose items are ready and whose values are known, declaration by declaration. Assumes nothing.
+use mathlib.Core.Path.{_≡_, refl, sym, _∙_, ap, subst}
+use mathlib.Core.List.{List, [], _∷_}
+use Prim.Native.Nat.{ℕ, suc, _+_, _≤_, _<_}
+use native.Mathlib.Omega.{arith}
+use lib.IntN.{ℤ}
+use lib.ListN.{length, getD, take}
+use Rattle.grammar.specs.declared.Item.{Item}
+use Rattle.tables.specs.declared.Counts.{Counts}
+use Rattle.tables.specs.Layout.{Tables}
+use Rattle.program.specs.Program.{Declaration, Program, declarationOf, programOf}
+use Rattle.program.specs.Meaning.{declarationAt, valueOf}
+use Rattle.valuation.specs.Inner.{Ready, between}
+use Rattle.valuation.proofs.Ready.{ready-few, ready-fits, ready-body}
+use Rattle.filling.specs.Tables.{filledFrom, laidOut, tablesOf}
+use Rattle.filling.specs.Inner.{Valued, blank, valueIn, FitValue, Writable, Lists, Added}
+use Rattle.filling.proofs.Fitting.{value-fit, fit-parts, filled-same}
+use Rattle.filling.proofs.Totals.{Within, filled-within}
+use Rattle.filling.proofs.Filling.{Filling, filling-none, filling-all, filling-sized, filling-next, Sized, room-rows, room-tones, room-changes, room-orders}
+
+-- the tables of tones, changes and orders among all
+abbrev pub listsOf : Tables → Lists
+listsOf t = record { sounding = t .sounding; tones = t .tones; kinds = t .kinds; changes = t .changes; letters = t .letters; calls = t .calls }
+
+-- nothing is written yet
+pub written-none : (value : ℕ → ℤ) (p : Program) {t : Tables} → t ≡ blank → Filling value p 0 (record { rows = 0; tones = 0; changes = 0; orders = 0 }) (t .rows) (listsOf t)
+written-none value p e =
+    subst (λ (t : Tables). Filling value p 0 (record { rows = 0; tones = 0; changes = 0; orders = 0 }) (t .rows) (listsOf t)) (sym e) (filling-none value p)
+
+module _ {is : List Item} {items : List ℕ} {count : ℕ} {starts : List ℕ} {n : ℕ} {values : List ℤ}
+    (r : Ready is items count starts n) (v : Valued (programOf is) values) where
+  within : Within (filledFrom (valueIn values) 0 0 0 0 (programOf is))
+  within = filled-within (valueIn values) (r .allowed)
+
+  module _ {d : ℕ} {used : Counts} {rows : List ℤ} {lists : Lists} (h : Filling (valueIn values) (programOf is) d used rows lists) where
+    pub written-sized : Sized rows lists
+    written-sized = filling-sized h within
+
+    pub written-all : n ≤ d → {counts : List ℕ} → counts ≡ used .rows ∷ used .tones ∷ used .changes ∷ used .orders ∷ []
+        → _≡_ {A = Tables}
+        (record {
+          rows = rows;
+          sounding = lists .sounding;
+          tones = lists .tones;
+          kinds = lists .kinds;
+          changes = lists .changes;
+          letters = lists .letters;
+          calls = lists .calls;
+          counts = counts;
+        })
+        (tablesOf (programOf is))
+    unfolding tablesOf
+    written-all k {counts} e =
+        let p = programOf is in
+        rw e
+        (filling-all h (omega (arith, r .number))
+        ∙ ap laidOut (filled-same p (valueIn values) (valueOf p) (v .exact) 0 0 0 0 p (omega arith) (r .allowed .each)))
+
+    -- the next declaration, as the code finds its items
+    module _ (k : d < n) {to : ℕ} (e : to ≡ getD (take n starts) (suc d) count) where
+      inside : d < length (programOf is)
+      inside = rw (r .number) at k
+
+      body : declarationOf (between items (getD starts d 0 + 1) to) ≡ declarationAt (programOf is) d
+      body = ready-body r d k e
+
+      pub written-fits : Writable values used (declarationOf (between items (getD starts d 0 + 1) to))
+      written-fits =
+          subst (λ (c : Declaration). Writable values used c) (sym body)
+          (record {
+            rows = room-rows h within inside;
+            value = subst (λ (i : ℕ). FitValue values i) (sym (h .place)) (value-fit v (ready-few r) inside);
+            parts = fit-parts v (ready-few r) (declarationAt (programOf is) d) (ready-fits r d k);
+            tones = room-tones h within inside;
+            changes = room-changes h within inside;
+            orders = room-orders h within inside;
+          })
+
+      pub written-next : {used′ : Counts} {rows′ : List ℤ} {lists′ : Lists}
+          → Added (valueIn values) used (declarationOf (between items (getD starts d 0 + 1) to)) rows lists used′ rows′ lists′
+          → Filling (valueIn values) (programOf is) (d + 1) used′ rows′ lists′
+      written-next {used′} {rows′} {lists′} a =
+          filling-next h within inside (subst (λ (c : Declaration). Added (valueIn values) used c rows lists used′ rows′ lists′) body a)

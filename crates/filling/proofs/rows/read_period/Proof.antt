@@ -1,0 +1,85 @@
+-- The sum is capped once; the first item tells whether the period is a new one.
+use mathlib.Core.Path.{_≡_, sym, _∙_, ap}
+use borrow.Author.Needs.{needs}
+use lib.IntN.{ℤ}
+use mir.Facts.{toZ-ofZ}
+use mir.Syntax.{w32, w64}
+use mir.Val.{SFits, toZ, ofZ}
+use Rattle.tuning.specs.declared.PeriodChange.the-variants.{Fresh, Onward}
+use Rattle.tuning.specs.declared.Retuning.the-variants.{Period}
+use Rattle.tables.specs.declared.Row.the-variants.{Retuning}
+use Rattle.program.specs.Program.{Declaration, termsOf}
+use Rattle.valuation.specs.Inner.{between}
+use Rattle.filling.specs.Tables.{sum, capped, rowOf}
+use Rattle.filling.specs.Inner.{valueIn}
+use Rattle.filling.proofs.Forms.{period-form, period-fit, period-none, period-fresh, period-onward}
+use Rattle.filling.proofs.rows.read_period.Statement.{statement}
+use Rattle.filling.proofs.rows.read_period.Tie as tie
+
+sum-terms-requires : tie.Need-sum-terms-requires
+sum-terms-requires c κs = period-fit _ (period-form _) (c .before .pre)
+
+cap-requires : tie.Need-cap-requires
+cap-requires c κs = search needs
+
+-- the sum as the row has it
+summed : (c : tie.After-cap) → let args = c .before .before .before .args in
+    toZ w32 (ofZ w32 (c .cap .result)) ≡ sum (valueIn (args .values .now)) (termsOf (between (args .items .now) (args .from) (args .to)))
+summed c =
+    let f : SFits w32 (c .cap .result) = search needs in
+    let g : SFits w64 (c .before .sum-terms .result) = search needs in
+    toZ-ofZ f ∙ c .cap .ensures ∙ ap capped (toZ-ofZ g ∙ c .before .sum-terms .ensures)
+
+make-period-requires : tie.Need-make-period-requires
+make-period-requires c κs = search needs
+
+returns : tie.Need-returns
+returns c =
+    let start = c .before .before .before .before .before in
+    c .make-period .ensures
+    ∙ ap (λ (z : ℤ). Retuning (Period (Fresh (record { 0 = z }))) 0 0) (summed (c .before .before))
+    ∙ ap (λ (d : Declaration). rowOf (valueIn (start .args .values .now)) 0 0 0 0 d) (sym (period-none _ _ _ (c .before .if1 .taken)))
+
+item-at-requires : tie.Need-item-at-requires
+item-at-requires c κs = search needs
+
+enum-told : tie.Need-enum-told
+enum-told c = search needs
+
+make-period-requires-2 : tie.Need-make-period-requires-2
+make-period-requires-2 c κs = search needs
+
+returns-2 : tie.Need-returns-2
+returns-2 c =
+    let tested = c .before .before .before in
+    let start = tested .before .before .before .before in
+    c .make-period2 .ensures
+    ∙ ap (λ (z : ℤ). Retuning (Period (Fresh (record { 0 = z }))) 0 0) (summed (c .before .before .before .before))
+    ∙ ap (λ (d : Declaration). rowOf (valueIn (start .args .values .now)) 0 0 0 0 d) (sym (period-fresh _ _ _ (c .before .before .item-at .ensures) (tested .if1 .left) (c .before .match .keys2)))
+
+make-period-requires-3 : tie.Need-make-period-requires-3
+make-period-requires-3 c κs = search needs
+
+returns-3 : tie.Need-returns-3
+returns-3 c =
+    let read = c .before .before .before in
+    let tested = read .before in
+    let start = tested .before .before .before .before in
+    c .make-period3 .ensures
+    ∙ ap (λ (z : ℤ). Retuning (Period (Onward (record { 0 = z }))) 0 0) (summed (c .before .before .before .before .before))
+    ∙ ap (λ (d : Declaration). rowOf (valueIn (start .args .values .now)) 0 0 0 0 d) (sym (period-onward _ _ _ (read .item-at .ensures) (tested .if1 .left) (c .before .enum-told .given .1)))
+
+pub read-period-spec : {M : Type 1} → statement M
+read-period-spec =
+    tie.close
+    (tie.spec
+    sum-terms-requires
+    cap-requires
+    make-period-requires
+    returns
+    item-at-requires
+    enum-told
+    make-period-requires-2
+    returns-2
+    make-period-requires-3
+    returns-3)

@@ -1,0 +1,206 @@
+-- By the first item: each arm writes what its declaration has.
+use mathlib.Core.Path.{_≡_, refl, sym, _∙_, ap, subst}
+use mathlib.Core.Bool.{true, false}
+use mathlib.Core.List.{List, [], _∷_}
+use Prim.Native.Nat.{ℕ, _+_}
+use native.Mathlib.Omega.{arith}
+use borrow.Author.Needs.{needs}
+use lib.IntN.{ℤ}
+use mir.Facts.{toZ-ofZ}
+use mir.Syntax.{w32}
+use mir.Val.{SFits}
+use Rattle.grammar.specs.declared.Item.{Item}
+use Rattle.grammar.specs.declared.Item.the-variants as item
+use Rattle.names.specs.Parts.{part}
+use Rattle.tables.specs.declared.Counts.{Counts}
+use Rattle.tables.specs.declared.Row.{Row}
+use Rattle.tables.specs.declared.Row.the-variants.{Interval, Logic}
+use Rattle.program.specs.Program.{Declaration, declarationOf, periodOf, tones, grouped, startOf, ordersOf, placesOf, termsOf, sequence}
+use Rattle.valuation.specs.Inner.{between}
+use Rattle.filling.specs.Inner.{valueIn, begins, FitParts, Writable, Lists, Rowed}
+use Rattle.filling.proofs.Inside.{inside}
+use Rattle.valuation.proofs.Between.{between-none}
+use Rattle.filling.proofs.Items.{item-next}
+use Rattle.filling.proofs.Forms.{Plain, as-plain, as-tones, period-form, rowed-as, system-rowed, tones-rowed, logic-rowed, period-rowed}
+use Rattle.filling.proofs.rows.write_lists.Statement.{statement}
+use Rattle.filling.proofs.rows.write_lists.Tie as tie
+
+cast-row : tie.Need-cast-row
+cast-row c = search needs
+
+read-value-requires : tie.Need-read-value-requires
+read-value-requires c κs = search needs
+
+returns : tie.Need-returns
+returns c =
+    let f : SFits w32 (c .read-value .result) = search needs in
+    rowed-as (ap declarationOf (between-none _ _ _ (c .before .if1 .taken))) (record { row = ap (λ (z : ℤ). Interval (record { 0 = z })) (toZ-ofZ f ∙ c .read-value .ensures); lists = refl })
+
+item-at-requires : tie.Need-item-at-requires
+item-at-requires c κs = search needs
+
+is-position-requires : tie.Need-is-position-requires
+is-position-requires c κs = search needs
+
+-- the declaration by its first item
+module _ (c : tie.After-item-at) where
+  first : {x : Item} → c .item-at .result ≡ x → let args = c .before .before .before .before .before .before .before .before .args in
+      declarationOf (between (args .items .now) (args .from) (args .to)) ≡ declarationOf (x ∷ between (args .items .now) (args .from + 1) (args .to))
+  first e = ap declarationOf (item-next _ _ _ (sym e ∙ c .item-at .ensures) (c .before .if1 .left))
+
+  onward : c .item-at .result ≡ item.Onward → let args = c .before .before .before .before .before .before .before .before .args in
+      declarationOf (between (args .items .now) (args .from) (args .to)) ≡ periodOf (between (args .items .now) (args .from) (args .to))
+  onward e = first e ∙ ap periodOf (sym (item-next _ _ _ (sym e ∙ c .item-at .ensures) (c .before .if1 .left)))
+
+module _ (c : tie.After-is-position) where
+  positions : begins (part (c .before .item-at .result)) ≡ true → let args = c .before .before .before .before .before .before .before .before .before .args in
+      declarationOf (between (args .items .now) (args .from) (args .to)) ≡ tones (grouped (between (args .items .now) (args .from) (args .to)) .positions)
+  positions e =
+      let args = c .before .before .before .before .before .before .before .before .before .args in
+      first (c .before) refl ∙ as-tones (inside (c .before .item-at .result)) e _ ∙ ap (λ (is : List Item). tones (grouped is .positions)) (sym (item-next _ _ _ (c .before .item-at .ensures) (c .before .before .if1 .left)))
+
+write-tones-requires : tie.Need-write-tones-requires
+write-tones-requires c κs =
+    let tested = c .before .before in
+    let start = tested .before .before .before .before .before .before .before .before .before .before in
+    let e = positions (tested .before) (sym (tested .before .is-position .ensures) ∙ tested .if2 .taken) in
+    subst (λ (d : Declaration). Writable (start .args .values .now) (start .args .used) d) e (start .pre)
+
+same-length : tie.Need-same-length
+same-length c = search needs
+
+same-length-2 : tie.Need-same-length-2
+same-length-2 c = search needs
+
+returns-2 : tie.Need-returns-2
+returns-2 c =
+    let done = c .before .before .before in
+    let tested = done .before .before .before in
+    let e = positions (tested .before) (sym (tested .before .is-position .ensures) ∙ tested .if2 .taken) in
+    rowed-as e (tones-rowed (done .write-tones .ensures .0) (done .write-tones .ensures .1))
+
+add-rest : tie.Need-add-rest
+add-rest c = search needs
+
+enum-known-item : tie.Need-enum-known-item
+enum-known-item c = search needs
+
+write-system-requires : tie.Need-write-system-requires
+write-system-requires c κs =
+    let told = c .before .before .before in
+    let start = told .before .before .before .before .before .before .before .before .before .before .before .before in
+    subst (λ (d : Declaration). Writable (start .args .values .now) (start .args .used) d) (first (told .before .before .before .before) (told .item .given .1)) (start .pre)
+
+enum-told : tie.Need-enum-told
+enum-told c = search needs
+
+read-period-requires : tie.Need-read-period-requires
+read-period-requires c κs =
+    let start = c .before .before .before .before .before .before .before .before .before .before .before .before in
+    subst (λ (d : Declaration). FitParts (start .args .values .now) d) (first (c .before .before .before .before) (c .enum-told .given .1)) (start .pre .parts)
+
+enum-told-2 : tie.Need-enum-told-2
+enum-told-2 c = search needs
+
+read-period-requires-2 : tie.Need-read-period-requires-2
+read-period-requires-2 c κs =
+    let start = c .before .before .before .before .before .before .before .before .before .before .before .before in
+    subst (λ (d : Declaration). FitParts (start .args .values .now) d) (onward (c .before .before .before .before) (c .enum-told2 .given .1)) (start .pre .parts)
+
+enum-known-item-2 : tie.Need-enum-known-item-2
+enum-known-item-2 c = search needs
+
+write-logic-requires : tie.Need-write-logic-requires
+write-logic-requires c κs =
+    let told = c .before .before .before in
+    let start = told .before .before .before .before .before .before .before .before .before .before .before .before in
+    let e = first (told .before .before .before .before) (told .item2 .given .1) in
+    let w = subst (λ (d : Declaration). Writable (start .args .values .now) (start .args .used) d) e (start .pre) in
+    (w .parts, w .orders)
+
+-- a declaration with no list and no sum
+plain : (c : tie.At-match-keys5) → let args = c .before .before .before .before .before .before .before .before .before .before .before .args in
+    Plain (args .values .now) (args .used) (c .before .before .before .item-at .result) (between (args .items .now) (args .from + 1) (args .to))
+plain c =
+    let at-item-at = c .before .before .before in
+    as-plain _ _ (at-item-at .item-at .result) (c .match .keys5) (sym (c .before .before .is-position .ensures) ∙ c .before .if2 .left) _
+
+make-plain-requires : tie.Need-make-plain-requires
+make-plain-requires c κs =
+    let start = c .before .before .before .before .before .before .before .before .before .before .before in
+    let f = subst (λ (d : Declaration). FitParts (start .args .values .now) d) (first (c .before .before .before) refl) (start .pre .parts) in
+    (start .pre .value, plain c .fit f)
+
+same-length-3 : tie.Need-same-length-3
+same-length-3 c = search needs
+
+same-length-4 : tie.Need-same-length-4
+same-length-4 c = search needs
+
+returns-3 : tie.Need-returns-3
+returns-3 c =
+    let done = c .before .before .before in
+    let told = done .before .before .before .before in
+    rowed-as (first (told .before .before .before .before) (told .item .given .1)) (system-rowed (done .write-system .ensures .0) (done .write-system .ensures .1))
+
+returns-4 : tie.Need-returns-4
+returns-4 c =
+    let start = c .before .before .before .before .before .before .before .before .before .before .before .before .before in
+    rowed-as (first (c .before .before .before .before .before) (c .before .enum-told .given .1))
+    (period-rowed (period-form (between (start .args .items .now) (start .args .from + 1) (start .args .to))) (c .read-period .ensures))
+
+returns-5 : tie.Need-returns-5
+returns-5 c =
+    let start = c .before .before .before .before .before .before .before .before .before .before .before .before .before in
+    rowed-as (onward (c .before .before .before .before .before) (c .before .enum-told2 .given .1))
+    (period-rowed (period-form (between (start .args .items .now) (start .args .from) (start .args .to))) (c .read-period2 .ensures))
+
+same-length-5 : tie.Need-same-length-5
+same-length-5 c = search needs
+
+same-length-6 : tie.Need-same-length-6
+same-length-6 c = search needs
+
+returns-6 : tie.Need-returns-6
+returns-6 c =
+    let done = c .before .before .before .before in
+    let told = done .before .before .before .before in
+    rowed-as (first (told .before .before .before .before) (told .item2 .given .1)) (logic-rowed (done .write-logic .ensures .0) (done .write-logic .ensures .1))
+
+returns-7 : tie.Need-returns-7
+returns-7 c =
+    let p = plain (c .before) in
+    rowed-as (first (c .before .before .before .before) refl) (record { row = c .make-plain .ensures ∙ sym (p .row); lists = sym (p .lists _) })
+
+pub write-lists-spec : {M : Type 1} → statement M
+write-lists-spec =
+    tie.close
+    (tie.spec
+    cast-row
+    read-value-requires
+    returns
+    item-at-requires
+    is-position-requires
+    write-tones-requires
+    same-length
+    same-length-2
+    returns-2
+    add-rest
+    enum-known-item
+    write-system-requires
+    enum-told
+    read-period-requires
+    enum-told-2
+    read-period-requires-2
+    enum-known-item-2
+    write-logic-requires
+    make-plain-requires
+    same-length-3
+    same-length-4
+    returns-3
+    returns-4
+    returns-5
+    same-length-5
+    same-length-6
+    returns-6
+    returns-7)

@@ -1,0 +1,66 @@
+-- The tones are written, and the row says where they stand.
+use mathlib.Core.Path.{_∙_, ap}
+use Prim.Native.Nat.{ℕ}
+use borrow.Author.Needs.{needs}
+use lib.IntN.{ℤ}
+use lib.ListN.{length-map}
+use mir.Facts.{toZ-ofZ}
+use mir.Syntax.{w32}
+use mir.Val.{SFits}
+use Rattle.tables.specs.declared.Row.the-variants.{System}
+use Rattle.filling.specs.Inner.{valueIn}
+use Rattle.filling.proofs.rows.write_system.Statement.{statement}
+use Rattle.filling.proofs.rows.write_system.Tie as tie
+
+cast-write-places : tie.Need-cast-write-places
+cast-write-places c = search needs
+
+write-places-requires : tie.Need-write-places-requires
+write-places-requires c κs =
+    let start = c .before .before .before .before .before in
+    (start .pre .parts .1, rw length-map at (start .pre .tones))
+
+cast-t15 : tie.Need-cast-t15
+cast-t15 c = search needs
+
+cast-read-value : tie.Need-cast-read-value
+cast-read-value c = search needs
+
+read-value-requires : tie.Need-read-value-requires
+read-value-requires c κs = search needs
+
+cast-t19 : tie.Need-cast-t19
+cast-t19 c = search needs
+
+same-length : tie.Need-same-length
+same-length c = search needs
+
+same-length-2 : tie.Need-same-length-2
+same-length-2 c = search needs
+
+returns : tie.Need-returns
+returns c =
+    let done = c .before .before .before .before .before in
+    let args = done .before .before .before .before .before .before .args in
+    let used = args .used in
+    let key = args .key in
+    let f : SFits w32 (c .read-value .result) = search needs in
+    let z = valueIn (args .values .now) (used .rows) in (
+      ap (λ (y : ℤ). System (record { 0 = key }) (record { 0 = y }) (used .tones) (done .write-places .result)) (toZ-ofZ f ∙ c .read-value .ensures)
+          ∙ ap (λ (n : ℕ). System (record { 0 = key }) (record { 0 = z }) (used .tones) n) (simp length-map at (done .write-places .ensures .count)),
+      done .write-places .ensures .stored,
+    )
+
+pub write-system-spec : {M : Type 1} → statement M
+write-system-spec =
+    tie.close
+    (tie.spec
+    cast-write-places
+    write-places-requires
+    cast-t15
+    cast-read-value
+    read-value-requires
+    cast-t19
+    same-length
+    same-length-2
+    returns)

@@ -1,0 +1,191 @@
+// The tones, changes and orders that belong to rows, each list written after what its table has already.
+use crate::sums;
+use cents::Interval;
+use cents::Pitch;
+use grammar::Item;
+use grammar::items;
+use tables::encode;
+use tuning::Tone;
+use tuning::ToneChange;
+ghost use mathlib.Core.Path.{_≡_};
+ghost use mathlib.Core.List.{[], map};
+ghost use Prim.Native.Nat.{_+_, _≤_, _<_, _^_};
+ghost use lib.ListN.{length};
+ghost use Rattle.tables.specs.Layout.{mostTones, mostChanges, mostOrders, soundingOf, pitchOf, changeCode, changeNumber};
+ghost use Rattle.names.specs.Parts.{part};
+ghost use Rattle.program.specs.Program.{placeThen, placesOf, grouped, termsOf, ordersOf, startOf};
+ghost use Rattle.program.specs.Allowed.{Each};
+ghost use Rattle.valuation.specs.Inner.{between};
+ghost use Rattle.filling.specs.Tables.{sumOf, toneOf, changeOf};
+ghost use Rattle.filling.specs.Inner.{valueIn, begins, positionAt, letterOf, callOf, calledBy, tonesHere, changesHere, FitValue, Summable, FitPlace, FitPosition, FitOrder, Appended};
+
+// A tone of a tone system, where an item is one of its positions.
+enum ToneHere {
+    Nothing,
+    Tone(Tone),
+}
+
+// A change of a tones retuning, where one of its positions begins.
+enum ChangeHere {
+    Nothing,
+    Change(ToneChange),
+}
+
+// The value of a declaration.
+pub fn read_value(values: &[i64], k: usize) -> i32
+    requires { ⌜ FitValue (now values) k ⌝ }
+    ensures { λ r. ⌜ r ≡ valueIn (now (values .entry)) k ⌝ }
+{
+    values[k] as i32
+}
+
+fn read_tone(item: Item, values: &[i64]) -> ToneHere
+    requires { ⌜ Each (FitPlace (now values)) (placeThen (part item) []) ⌝ }
+    ensures { λ r. ⌜ tonesHere r ≡ map (toneOf (valueIn (now (values .entry)))) (placeThen (part item) []) ⌝ }
+{
+    match item {
+        Item::MutedPosition => ToneHere::Tone(Tone::Muted),
+        Item::TonePosition(k) => ToneHere::Tone(Tone::At(Pitch(read_value(values, k as usize)))),
+        _ => ToneHere::Nothing,
+    }
+}
+
+// Writes the positions of a tone system. Answers how many tones there are then.
+pub fn write_places(
+    items: &[u32],
+    from: usize,
+    to: usize,
+    values: &[i64],
+    sounding: &mut [u8],
+    tones: &mut [i32],
+    at: usize,
+) -> usize
+    requires { ⌜ Each (FitPlace (now values)) (placesOf (between (now items) from to)) ⌝ }
+    requires { ⌜ at + length (placesOf (between (now items) from to)) ≤ mostTones ⌝ }
+    ensures { λ r. ⌜ Appended soundingOf pitchOf (map (toneOf (valueIn (now (values .entry)))) (placesOf (between (now (items .entry)) from to))) at (now (sounding .entry)) (now (tones .entry)) r (now (sounding .exit)) (now (tones .exit)) ⌝ }
+{
+    let mut count = at;
+    for i in from..to {
+        let ToneHere::Tone(tone) = read_tone(items::item_at(items, i), values) else {
+            continue;
+        };
+        encode::store_tone(sounding, tones, count, tone);
+        count += 1;
+    }
+    count
+}
+
+// Whether a position of a tones retuning begins with an item.
+pub fn is_position(item: Item) -> bool
+    ensures { λ r. ⌜ r ≡ begins (part item) ⌝ }
+{
+    match item {
+        Item::MutedPosition => true,
+        Item::KeptPosition => true,
+        Item::TonePosition(_) => true,
+        _ => false,
+    }
+}
+
+// Where the next position begins, or the end: the terms before it are those of the present one.
+fn find_position(items: &[u32], from: usize, to: usize) -> usize
+    requires { ⌜ from ≤ to ⌝ }
+    ensures { λ r. ⌜ grouped (between (now (items .entry)) from to) .before ≡ termsOf (between (now (items .entry)) from r) ⌝ }
+{
+    for i in from..to {
+        if is_position(items::item_at(items, i)) {
+            return i;
+        }
+    }
+    to
+}
+
+// The sum of the terms up to the next position.
+fn sum_group(items: &[u32], from: usize, to: usize, values: &[i64]) -> i64
+    requires { ⌜ from ≤ to ⌝ }
+    requires { ⌜ Summable (now values) (grouped (between (now items) from to) .before) ⌝ }
+    ensures { λ r. ⌜ r ≡ sumOf (valueIn (now (values .entry))) (grouped (between (now (items .entry)) from to) .before) ⌝ }
+{
+    sums::sum_terms(items, from, find_position(items, from, to), values)
+}
+
+fn read_change(items: &[u32], i: usize, to: usize, values: &[i64]) -> ChangeHere
+    requires { ⌜ i < to ⌝ }
+    requires { ⌜ Each (FitPosition (now values)) (positionAt (now items) i to) ⌝ }
+    ensures { λ r. ⌜ changesHere r ≡ map (changeOf (valueIn (now (values .entry)))) (positionAt (now (items .entry)) i to) ⌝ }
+{
+    match items::item_at(items, i) {
+        Item::MutedPosition => ChangeHere::Change(ToneChange::Mute),
+        Item::KeptPosition => {
+            let sum = sum_group(items, i + 1, to, values);
+            ChangeHere::Change(ToneChange::Move(Interval(sums::cap(sum))))
+        }
+        Item::TonePosition(k) => {
+            let sum = sum_group(items, i + 1, to, values);
+            ChangeHere::Change(ToneChange::Set(Pitch(sums::cap(values[k as usize] + sum))))
+        }
+        _ => ChangeHere::Nothing,
+    }
+}
+
+// Writes the positions of a tones retuning. Answers how many changes there are then.
+pub fn write_changes(
+    items: &[u32],
+    from: usize,
+    to: usize,
+    values: &[i64],
+    kinds: &mut [u8],
+    changes: &mut [i32],
+    at: usize,
+) -> usize
+    requires { ⌜ Each (FitPosition (now values)) (grouped (between (now items) from to) .positions) ⌝ }
+    requires { ⌜ at + length (grouped (between (now items) from to) .positions) ≤ mostChanges ⌝ }
+    ensures { λ r. ⌜ Appended changeCode changeNumber (map (changeOf (valueIn (now (values .entry)))) (grouped (between (now (items .entry)) from to) .positions)) at (now (kinds .entry)) (now (changes .entry)) r (now (kinds .exit)) (now (changes .exit)) ⌝ }
+{
+    let mut count = at;
+    for i in from..to {
+        let ChangeHere::Change(change) = read_change(items, i, to, values) else {
+            continue;
+        };
+        encode::store_change(kinds, changes, count, change);
+        count += 1;
+    }
+    count
+}
+
+// Writes the orders of a logic. Answers how many orders there are then.
+pub fn write_orders(
+    items: &[u32],
+    from: usize,
+    to: usize,
+    letters: &mut [u8],
+    calls: &mut [u16],
+    at: usize,
+) -> usize
+    requires { ⌜ Each FitOrder (ordersOf (between (now items) from to)) ⌝ }
+    requires { ⌜ at + length (ordersOf (between (now items) from to)) ≤ mostOrders ⌝ }
+    ensures { λ r. ⌜ Appended letterOf callOf (ordersOf (between (now (items .entry)) from to)) at (now (letters .entry)) (now (calls .entry)) r (now (letters .exit)) (now (calls .exit)) ⌝ }
+{
+    let mut count = at;
+    for i in from..to {
+        let Item::Order(letter, called) = items::item_at(items, i) else {
+            continue;
+        };
+        encode::store_order(letters, calls, count, letter as u8, called as u16);
+        count += 1;
+    }
+    count
+}
+
+// What a logic's start calls, as its row has it.
+pub fn find_start(items: &[u32], from: usize, to: usize) -> u32
+    requires { ⌜ calledBy (startOf (between (now items) from to)) < 2 ^ 31 ⌝ }
+    ensures { λ r. ⌜ r ≡ calledBy (startOf (between (now (items .entry)) from to)) ⌝ }
+{
+    for i in from..to {
+        if let Item::Start(called) = items::item_at(items, i) {
+            return called + 1;
+        }
+    }
+    0
+}

@@ -1,0 +1,285 @@
+// The row of a declaration, by the item that it begins with, and what belongs to the row.
+use crate::lists;
+use crate::sums;
+use cents::Interval;
+use cents::KeyNumber;
+use cents::Pitch;
+use grammar::Item;
+use grammar::items;
+use tables::Counts;
+use tables::Row;
+use tables::encode;
+use tuning::Amount;
+use tuning::Operator;
+use tuning::PeriodChange;
+use tuning::Retuning;
+ghost use mathlib.Core.Path.{_≡_};
+ghost use mathlib.Core.List.{[], _∷_};
+ghost use Prim.Native.Nat.{_+_, _≤_, _<_};
+ghost use lib.ListN.{length};
+ghost use Rattle.tables.specs.Layout.{mostRows, mostOrders, soundingOf, pitchOf, changeCode, changeNumber};
+ghost use Rattle.names.specs.Parts.{part};
+ghost use Rattle.program.specs.Program.{declarationOf, periodOf, tones, grouped, startOf, ordersOf};
+ghost use Rattle.valuation.specs.Inner.{between};
+ghost use Rattle.filling.specs.Tables.{tonesOf, changesOf, rowOf};
+ghost use Rattle.filling.specs.Inner.{valueIn, letterOf, callOf, calledBy, FitValue, FitLogic, FitParts, Writable, Stored, rowAfter, plainRow, Rowed, Added, countedBy};
+
+fn make_anchor(amount: Amount) -> Row
+    ensures { λ r. ⌜ r ≡ Row.Retuning (Retuning.Anchor amount) 0 0 ⌝ }
+{
+    Row::Retuning {
+        retuning: Retuning::Anchor(amount),
+        from: 0,
+        to: 0,
+    }
+}
+
+fn make_width(amount: Amount) -> Row
+    ensures { λ r. ⌜ r ≡ Row.Retuning (Retuning.Width amount) 0 0 ⌝ }
+{
+    Row::Retuning {
+        retuning: Retuning::Width(amount),
+        from: 0,
+        to: 0,
+    }
+}
+
+// The row of a declaration with no list and no sum of its own.
+fn make_plain(item: Item, values: &[i64], row: usize) -> Row
+    requires { ⌜ FitValue (now values) row ⌝ }
+    requires { ⌜ FitParts (now values) (declarationOf (item ∷ [])) ⌝ }
+    ensures { λ r. ⌜ r ≡ plainRow (valueIn (now (values .entry)) row) (declarationOf (item ∷ [])) ⌝ }
+{
+    match item {
+        Item::Frequency(_) => Row::Tone(Pitch(lists::read_value(values, row))),
+        Item::Base(_) => Row::Tone(Pitch(lists::read_value(values, row))),
+        Item::AnchorKept => make_anchor(Amount::Kept),
+        Item::AnchorTo(n) => make_anchor(Amount::Absolute(n as u16)),
+        Item::AnchorUp(n) => make_anchor(Amount::Relative(Operator::Plus, n as u16)),
+        Item::AnchorDown(n) => make_anchor(Amount::Relative(Operator::Minus, n as u16)),
+        Item::WidthKept => make_width(Amount::Kept),
+        Item::WidthTo(n) => make_width(Amount::Absolute(n as u16)),
+        Item::WidthUp(n) => make_width(Amount::Relative(Operator::Plus, n as u16)),
+        Item::WidthDown(n) => make_width(Amount::Relative(Operator::Minus, n as u16)),
+        Item::WidthTimes(n) => make_width(Amount::Relative(Operator::Times, n as u16)),
+        Item::WidthOver(n) => make_width(Amount::Relative(Operator::Divide, n as u16)),
+        _ => Row::Interval(Interval(lists::read_value(values, row))),
+    }
+}
+
+fn make_period(change: PeriodChange) -> Row
+    ensures { λ r. ⌜ r ≡ Row.Retuning (Retuning.Period change) 0 0 ⌝ }
+{
+    Row::Retuning {
+        retuning: Retuning::Period(change),
+        from: 0,
+        to: 0,
+    }
+}
+
+// The row of a period retuning: its items after `[ ]`.
+fn read_period(items: &[u32], from: usize, to: usize, values: &[i64]) -> Row
+    requires { ⌜ FitParts (now values) (periodOf (between (now items) from to)) ⌝ }
+    ensures { λ r. ⌜ r ≡ rowOf (valueIn (now (values .entry))) 0 0 0 0 (periodOf (between (now (items .entry)) from to)) ⌝ }
+{
+    let sum = Interval(sums::cap(sums::sum_terms(items, from, to, values)));
+    if to <= from {
+        return make_period(PeriodChange::Fresh(sum));
+    }
+    let Item::Onward = items::item_at(items, from) else {
+        return make_period(PeriodChange::Fresh(sum));
+    };
+    make_period(PeriodChange::Onward(sum))
+}
+
+// Writes the positions of a tone system, whose items after its anchor stand there. Answers its row.
+fn write_system(
+    items: &[u32],
+    from: usize,
+    to: usize,
+    values: &[i64],
+    key: u32,
+    used: Counts,
+    sounding: &mut [u8],
+    tones: &mut [i32],
+) -> Row
+    requires { ⌜ Writable (now values) used (declarationOf (Item.AnchorKey key ∷ between (now items) from to)) ⌝ }
+    ensures { λ r. ⌜ r ≡ rowAfter (valueIn (now (values .entry))) used (declarationOf (Item.AnchorKey key ∷ between (now (items .entry)) from to)) ⌝ }
+    ensures { λ _. ⌜ Stored soundingOf pitchOf (tonesOf (valueIn (now (values .entry))) (declarationOf (Item.AnchorKey key ∷ between (now (items .entry)) from to))) (used .tones) (now (sounding .entry)) (now (tones .entry)) (now (sounding .exit)) (now (tones .exit)) ⌝ }
+{
+    let end = lists::write_places(
+        items,
+        from,
+        to,
+        values,
+        sounding,
+        tones,
+        used.tones as usize,
+    );
+    Row::System {
+        anchor: KeyNumber(key as u8),
+        period: Interval(lists::read_value(values, used.rows as usize)),
+        from: used.tones,
+        to: end as u32,
+    }
+}
+
+// Writes the positions of a tones retuning. Answers its row.
+fn write_tones(
+    items: &[u32],
+    from: usize,
+    to: usize,
+    values: &[i64],
+    used: Counts,
+    kinds: &mut [u8],
+    changes: &mut [i32],
+) -> Row
+    requires { ⌜ Writable (now values) used (tones (grouped (between (now items) from to) .positions)) ⌝ }
+    ensures { λ r. ⌜ r ≡ rowAfter (valueIn (now (values .entry))) used (tones (grouped (between (now (items .entry)) from to) .positions)) ⌝ }
+    ensures { λ _. ⌜ Stored changeCode changeNumber (changesOf (valueIn (now (values .entry))) (tones (grouped (between (now (items .entry)) from to) .positions))) (used .changes) (now (kinds .entry)) (now (changes .entry)) (now (kinds .exit)) (now (changes .exit)) ⌝ }
+{
+    let end = lists::write_changes(
+        items,
+        from,
+        to,
+        values,
+        kinds,
+        changes,
+        used.changes as usize,
+    );
+    Row::Retuning {
+        retuning: Retuning::Tones,
+        from: used.changes,
+        to: end as u32,
+    }
+}
+
+// Writes the orders of a logic, whose items after its letter stand there. Answers its row.
+fn write_logic(
+    items: &[u32],
+    from: usize,
+    to: usize,
+    letter: u32,
+    used: Counts,
+    letters: &mut [u8],
+    calls: &mut [u16],
+) -> Row
+    requires { ⌜ FitLogic letter (startOf (between (now items) from to)) (ordersOf (between (now items) from to)) ⌝ }
+    requires { ⌜ used .orders + length (ordersOf (between (now items) from to)) ≤ mostOrders ⌝ }
+    ensures { λ r. ⌜ r ≡ Row.Logic letter (calledBy (startOf (between (now (items .entry)) from to))) (used .orders) (used .orders + length (ordersOf (between (now (items .entry)) from to))) ⌝ }
+    ensures { λ _. ⌜ Stored letterOf callOf (ordersOf (between (now (items .entry)) from to)) (used .orders) (now (letters .entry)) (now (calls .entry)) (now (letters .exit)) (now (calls .exit)) ⌝ }
+{
+    let end = lists::write_orders(items, from, to, letters, calls, used.orders as usize);
+    Row::Logic {
+        letter: letter as u8,
+        start: lists::find_start(items, from, to),
+        from: used.orders,
+        to: end as u32,
+    }
+}
+
+// How many rows, tones, changes and orders there are with a row more.
+fn count_row(used: Counts, row: Row) -> Counts
+    requires { ⌜ used .rows < mostRows ⌝ }
+    ensures { λ r. ⌜ r ≡ countedBy used row ⌝ }
+{
+    let mut next = used;
+    next.rows = used.rows + 1;
+    match row {
+        Row::System {
+            anchor: _,
+            period: _,
+            from: _,
+            to,
+        } => next.tones = to,
+        Row::Retuning {
+            retuning,
+            from: _,
+            to,
+        } => {
+            if let Retuning::Tones = retuning {
+                next.changes = to;
+            }
+        }
+        Row::Logic {
+            letter: _,
+            start: _,
+            from: _,
+            to,
+        } => next.orders = to,
+        _ => {}
+    }
+    next
+}
+
+// Writes the tones, changes or orders of the declaration whose items stand there. Answers its row.
+fn write_lists(
+    items: &[u32],
+    from: usize,
+    to: usize,
+    values: &[i64],
+    used: Counts,
+    sounding: &mut [u8],
+    tones: &mut [i32],
+    kinds: &mut [u8],
+    changes: &mut [i32],
+    letters: &mut [u8],
+    calls: &mut [u16],
+) -> Row
+    requires { ⌜ Writable (now values) used (declarationOf (between (now items) from to)) ⌝ }
+    ensures { λ r. ⌜ Rowed (valueIn (now (values .entry))) used (declarationOf (between (now (items .entry)) from to)) (record { sounding = now (sounding .entry); tones = now («tones» .entry); kinds = now (kinds .entry); changes = now (changes .entry); letters = now (letters .entry); calls = now (calls .entry) }) r (record { sounding = now (sounding .exit); tones = now («tones» .exit); kinds = now (kinds .exit); changes = now (changes .exit); letters = now (letters .exit); calls = now (calls .exit) }) ⌝ }
+{
+    let row = used.rows as usize;
+    if to <= from {
+        return Row::Interval(Interval(lists::read_value(values, row)));
+    }
+    let item = items::item_at(items, from);
+    if lists::is_position(item) {
+        return write_tones(items, from, to, values, used, kinds, changes);
+    }
+    let rest = from + 1;
+    match item {
+        Item::AnchorKey(key) => {
+            write_system(items, rest, to, values, key, used, sounding, tones)
+        }
+        Item::Period => read_period(items, rest, to, values),
+        Item::Onward => read_period(items, from, to, values),
+        Item::Letter(letter) => write_logic(items, rest, to, letter, used, letters, calls),
+        _ => make_plain(item, values, row),
+    }
+}
+
+// Writes the declaration whose items stand there: its row, and what belongs to it. Answers how many there are then.
+pub fn write_declaration(
+    items: &[u32],
+    from: usize,
+    to: usize,
+    values: &[i64],
+    used: Counts,
+    rows: &mut [i32],
+    sounding: &mut [u8],
+    tones: &mut [i32],
+    kinds: &mut [u8],
+    changes: &mut [i32],
+    letters: &mut [u8],
+    calls: &mut [u16],
+) -> Counts
+    requires { ⌜ Writable (now values) used (declarationOf (between (now items) from to)) ⌝ }
+    ensures { λ r. ⌜ Added (valueIn (now (values .entry))) used (declarationOf (between (now (items .entry)) from to)) (now (rows .entry)) (record { sounding = now (sounding .entry); tones = now («tones» .entry); kinds = now (kinds .entry); changes = now (changes .entry); letters = now (letters .entry); calls = now (calls .entry) }) r (now (rows .exit)) (record { sounding = now (sounding .exit); tones = now («tones» .exit); kinds = now (kinds .exit); changes = now (changes .exit); letters = now (letters .exit); calls = now (calls .exit) }) ⌝ }
+{
+    let row = write_lists(
+        items,
+        from,
+        to,
+        values,
+        used,
+        sounding,
+        tones,
+        kinds,
+        changes,
+        letters,
+        calls,
+    );
+    encode::store_row(rows, used.rows as usize, row);
+    count_row(used, row)
+}

@@ -1,0 +1,65 @@
+// "Sequences add factor times measure": the sums of terms, over items.
+use grammar::Item;
+use grammar::items;
+ghost use mathlib.Core.Path.{_≡_};
+ghost use mathlib.Core.List.{[]};
+ghost use Prim.Native.Nat.{_≤_};
+ghost use lib.IntN.{natAbs, _*ℤ_};
+ghost use Rattle.values.specs.Inner.{greatestFactor};
+ghost use Rattle.names.specs.Parts.{part};
+ghost use Rattle.program.specs.Program.{termThen, termsOf};
+ghost use Rattle.program.specs.Allowed.{Each};
+ghost use Rattle.valuation.specs.Inner.{between};
+ghost use Rattle.filling.specs.Tables.{sumOf, capped};
+ghost use Rattle.filling.specs.Inner.{valueIn, FitValue, FitTerm, Summable};
+
+// Twice the range of tones, and 1 more.
+const LOWEST: i64 = -200_000_001;
+
+const HIGHEST: i64 = 200_000_001;
+
+// The value of a declaration, so many times.
+fn multiply(values: &[i64], k: usize, times: i64) -> i64
+    requires { ⌜ FitValue (now values) k ⌝ }
+    requires { ⌜ natAbs times ≤ greatestFactor ⌝ }
+    ensures { λ r. ⌜ r ≡ valueIn (now (values .entry)) k *ℤ times ⌝ }
+{
+    values[k] * times
+}
+
+// What an item adds to a sum: a factor times a value, if it is a term.
+fn weigh(item: Item, values: &[i64]) -> i64
+    requires { ⌜ Each (FitTerm (now values)) (termThen (part item) []) ⌝ }
+    ensures { λ r. ⌜ r ≡ sumOf (valueIn (now (values .entry))) (termThen (part item) []) ⌝ }
+{
+    match item {
+        Item::Add(factor, of) => multiply(values, of as usize, factor as i64),
+        Item::Subtract(factor, of) => multiply(values, of as usize, 0 - factor as i64),
+        _ => 0,
+    }
+}
+
+// The sum of the terms that stand from one place to another.
+pub fn sum_terms(items: &[u32], from: usize, to: usize, values: &[i64]) -> i64
+    requires { ⌜ Summable (now values) (termsOf (between (now items) from to)) ⌝ }
+    ensures { λ r. ⌜ r ≡ sumOf (valueIn (now (values .entry))) (termsOf (between (now (items .entry)) from to)) ⌝ }
+{
+    let mut sum = 0;
+    for i in from..to {
+        sum += weigh(items::item_at(items, i), values);
+    }
+    sum
+}
+
+// A sum as the tables have it.
+pub fn cap(z: i64) -> i32
+    ensures { λ r. ⌜ r ≡ capped z ⌝ }
+{
+    if z <= LOWEST {
+        return LOWEST as i32;
+    }
+    if HIGHEST <= z {
+        return HIGHEST as i32;
+    }
+    z as i32
+}

@@ -1,0 +1,80 @@
+-- The loop counts down from a number that no run uses up.
+use mathlib.Core.Path.{_≡_, subst}
+use Prim.Native.Nat.{ℕ}
+use lib.IntN.{ℤ}
+use lib.ListN.{length}
+use mir.Facts.{toZ-ofZ}
+use mir.Syntax.{w64}
+use mir.Val.{SFits, toZ, ofZ}
+use Rattle.libc.specs.Io.{Moved}
+use borrow.Author.Needs.{needs}
+use Rattle.sitedesk.proofs.read_some.Statement.{statement}
+use Rattle.sitedesk.proofs.read_some.Tie as tie
+
+moved : {n m : ℕ} (z : ℤ) → SFits w64 z → n ≡ m → Moved n z → Moved m (toZ w64 (ofZ w64 z))
+moved z f e h = rw (toZ-ofZ f) (subst (λ (k : ℕ). Moved k z) e h)
+
+abbrev Inv-loop : tie.InvT-loop
+Inv-loop file buffer₀ tries₀ buffer tries = length buffer ≡ length buffer₀
+
+abbrev μ-loop : tie.MeasureT-loop
+μ-loop file buffer₀ tries₀ buffer tries = tries
+
+loop-holds : tie.Need-loop-holds Inv-loop μ-loop
+loop-holds c = search needs
+
+read-requires : tie.Need-read-requires Inv-loop μ-loop
+read-requires c κs = search needs
+
+same-length : tie.Need-same-length Inv-loop μ-loop
+same-length c = search needs
+
+returns : tie.Need-returns Inv-loop μ-loop
+returns c =
+    let tried = c .before .before .before in
+    moved (tried .read .result) (search needs) (tried .before .before .before .loop .inv) (tried .read .ensures)
+
+errno-requires : tie.Need-errno-requires Inv-loop μ-loop
+errno-requires c κs = search needs
+
+same-length-2 : tie.Need-same-length-2 Inv-loop μ-loop
+same-length-2 c = search needs
+
+returns-2 : tie.Need-returns-2 Inv-loop μ-loop
+returns-2 c =
+    let tried = c .before .before .before .before .before in
+    moved (tried .read .result) (search needs) (tried .before .before .before .loop .inv) (tried .read .ensures)
+
+sub-tries : tie.Need-sub-tries Inv-loop μ-loop
+sub-tries c = search needs
+
+loop-less : tie.Need-loop-less Inv-loop μ-loop
+loop-less c = search needs
+
+loop-again : tie.Need-loop-again Inv-loop μ-loop
+loop-again c = search needs
+
+same-length-3 : tie.Need-same-length-3 Inv-loop μ-loop
+same-length-3 c = search needs
+
+returns-3 : tie.Need-returns-3 Inv-loop μ-loop
+returns-3 c = search needs
+
+pub read-some-spec : {M : Type 1} → statement M
+read-some-spec =
+    tie.close
+    (tie.spec
+    Inv-loop
+    μ-loop
+    loop-holds
+    read-requires
+    same-length
+    returns
+    errno-requires
+    same-length-2
+    returns-2
+    sub-tries
+    loop-less
+    loop-again
+    same-length-3
+    returns-3)

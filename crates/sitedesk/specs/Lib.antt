@@ -1,0 +1,2 @@
+-- What the contracts of `sitedesk` cite.
+pub mod Serving

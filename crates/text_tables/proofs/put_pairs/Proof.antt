@@ -1,0 +1,96 @@
+-- The measure is what is left of the count.
+use mathlib.Core.Path.{_≡_}
+use Prim.Native.Nat.{_-_}
+use lib.ListN.{length}
+use borrow.Author.Needs.{needs}
+use Rattle.text_tables.proofs.put_pairs.Statement.{statement}
+use Rattle.text_tables.proofs.put_pairs.Tie as tie
+
+abbrev Inv-loop : tie.InvT-loop
+Inv-loop out₀ at kinds numbers count i₀ out i = length out ≡ length out₀
+
+abbrev μ-loop : tie.MeasureT-loop
+μ-loop out₀ at kinds numbers count i₀ out i = count - i
+
+loop-holds : tie.Need-loop-holds Inv-loop μ-loop
+loop-holds c = search needs
+
+mul-put : tie.Need-mul-put Inv-loop μ-loop
+mul-put c = search needs
+
+add-put : tie.Need-add-put Inv-loop μ-loop
+add-put c = search needs
+
+shared-slice-read-put : tie.Need-shared-slice-read-put Inv-loop μ-loop
+shared-slice-read-put c = search needs
+
+put-requires : tie.Need-put-requires Inv-loop μ-loop
+put-requires c κs = search needs
+
+mul-put-four : tie.Need-mul-put-four Inv-loop μ-loop
+mul-put-four c = search needs
+
+add-put-four : tie.Need-add-put-four Inv-loop μ-loop
+add-put-four c = search needs
+
+add-put-four-2 : tie.Need-add-put-four-2 Inv-loop μ-loop
+add-put-four-2 c = search needs
+
+mul-bits-of : tie.Need-mul-bits-of Inv-loop μ-loop
+mul-bits-of c = search needs
+
+shared-slice-copy-out-bits-of : tie.Need-shared-slice-copy-out-bits-of Inv-loop μ-loop
+shared-slice-copy-out-bits-of c = search needs
+
+bits-of-requires : tie.Need-bits-of-requires Inv-loop μ-loop
+bits-of-requires c κs = search needs
+
+put-four-requires : tie.Need-put-four-requires Inv-loop μ-loop
+put-four-requires c κs = search needs
+
+add-i : tie.Need-add-i Inv-loop μ-loop
+add-i c = search needs
+
+loop-less : tie.Need-loop-less Inv-loop μ-loop
+loop-less c = search needs
+
+loop-again : tie.Need-loop-again Inv-loop μ-loop
+loop-again c = search needs
+
+mul-result : tie.Need-mul-result Inv-loop μ-loop
+mul-result c = search needs
+
+add-result : tie.Need-add-result Inv-loop μ-loop
+add-result c = search needs
+
+same-length : tie.Need-same-length Inv-loop μ-loop
+same-length c = search needs
+
+returns : tie.Need-returns Inv-loop μ-loop
+returns c = search needs
+
+pub put-pairs-spec : {M : Type 1} → statement M
+put-pairs-spec =
+    tie.close
+    (tie.spec
+    Inv-loop
+    μ-loop
+    loop-holds
+    mul-put
+    add-put
+    shared-slice-read-put
+    put-requires
+    mul-put-four
+    add-put-four
+    add-put-four-2
+    mul-bits-of
+    shared-slice-copy-out-bits-of
+    bits-of-requires
+    put-four-requires
+    add-i
+    loop-less
+    loop-again
+    mul-result
+    add-result
+    same-length
+    returns)

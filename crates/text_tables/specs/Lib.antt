@@ -1,0 +1,2 @@
+-- What the contracts of `text_tables` cite.
+pub mod Within

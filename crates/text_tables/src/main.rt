@@ -1,0 +1,282 @@
+// A test program: texts on standard input, each after its length in four bytes, are read, and what is left in the tables is written to standard
+// output, to be compared with what the second program reads: number (1), place (4), counts (4 each), then rows of form (1) and four numbers (4 each),
+// tones of kind (1) and pitch (4), changes of kind (1) and sum (4), orders of letter (1) and called declaration (2). High byte first, negative
+// numbers in two's complement.
+use hexadecimal::bits_of;
+use hexadecimal::put;
+use libc::STDIN_FILENO;
+use libc::STDOUT_FILENO;
+use mutabor::read_text;
+use tables::CHANGES;
+use tables::COUNTS;
+use tables::Counts;
+use tables::ORDERS;
+use tables::ROW_WIDTH;
+use tables::ROWS;
+use tables::TONES;
+ghost use mathlib.Core.Path.{_≡_};
+ghost use Prim.Native.Nat.{_+_, _*_, _≤_};
+ghost use lib.ListN.{length};
+ghost use Rattle.text_tables.specs.Within.{Within};
+
+const LENGTH_BYTES: usize = 4;
+
+// The room for an answer.
+const ROOM: usize = 65_536;
+
+// Where the parts of an answer begin, and how many bytes a number, a row, a tone or a change, and an order have.
+const PLACE_AT: usize = 1;
+
+const COUNTS_AT: usize = 5;
+
+const ROWS_AT: usize = 21;
+
+const NUMBER_BYTES: usize = 4;
+
+const ROW_BYTES: usize = 17;
+
+const PAIR_BYTES: usize = 5;
+
+const ORDER_BYTES: usize = 3;
+
+// The end of the input, or a text of so many bytes.
+enum Next {
+    End,
+    Text(usize),
+}
+
+fn wide(b: u8) -> usize
+    ensures { λ r. ⌜ r ≤ 255 ⌝ }
+{
+    b as usize
+}
+
+fn length_of(bytes: &[u8; LENGTH_BYTES]) -> usize {
+    wide(bytes[0]) * 0x100_0000
+        + wide(bytes[1]) * 0x1_0000
+        + wide(bytes[2]) * 0x100
+        + wide(bytes[3])
+}
+
+// A count, or the size of its table where that is less.
+fn clamp(count: u32, most: usize) -> usize
+    ensures { λ r. ⌜ r ≤ most ⌝ }
+{
+    let n = count as usize;
+    if n < most {
+        return n;
+    }
+    most
+}
+
+fn put_two(out: &mut [u8], at: usize, n: u16)
+    requires { ⌜ at ≤ 65_536 ⌝ }
+{
+    put(out, at, (n / 0x100) as u8);
+    put(out, at + 1, (n % 0x100) as u8);
+}
+
+fn put_four(out: &mut [u8], at: usize, n: u32)
+    requires { ⌜ at ≤ 65_536 ⌝ }
+{
+    put(out, at, (n / 0x100_0000 % 0x100) as u8);
+    put(out, at + 1, (n / 0x1_0000 % 0x100) as u8);
+    put(out, at + 2, (n / 0x100 % 0x100) as u8);
+    put(out, at + 3, (n % 0x100) as u8);
+}
+
+fn put_counts(out: &mut [u8], counts: Counts) {
+    put_four(out, COUNTS_AT, counts.rows);
+    put_four(out, COUNTS_AT + NUMBER_BYTES, counts.tones);
+    put_four(out, COUNTS_AT + 2 * NUMBER_BYTES, counts.changes);
+    put_four(out, COUNTS_AT + 3 * NUMBER_BYTES, counts.orders);
+}
+
+// The row that begins at `from`: its form as one byte, then its other numbers.
+fn put_row(out: &mut [u8], at: usize, rows: &[i32], from: usize)
+    requires { ⌜ (at ≤ 20_000) × (from + 5 ≤ length (now rows)) ⌝ }
+{
+    put(out, at, (bits_of(rows[from]) % 0x100) as u8);
+    let mut k: usize = 1;
+    while k < ROW_WIDTH {
+        put_four(
+            out,
+            at + 1 + NUMBER_BYTES * (k - 1),
+            bits_of(rows[from + k]),
+        );
+        k += 1;
+    }
+}
+
+// Each of the next four tells where what it has put ends.
+fn put_rows(out: &mut [u8], at: usize, rows: &[i32], count: usize) -> usize
+    requires { ⌜ (at ≤ 21) × (count ≤ 704) × (length (now rows) ≡ 3_520) ⌝ }
+    ensures { λ r. ⌜ r ≡ at + 17 * count ⌝ }
+{
+    let mut i: usize = 0;
+    while i < count {
+        put_row(out, at + ROW_BYTES * i, rows, ROW_WIDTH * i);
+        i += 1;
+    }
+    at + ROW_BYTES * count
+}
+
+// Tones or changes: each a byte and a number.
+fn put_pairs(out: &mut [u8], at: usize, kinds: &[u8], numbers: &[i32], count: usize) -> usize
+    requires { ⌜ (at + 5 * count ≤ 65_536) × (count ≤ length (now kinds)) × (length (now kinds) ≡ length (now numbers)) ⌝ }
+    ensures { λ r. ⌜ r ≡ at + 5 * count ⌝ }
+{
+    let mut i: usize = 0;
+    while i < count {
+        put(out, at + PAIR_BYTES * i, kinds[i]);
+        put_four(out, at + PAIR_BYTES * i + 1, bits_of(numbers[i]));
+        i += 1;
+    }
+    at + PAIR_BYTES * count
+}
+
+fn put_orders(out: &mut [u8], at: usize, letters: &[u8], calls: &[u16], count: usize) -> usize
+    requires { ⌜ (at + 3 * count ≤ 65_536) × (count ≤ length (now letters)) × (length (now letters) ≡ length (now calls)) ⌝ }
+    ensures { λ r. ⌜ r ≡ at + 3 * count ⌝ }
+{
+    let mut i: usize = 0;
+    while i < count {
+        put(out, at + ORDER_BYTES * i, letters[i]);
+        put_two(out, at + ORDER_BYTES * i + 1, calls[i]);
+        i += 1;
+    }
+    at + ORDER_BYTES * count
+}
+
+fn put_tables(
+    out: &mut [u8; ROOM],
+    rows: &[i32; ROW_WIDTH * ROWS],
+    sounding: &[u8; TONES],
+    tones: &[i32; TONES],
+    kinds: &[u8; CHANGES],
+    changes: &[i32; CHANGES],
+    letters: &[u8; ORDERS],
+    calls: &[u16; ORDERS],
+    counts: &[u32; COUNTS],
+) -> usize
+    ensures { λ r. ⌜ r ≤ 61_525 ⌝ }
+{
+    let used = Counts::read(counts);
+    put_counts(out, used);
+    let after_rows = put_rows(out, ROWS_AT, rows, clamp(used.rows, ROWS));
+    let after_tones = put_pairs(out, after_rows, sounding, tones, clamp(used.tones, TONES));
+    let after_changes = put_pairs(
+        out,
+        after_tones,
+        kinds,
+        changes,
+        clamp(used.changes, CHANGES),
+    );
+    put_orders(
+        out,
+        after_changes,
+        letters,
+        calls,
+        clamp(used.orders, ORDERS),
+    )
+}
+
+fn send(out: &[u8], n: usize) -> bool
+    requires { ⌜ n ≤ length (now out) ⌝ }
+{
+    io::write_all(STDOUT_FILENO, &out[..n])
+}
+
+// Takes the next text from the input, as far as it is there whole and there is room for it.
+fn take_text(text: &mut [u8]) -> Next
+    ensures { λ r. ⌜ Within r (now (text .entry)) ⌝ }
+{
+    let mut bytes = [0u8; LENGTH_BYTES];
+    if io::read_full(STDIN_FILENO, &mut bytes) < LENGTH_BYTES {
+        return Next::End;
+    }
+    let n = length_of(&bytes);
+    if text.len() < n {
+        return Next::End;
+    }
+    if io::read_full(STDIN_FILENO, &mut text[..n]) < n {
+        return Next::End;
+    }
+    Next::Text(n)
+}
+
+// Reads a text, and writes what is left in the tables.
+fn answer_text(
+    text: &[u8],
+    out: &mut [u8; ROOM],
+    rows: &mut [i32; ROW_WIDTH * ROWS],
+    sounding: &mut [u8; TONES],
+    tones: &mut [i32; TONES],
+    kinds: &mut [u8; CHANGES],
+    changes: &mut [i32; CHANGES],
+    letters: &mut [u8; ORDERS],
+    calls: &mut [u16; ORDERS],
+    counts: &mut [u32; COUNTS],
+) -> bool {
+    let reading = read_text(
+        text,
+        rows,
+        sounding,
+        tones,
+        kinds,
+        changes,
+        letters,
+        calls,
+        counts,
+    );
+    put(out, 0, reading.number);
+    put_four(out, PLACE_AT, reading.place);
+    let end = put_tables(
+        out,
+        rows,
+        sounding,
+        tones,
+        kinds,
+        changes,
+        letters,
+        calls,
+        counts,
+    );
+    send(out, end)
+}
+
+// The tables are never cleared here: that is the reader's part.
+fn main() {
+    let mut text = io::large_buffer();
+    let mut out = io::large_buffer();
+    let mut rows = [0i32; ROW_WIDTH * ROWS];
+    let mut sounding = [0u8; TONES];
+    let mut tones = [0i32; TONES];
+    let mut kinds = [0u8; CHANGES];
+    let mut changes = [0i32; CHANGES];
+    let mut letters = [0u8; ORDERS];
+    let mut calls = [0u16; ORDERS];
+    let mut counts = [0u32; COUNTS];
+    let mut left = u64::MAX;
+    while 0 < left {
+        let next = take_text(&mut text);
+        let Next::Text(n) = next else {
+            return;
+        };
+        if !answer_text(
+            &text[..n],
+            &mut out,
+            &mut rows,
+            &mut sounding,
+            &mut tones,
+            &mut kinds,
+            &mut changes,
+            &mut letters,
+            &mut calls,
+            &mut counts,
+        ) {
+            return;
+        }
+        left -= 1;
+    }
+}
