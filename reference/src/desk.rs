@@ -3,7 +3,7 @@
 
 use crate::frames::{refused_line, Desk};
 use crate::text::{self, LONGEST_TEXT};
-use crate::validity;
+use crate::validity::{self, Tables};
 use std::fs::File;
 use std::io::{self, Read, Write};
 use std::path::Path;
@@ -31,7 +31,10 @@ pub fn text_of(path: &Path) -> io::Result<Vec<u8>> {
 /// are gone over before each frame.
 pub fn run(text: &[u8], validate: bool, input: impl Read, output: impl Write) -> io::Result<()> {
     match text::read(text) {
-        Ok(program) => Exchange::new(Desk::new(program), validate, output).run(input),
+        Ok(program) => {
+            let tables = validate.then(|| Tables::of(&program));
+            Exchange::new(Desk::new(program), tables, output).run(input)
+        }
         Err(refusal) => {
             let mut line = Vec::new();
             refused_line(refusal, &mut line);
@@ -47,7 +50,8 @@ fn write_now(mut output: impl Write, bytes: &[u8]) -> io::Result<()> {
 
 struct Exchange<W> {
     desk: Desk,
-    validate: bool,
+    /// What is gone over before each frame, if it is asked.
+    tables: Option<Tables>,
     output: W,
     /// Answers not yet written.
     answers: Vec<u8>,
@@ -56,9 +60,9 @@ struct Exchange<W> {
 }
 
 impl<W: Write> Exchange<W> {
-    fn new(desk: Desk, validate: bool, output: W) -> Self {
+    fn new(desk: Desk, tables: Option<Tables>, output: W) -> Self {
         let answers = Vec::with_capacity(2 * CHUNK);
-        Exchange { desk, validate, output, answers, begun: Vec::new() }
+        Exchange { desk, tables, output, answers, begun: Vec::new() }
     }
 
     /// What is answered is written before more input is waited for. "A last
@@ -113,7 +117,8 @@ impl<W: Write> Exchange<W> {
     }
 
     fn answer(&mut self, line: &[u8]) -> io::Result<()> {
-        if self.validate && !validity::is_valid(&self.desk) {
+        let is_damaged = |tables: &Tables| !validity::is_valid(tables, &self.desk);
+        if self.tables.as_ref().is_some_and(is_damaged) {
             return Err(io::Error::other("a number of the tables is out of its range"));
         }
         self.desk.answer(line, &mut self.answers);

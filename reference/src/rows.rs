@@ -2,22 +2,23 @@
 //! changes and orders that the rows refer to: the desk's tables, without their
 //! unused places. The README has the format.
 
+use crate::measure::Pitch;
 use crate::state::{Call, Change, PeriodChange, Position};
 use crate::text::tree::Target;
 use crate::text::Program;
 
 /// A sum beyond this, which leads no tone and no period back into its range,
 /// is written as this.
-const FARTHEST_SUM: i64 = 200_000_001;
+pub const FARTHEST_SUM: i64 = 200_000_001;
 
-const INTERVAL: u8 = 1;
-const TONE: u8 = 2;
-const SYSTEM: u8 = 3;
-const ANCHOR: u8 = 4;
-const WIDTH: u8 = 5;
-const PERIOD: u8 = 6;
-const TONES: u8 = 7;
-const LOGIC: u8 = 8;
+pub const INTERVAL: u8 = 1;
+pub const TONE: u8 = 2;
+pub const SYSTEM: u8 = 3;
+pub const ANCHOR: u8 = 4;
+pub const WIDTH: u8 = 5;
+pub const PERIOD: u8 = 6;
+pub const TONES: u8 = 7;
+pub const LOGIC: u8 = 8;
 
 /// A declaration by its kind and its number there.
 #[derive(Clone, Copy, PartialEq, Eq)]
@@ -27,31 +28,57 @@ enum Declaration {
     Called(Target),
 }
 
-struct Rows<'a> {
-    program: &'a Program,
-    /// The declarations in the order of the text.
-    order: Vec<Declaration>,
-    rows: Vec<u8>,
-    tones: Vec<u8>,
-    changes: Vec<u8>,
-    orders: Vec<u8>,
-    counts: [u32; 4],
+/// The five numbers of a row: its form, two numbers of its own, and from where
+/// to where its tones, changes or orders stand.
+pub type Row = [i32; 5];
+
+/// A tone of a tone system or a change of a tones retuning: its kind and its
+/// number.
+pub type Pair = (u8, i32);
+
+/// A letter, and the number of the declaration that it calls.
+pub type Order = (u8, u16);
+
+/// What the rows and lists of a program hold.
+#[derive(Default)]
+pub struct Lists {
+    pub rows: Vec<Row>,
+    pub tones: Vec<Pair>,
+    pub changes: Vec<Pair>,
+    pub orders: Vec<Order>,
 }
 
-/// Where the counts of tones, changes and orders stand.
-const TONE_COUNT: usize = 1;
-const CHANGE_COUNT: usize = 2;
-const ORDER_COUNT: usize = 3;
+impl Lists {
+    pub fn of(program: &Program) -> Self {
+        let mut writer = Writer { program, order: in_order(program), lists: Lists::default() };
+        for declaration in writer.order.clone() {
+            writer.put(declaration);
+        }
+        writer.lists
+    }
+
+    /// How many rows, tones, changes and orders there are.
+    pub fn counts(&self) -> [u32; 4] {
+        let lengths = [self.rows.len(), self.tones.len(), self.changes.len(), self.orders.len()];
+        lengths.map(|length| length as u32)
+    }
+}
 
 /// Counts, rows, tones, changes and orders, one after the other.
 pub fn bytes(program: &Program) -> Vec<u8> {
-    let mut rows = Rows::new(program);
-    for declaration in rows.order.clone() {
-        rows.put(declaration);
+    let lists = Lists::of(program);
+    let mut bytes: Vec<u8> = lists.counts().iter().flat_map(|count| count.to_be_bytes()).collect();
+    for [form, numbers @ ..] in &lists.rows {
+        bytes.push(*form as u8);
+        bytes.extend(numbers.iter().flat_map(|number| number.to_be_bytes()));
     }
-    let mut bytes: Vec<u8> = rows.counts.iter().flat_map(|count| count.to_be_bytes()).collect();
-    for part in [rows.rows, rows.tones, rows.changes, rows.orders] {
-        bytes.extend(part);
+    for (kind, number) in lists.tones.iter().chain(&lists.changes) {
+        bytes.push(*kind);
+        bytes.extend(number.to_be_bytes());
+    }
+    for (letter, number) in &lists.orders {
+        bytes.push(*letter);
+        bytes.extend(number.to_be_bytes());
     }
     bytes
 }
@@ -61,36 +88,36 @@ pub fn none() -> Vec<u8> {
     vec![0; 16]
 }
 
-fn capped(sum: i64) -> i64 {
-    sum.clamp(-FARTHEST_SUM, FARTHEST_SUM)
+fn capped(sum: i64) -> i32 {
+    sum.clamp(-FARTHEST_SUM, FARTHEST_SUM) as i32
 }
 
-fn four(number: i64) -> [u8; 4] {
-    (number as i32).to_be_bytes()
+/// The declarations in the order of the text.
+fn in_order(program: &Program) -> Vec<Declaration> {
+    let tree = &program.declared;
+    let intervals = tree.intervals.iter().map(|d| d.name.place);
+    let tones = tree.tones.iter().map(|d| d.name.place);
+    let systems = tree.systems.iter().map(|d| d.name.place);
+    let retunings = tree.retunings.iter().map(|d| d.name.place);
+    let logics = tree.logics.iter().map(|d| d.name.place);
+    let called = Declaration::Called;
+    let mut placed: Vec<(usize, Declaration)> = Vec::new();
+    placed.extend(intervals.enumerate().map(|(i, at)| (at, Declaration::Interval(i))));
+    placed.extend(tones.enumerate().map(|(i, at)| (at, Declaration::Tone(i))));
+    placed.extend(systems.enumerate().map(|(i, at)| (at, called(Target::System(i)))));
+    placed.extend(retunings.enumerate().map(|(i, at)| (at, called(Target::Retuning(i)))));
+    placed.extend(logics.enumerate().map(|(i, at)| (at, called(Target::Logic(i)))));
+    placed.sort_by_key(|(place, _)| *place);
+    placed.into_iter().map(|(_, declaration)| declaration).collect()
 }
 
-impl<'a> Rows<'a> {
-    fn new(program: &'a Program) -> Self {
-        let tree = &program.declared;
-        let intervals = tree.intervals.iter().map(|d| d.name.place);
-        let tones = tree.tones.iter().map(|d| d.name.place);
-        let systems = tree.systems.iter().map(|d| d.name.place);
-        let retunings = tree.retunings.iter().map(|d| d.name.place);
-        let logics = tree.logics.iter().map(|d| d.name.place);
-        let called = Declaration::Called;
-        let mut placed: Vec<(usize, Declaration)> = Vec::new();
-        placed.extend(intervals.enumerate().map(|(i, at)| (at, Declaration::Interval(i))));
-        placed.extend(tones.enumerate().map(|(i, at)| (at, Declaration::Tone(i))));
-        placed.extend(systems.enumerate().map(|(i, at)| (at, called(Target::System(i)))));
-        placed.extend(retunings.enumerate().map(|(i, at)| (at, called(Target::Retuning(i)))));
-        placed.extend(logics.enumerate().map(|(i, at)| (at, called(Target::Logic(i)))));
-        placed.sort_by_key(|(place, _)| *place);
-        let order: Vec<Declaration> = placed.into_iter().map(|(_, d)| d).collect();
-        let counts = [order.len() as u32, 0, 0, 0];
-        let (rows, tones, changes, orders) = (Vec::new(), Vec::new(), Vec::new(), Vec::new());
-        Rows { program, order, rows, tones, changes, orders, counts }
-    }
+struct Writer<'a> {
+    program: &'a Program,
+    order: Vec<Declaration>,
+    lists: Lists,
+}
 
+impl Writer<'_> {
     /// The number of a declaration in the order of the text.
     fn number(&self, target: Target) -> u16 {
         let wanted = Declaration::Called(target);
@@ -100,20 +127,16 @@ impl<'a> Rows<'a> {
     fn put(&mut self, declaration: Declaration) {
         let program = self.program;
         match declaration {
-            Declaration::Interval(i) => self.row(INTERVAL, program.intervals[i].0, 0, (0, 0)),
-            Declaration::Tone(i) => self.row(TONE, program.tones[i].0, 0, (0, 0)),
+            Declaration::Interval(i) => self.row(INTERVAL, program.intervals[i].0 as i32, 0, (0, 0)),
+            Declaration::Tone(i) => self.row(TONE, program.tones[i].0 as i32, 0, (0, 0)),
             Declaration::Called(Target::System(i)) => self.put_call(&program.systems[i]),
             Declaration::Called(Target::Retuning(i)) => self.put_call(&program.retunings[i]),
             Declaration::Called(Target::Logic(i)) => self.put_logic(i),
         }
     }
 
-    fn row(&mut self, form: u8, first: i64, second: i64, part: (u32, u32)) {
-        self.rows.push(form);
-        self.rows.extend(four(first));
-        self.rows.extend(four(second));
-        self.rows.extend(part.0.to_be_bytes());
-        self.rows.extend(part.1.to_be_bytes());
+    fn row(&mut self, form: u8, first: i32, second: i32, part: (usize, usize)) {
+        self.lists.rows.push([form.into(), first, second, part.0 as i32, part.1 as i32]);
     }
 
     fn put_call(&mut self, call: &Call) {
@@ -123,25 +146,20 @@ impl<'a> Rows<'a> {
             Call::Period(PeriodChange::To(to)) => self.row(PERIOD, 0, capped(to.0), (0, 0)),
             Call::Period(PeriodChange::By(by)) => self.row(PERIOD, 1, capped(by.0), (0, 0)),
             Call::Tones(positions) => {
-                let part = self.part(CHANGE_COUNT, positions.len());
-                for position in positions {
-                    let (kind, number) = match position {
-                        Position::Muted => (0, 0),
-                        Position::By(by) => (1, capped(by.0)),
-                        Position::At(pitch) => (2, capped(pitch.0)),
-                    };
-                    self.changes.push(kind);
-                    self.changes.extend(four(number));
-                }
-                self.row(TONES, 0, 0, part);
+                let from = self.lists.changes.len();
+                self.lists.changes.extend(positions.iter().map(|position| match position {
+                    Position::Muted => (0, 0),
+                    Position::By(by) => (1, capped(by.0)),
+                    Position::At(pitch) => (2, capped(pitch.0)),
+                }));
+                self.row(TONES, 0, 0, (from, from + positions.len()));
             }
             Call::System(system) => {
-                let part = self.part(TONE_COUNT, system.tones.len());
-                for tone in &system.tones {
-                    self.tones.push(tone.is_some().into());
-                    self.tones.extend(four(tone.map_or(0, |pitch| pitch.0)));
-                }
-                self.row(SYSTEM, system.anchor.into(), system.period.0, part);
+                let from = self.lists.tones.len();
+                let pair = |tone: &Option<Pitch>| tone.map_or((0, 0), |pitch| (1, pitch.0 as i32));
+                self.lists.tones.extend(system.tones.iter().map(pair));
+                let part = (from, from + system.tones.len());
+                self.row(SYSTEM, system.anchor.into(), system.period.0 as i32, part);
             }
         }
     }
@@ -160,21 +178,13 @@ impl<'a> Rows<'a> {
 
     fn put_logic(&mut self, i: usize) {
         let form = &self.program.declared.logics[i].form;
-        let start = form.start.map_or(0, |start| 1 + i64::from(self.number(start)));
-        let part = self.part(ORDER_COUNT, form.orders.len());
+        let start = form.start.map_or(0, |start| 1 + i32::from(self.number(start)));
+        let from = self.lists.orders.len();
         for order in &form.orders {
             let number = self.number(order.called);
-            self.orders.push(order.letter.0);
-            self.orders.extend(number.to_be_bytes());
+            self.lists.orders.push((order.letter.0, number));
         }
-        self.row(LOGIC, form.letter.0.into(), start, part);
-    }
-
-    /// From where to where the next so many stand.
-    fn part(&mut self, which: usize, many: usize) -> (u32, u32) {
-        let from = self.counts[which];
-        self.counts[which] += many as u32;
-        (from, self.counts[which])
+        self.row(LOGIC, form.letter.0.into(), start, (from, from + form.orders.len()));
     }
 }
 

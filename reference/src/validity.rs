@@ -1,94 +1,158 @@
-//! Every number of the tables and the state held against its range, as number
-//! 23 of document 01 asks: "a table's or state's number out of range, or a
-//! reference beyond its count". A text that was read never has such a number;
-//! the test is here to be timed.
+//! Number 23 of document 01: "a table's or state's number out of range, or a
+//! reference beyond its count", "Unused places of tables and states are zero,
+//! else 23". The tables are of full size, as the desk is lent them. A text that
+//! was read never has such a number; the test is here to be timed.
 
 use crate::frames::Desk;
-use crate::measure::{Interval, Pitch};
-use crate::state::{
-    Call, Change, PeriodChange, Position, State, ToneSystem, ANCHORS, CHANGES, PERIODS, POSITIONS,
-    SUMS, VALUES, WIDTHS,
-};
-use crate::text::tree::{LogicForm, Target};
+use crate::rows::{self, Lists, Order, Pair, Row, FARTHEST_SUM};
+use crate::state::{State, ANCHORS, CHANGES, PERIODS, POSITIONS, VALUES, WIDTHS};
 use crate::text::Program;
 
-pub fn is_valid(desk: &Desk) -> bool {
-    let program = desk.program();
-    let logics = &program.declared.logics;
-    program.intervals.iter().all(|value| VALUES.contains(&value.0))
-        && program.tones.iter().all(|value| VALUES.contains(&value.0))
-        && program.systems.iter().all(is_valid_call)
-        && program.retunings.iter().all(is_valid_call)
-        && logics.iter().all(|logic| is_valid_logic(program, &logic.form))
+/// "intervals, tones | 256 each", "tone systems, logics | 32 each", "retunings |
+/// 128", "positions in one list | 60", "orders in all logics together | 512".
+const ROWS: usize = 256 + 256 + 32 + 32 + 128;
+const TONES: usize = 32 * POSITIONS;
+const CHANGES_IN_ALL: usize = 128 * POSITIONS;
+const ORDERS: usize = 512;
+
+const UNUSED: Row = [0; 5];
+
+/// Tables of full size: what is not used is zero.
+pub struct Tables {
+    lists: Lists,
+    used: [usize; 4],
+}
+
+impl Tables {
+    pub fn of(program: &Program) -> Self {
+        let mut lists = Lists::of(program);
+        let used = lists.counts().map(|count| count as usize);
+        lists.rows.resize(ROWS, UNUSED);
+        lists.tones.resize(TONES, (0, 0));
+        lists.changes.resize(CHANGES_IN_ALL, (0, 0));
+        lists.orders.resize(ORDERS, (0, 0));
+        Tables { lists, used }
+    }
+
+    fn is_valid(&self) -> bool {
+        let Lists { rows, tones, changes, orders } = &self.lists;
+        let [row_count, tone_count, change_count, order_count] = self.used;
+        let has_sizes = rows.len() == ROWS
+            && tones.len() == TONES
+            && changes.len() == CHANGES_IN_ALL
+            && orders.len() == ORDERS;
+        let has_room = row_count <= ROWS
+            && tone_count <= TONES
+            && change_count <= CHANGES_IN_ALL
+            && order_count <= ORDERS;
+        has_sizes
+            && has_room
+            && rows.iter().take(row_count).all(|row| self.is_row(row))
+            && rows.iter().skip(row_count).all(|row| *row == UNUSED)
+            && is_list(tones, tone_count, 1, |number| VALUES.contains(&number.into()))
+            && is_list(changes, change_count, 2, is_sum)
+            && orders.iter().take(order_count).all(|order| self.is_order(order))
+            && orders.iter().skip(order_count).all(|order| *order == (0, 0))
+    }
+
+    fn is_row(&self, row: &Row) -> bool {
+        let &[form, first, second, from, to] = row;
+        let [_, tones, changes, orders] = self.used;
+        let has_none = from == 0 && to == 0;
+        let has = |least: usize, most: usize, count: usize| {
+            let (Ok(from), Ok(to)) = (usize::try_from(from), usize::try_from(to)) else {
+                return false;
+            };
+            from + least <= to && to <= from + most && to <= count
+        };
+        match u8::try_from(form) {
+            Ok(rows::INTERVAL | rows::TONE) => {
+                VALUES.contains(&first.into()) && second == 0 && has_none
+            }
+            Ok(rows::SYSTEM) => {
+                ANCHORS.contains(&first.into())
+                    && PERIODS.contains(&second.into())
+                    && has(1, POSITIONS, tones)
+            }
+            Ok(rows::ANCHOR) => is_amount(3, first, second) && has_none,
+            Ok(rows::WIDTH) => is_amount(5, first, second) && has_none,
+            Ok(rows::PERIOD) => (0..=1).contains(&first) && is_sum(second) && has_none,
+            Ok(rows::TONES) => first == 0 && second == 0 && has(1, POSITIONS, changes),
+            Ok(rows::LOGIC) => {
+                is_letter(first)
+                    && (second == 0 || self.has_form(second - 1, rows::SYSTEM, rows::TONES))
+                    && has(0, ORDERS, orders)
+            }
+            _ => false,
+        }
+    }
+
+    fn is_order(&self, &(letter, called): &Order) -> bool {
+        is_letter(letter.into()) && self.has_form(called.into(), rows::SYSTEM, rows::LOGIC)
+    }
+
+    /// A reference to a used row of a form from one to another.
+    fn has_form(&self, number: i32, first: u8, last: u8) -> bool {
+        let mut used = self.lists.rows.iter().take(self.used[0]);
+        let row = usize::try_from(number).ok().and_then(|number| used.nth(number));
+        row.is_some_and(|row| (i32::from(first)..=i32::from(last)).contains(&row[0]))
+    }
+}
+
+/// The used ones have a kind and a number in its range, 0 where the kind is 0;
+/// the others are zero.
+fn is_list(list: &[Pair], used: usize, last: u8, is_number: impl Fn(i32) -> bool) -> bool {
+    let is_pair = |(kind, number): &Pair| {
+        *kind <= last && is_number(*number) && (*kind != 0 || *number == 0)
+    };
+    list.iter().take(used).all(is_pair) && list.iter().skip(used).all(|pair| *pair == (0, 0))
+}
+
+fn is_amount(last: i32, code: i32, n: i32) -> bool {
+    (0..=last).contains(&code)
+        && u16::try_from(n).is_ok_and(|n| CHANGES.contains(&n))
+        && (code != 0 || n == 0)
+        && (code != 5 || n >= 1)
+}
+
+fn is_sum(number: i32) -> bool {
+    i64::from(number).abs() <= FARTHEST_SUM
+}
+
+fn is_letter(number: i32) -> bool {
+    u8::try_from(number).is_ok_and(|letter| letter.is_ascii_uppercase())
+}
+
+pub fn is_valid(tables: &Tables, desk: &Desk) -> bool {
+    let logics = desk.program().declared.logics.len();
+    tables.is_valid()
         && is_valid_state(desk.state())
-        && desk.active().is_none_or(|logic| logic < logics.len())
+        && desk.active().is_none_or(|logic| logic < logics)
 }
 
 fn is_valid_state(state: &State) -> bool {
     let unused = state.tones.iter().skip(state.width);
     ANCHORS.contains(&state.anchor.0)
         && WIDTHS.contains(&(state.width as i64))
-        && state.tones.iter().all(is_valid_tone)
+        && state.tones.iter().flatten().all(|pitch| VALUES.contains(&pitch.0))
         && unused.into_iter().all(Option::is_none)
-        && is_valid_period(state.period)
+        && PERIODS.contains(&state.period.0)
 }
 
-fn is_valid_tone(tone: &Option<Pitch>) -> bool {
-    tone.is_none_or(|pitch| VALUES.contains(&pitch.0))
-}
+#[cfg(test)]
+mod tests {
+    use super::*;
+    use crate::text;
+    use crate::text::tests::CASE_S;
 
-fn is_valid_period(period: Interval) -> bool {
-    PERIODS.contains(&period.0)
-}
-
-fn is_valid_call(call: &Call) -> bool {
-    match call {
-        Call::Anchor(change) | Call::Width(change) => is_valid_change(*change),
-        Call::Period(PeriodChange::To(sum) | PeriodChange::By(sum)) => is_valid_sum(sum.0),
-        Call::Tones(positions) => {
-            (1..=POSITIONS).contains(&positions.len()) && positions.iter().all(is_valid_position)
-        }
-        Call::System(system) => is_valid_system(system),
+    #[test]
+    fn tables_of_a_text_are_valid_until_damaged() {
+        let mut tables = Tables::of(&text::read(CASE_S.as_bytes()).unwrap());
+        assert!(tables.is_valid());
+        tables.lists.changes[CHANGES_IN_ALL - 1].1 = 1;
+        assert!(!tables.is_valid());
+        tables.lists.changes[CHANGES_IN_ALL - 1].1 = 0;
+        tables.lists.rows[4][4] = 3;
+        assert!(!tables.is_valid());
     }
-}
-
-fn is_valid_change(change: Change) -> bool {
-    match change {
-        Change::Kept => true,
-        Change::To(n) | Change::Plus(n) | Change::Minus(n) | Change::Times(n) => {
-            CHANGES.contains(&n)
-        }
-        Change::Over(n) => CHANGES.contains(&n.get()),
-    }
-}
-
-fn is_valid_position(position: &Position) -> bool {
-    match position {
-        Position::Muted => true,
-        Position::At(pitch) => is_valid_sum(pitch.0),
-        Position::By(by) => is_valid_sum(by.0),
-    }
-}
-
-fn is_valid_sum(sum: i64) -> bool {
-    SUMS.contains(&sum)
-}
-
-fn is_valid_system(system: &ToneSystem) -> bool {
-    ANCHORS.contains(&system.anchor.into())
-        && (1..=POSITIONS).contains(&system.tones.len())
-        && system.tones.iter().all(is_valid_tone)
-        && is_valid_period(system.period)
-}
-
-fn is_valid_logic(program: &Program, logic: &LogicForm<Target>) -> bool {
-    let is_within = |target: Target| match target {
-        Target::Retuning(i) => i < program.retunings.len(),
-        Target::System(i) => i < program.systems.len(),
-        Target::Logic(i) => i < program.declared.logics.len(),
-    };
-    let is_letter = |letter: u8| letter.is_ascii_uppercase();
-    is_letter(logic.letter.0)
-        && logic.start.is_none_or(is_within)
-        && logic.orders.iter().all(|order| is_letter(order.letter.0) && is_within(order.called))
 }

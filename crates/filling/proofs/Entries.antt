@@ -1,22 +1,20 @@
 -- A declaration that can be written: the numbers of its row fit the table, and the row says how many there are then. Assumes nothing.
-use mathlib.Core.Path.{_≡_, refl, sym, _∙_, ap}
-use mathlib.Core.List.{List, map}
-use mathlib.Core.Option.{Option}
-use Prim.Native.Nat.{ℕ, _+_, _≤_, _<_, _^_}
+use mathlib.Core.Path.{_≡_}
+use mathlib.Core.List.{List}
+use Prim.Native.Nat.{ℕ, _+_, _<_, _^_}
 use native.Mathlib.Nat.{add-zero}
 use native.Mathlib.Omega.{arith}
-use lib.IntN.{ℤ, pos, natAbs}
-use lib.ListN.{length, length-map}
+use lib.IntN.{ℤ, pos}
+use lib.ListN.{length-map}
 use mir.Syntax.{w32}
 use mir.Val.{SFits}
 use Rattle.integers.proofs.Signed.{signed}
-use Rattle.values.specs.Values.{Term}
 use Rattle.tables.specs.declared.Counts.{Counts}
-use Rattle.tables.specs.Layout.{numbersOf, amountNumber, mostTones, mostChanges, mostOrders}
+use Rattle.tables.specs.Layout.{numbersOf}
 use Rattle.tables.specs.Values.{NumbersFit}
-use Rattle.program.specs.Program.{Declaration, ratio, root, sequence, frequency, from, system, anchor, width, freshPeriod, onwardPeriod, tones, logic, Position, Order}
-use Rattle.filling.specs.Tables.{sum, sumOf, toneOf, changeOf, startCode}
-use Rattle.filling.specs.Inner.{valueIn, calledBy, Writable, rowAfter, oneMore, countedBy, counted}
+use Rattle.program.specs.Program.{Declaration, ratio, root, sequence, frequency, from, system, anchor, width, freshPeriod, onwardPeriod, tones, logic}
+use Rattle.filling.specs.Tables.{sumOf, toneOf, changeOf}
+use Rattle.filling.specs.Inner.{valueIn, Writable, rowAfter, oneMore, countedBy, counted}
 use Rattle.filling.proofs.Caps.{capped-small}
 use Rattle.filling.proofs.Forms.{start-any}
 

@@ -1,21 +1,18 @@
 -- Tables that are filled declaration by declaration: what is filled, and what is left of the program. Assumes nothing.
 use mathlib.Core.Path.{_≡_, refl, sym, _∙_, ap, subst}
 use mathlib.Core.List.{List, [], _∷_, _++_, map, map-append, append-assoc, append-nil}
-use Prim.Native.Nat.{ℕ, zero, suc, _+_, _*_, _≤_, _<_}
+use Prim.Native.Nat.{ℕ, _+_, _*_, _≤_, _<_}
 use native.Mathlib.Numerals.{add-one}
 use native.Mathlib.Omega.{arith}
 use lib.IntN.{ℤ, pos}
-use lib.ListN.{length, length-append, length-map, length-replicate, getD, drop, drop-of-length-le, replicate}
+use lib.ListN.{length, length-append, length-map, getD, drop, drop-of-length-le}
 use lib.Seq.{sets, append-snoc}
-use Rattle.tuning.specs.declared.Tone.{Tone}
-use Rattle.tuning.specs.declared.ToneChange.{ToneChange}
 use Rattle.names.proofs.Lists.{here}
 use Rattle.tables.specs.declared.Counts.{Counts}
-use Rattle.tables.specs.declared.Row.{Row}
 use Rattle.tables.specs.Layout.{Tables, rowWidth, mostRows, mostTones, mostChanges, mostOrders, numbersOf, written, writtenAll, full, soundingOf, pitchOf, changeCode, changeNumber}
 use Rattle.tables.proofs.Lists.{full-next, full-length}
 use Rattle.tables.proofs.Stored.{full-none, written-length, rows-next}
-use Rattle.program.specs.Program.{Declaration, Placed, Program, Order}
+use Rattle.program.specs.Program.{Declaration, Placed, Program}
 use Rattle.program.specs.Meaning.{nothing, declarationAt}
 use Rattle.filling.specs.Tables.{tonesOf, changesOf, ordersOf, Filled, filledFrom, laidOut}
 use Rattle.filling.specs.Inner.{letterOf, callOf, rowAfter, Lists, listed, counted, Added, blank}
@@ -85,7 +82,12 @@ joined-more value used x ds f =
     let d = x .is in
     let g = after value (counted value used d) ds in
     rw (← add-one (used .rows))
-    (sym (rw (append-snoc (f .rows) (rowAfter value used d) (g .rows), append-assoc (f .tones) (tonesOf value d) (g .tones), append-assoc (f .changes) (changesOf value d) (g .changes), append-assoc (f .orders) (ordersOf d) (g .orders))))
+    (sym (rw (
+      append-snoc (f .rows) (rowAfter value used d) (g .rows),
+      append-assoc (f .tones) (tonesOf value d) (g .tones),
+      append-assoc (f .changes) (changesOf value d) (g .changes),
+      append-assoc (f .orders) (ordersOf d) (g .orders),
+    )))
 
 joined-none : (value : ℕ → ℤ) (used : Counts) (f : Filled) → joined f (after value used []) ≡ f
 unfolding filledFrom
@@ -122,21 +124,25 @@ filling-none value p =
           lists-equal (full-none 0 mostTones) (full-none (pos 0) mostTones) (full-none 0 mostChanges) (full-none (pos 0) mostChanges) (full-none 0 mostOrders) (full-none 0 mostOrders);
     }
 
--- the tables of what is filled
+-- the tables with these rows, lists and counts
+abbrev pub together : List ℤ → Lists → List ℕ → Tables
+together rows l counts = record {
+  rows = rows;
+  sounding = l .sounding;
+  tones = l .tones;
+  kinds = l .kinds;
+  changes = l .changes;
+  letters = l .letters;
+  calls = l .calls;
+  counts = counts;
+}
+
+abbrev pub fourCounts : Counts → List ℕ
+fourCounts used = used .rows ∷ used .tones ∷ used .changes ∷ used .orders ∷ []
+
 laid : (f : Filled) {used : Counts} {rows : List ℤ} {lists : Lists} → rows ≡ laidRows f → lists ≡ laidLists f
     → length (f .rows) ≡ used .rows → length (f .tones) ≡ used .tones → length (f .changes) ≡ used .changes → length (f .orders) ≡ used .orders
-    → _≡_ {A = Tables}
-    (record {
-      rows = rows;
-      sounding = lists .sounding;
-      tones = lists .tones;
-      kinds = lists .kinds;
-      changes = lists .changes;
-      letters = lists .letters;
-      calls = lists .calls;
-      counts = used .rows ∷ used .tones ∷ used .changes ∷ used .orders ∷ [];
-    })
-    (laidOut f)
+    → together rows lists (fourCounts used) ≡ laidOut f
 laid f r l a b c d = rw (r, l, ← a, ← b, ← c, ← d)
 
 -- the tables have their full sizes
@@ -172,19 +178,7 @@ within-front f g w =
 
 module _ {value : ℕ → ℤ} {p : Program} {d : ℕ} {used : Counts} {rows : List ℤ} {lists : Lists} (h : Filling value p d used rows lists) where
   -- all of them
-  pub filling-all : length p ≤ d
-      → _≡_ {A = Tables}
-      (record {
-        rows = rows;
-        sounding = lists .sounding;
-        tones = lists .tones;
-        kinds = lists .kinds;
-        changes = lists .changes;
-        letters = lists .letters;
-        calls = lists .calls;
-        counts = used .rows ∷ used .tones ∷ used .changes ∷ used .orders ∷ [];
-      })
-      (laidOut (filledFrom value 0 0 0 0 p))
+  pub filling-all : length p ≤ d → together rows lists (fourCounts used) ≡ laidOut (filledFrom value 0 0 0 0 p)
   filling-all k =
       let e : joined (h .front) (after value used []) ≡ filledFrom value 0 0 0 0 p =
       ap (λ (ds : Program). joined (h .front) (after value used ds)) (sym (drop-of-length-le p k)) ∙ h .whole in
@@ -224,7 +218,8 @@ module _ {value : ℕ → ℤ} {p : Program} {d : ℕ} {used : Counts} {rows : L
       pub room-orders : used .orders + length (ordersOf present) ≤ mostOrders
       room-orders = omega (arith, within-next .orders, length-append (h .front .orders) (ordersOf present), h .some-orders)
 
-      pub filling-next : {used′ : Counts} {rows′ : List ℤ} {lists′ : Lists} → Added value used present rows lists used′ rows′ lists′ → Filling value p (d + 1) used′ rows′ lists′
+      pub filling-next : {used′ : Counts} {rows′ : List ℤ} {lists′ : Lists} → Added value used present rows lists used′ rows′ lists′
+          → Filling value p (d + 1) used′ rows′ lists′
       filling-next {used′} a =
           let f = h .front in
           let row = rowAfter value used present in

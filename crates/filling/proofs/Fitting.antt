@@ -4,37 +4,24 @@ use mathlib.Core.List.{List, [], _∷_, map}
 use mathlib.Core.Option.{Option, some, none}
 use Prim.Native.Nat.{ℕ, suc, _+_, _≤_, _<_, _^_}
 use native.Mathlib.Omega.{arith}
-use lib.IntN.{ℤ, _+ℤ_, _*ℤ_}
+use lib.IntN.{ℤ}
 use lib.ListN.{length}
 use Rattle.tuning.specs.declared.Operator.the-variants.{Plus, Minus, Times, Divide}
 use Rattle.tuning.specs.declared.Amount.{Amount}
 use Rattle.tuning.specs.declared.Amount.the-variants.{Kept, Absolute, Relative}
-use Rattle.tuning.specs.declared.Tone.{Tone}
-use Rattle.tuning.specs.declared.Tone.the-variants.{At}
-use Rattle.tuning.specs.declared.ToneChange.{ToneChange}
-use Rattle.tuning.specs.declared.ToneChange.the-variants.{Move, Set}
-use Rattle.tuning.specs.declared.PeriodChange.the-variants.{Fresh, Onward}
-use Rattle.tuning.specs.declared.Retuning.the-variants.{Period}
-use Rattle.values.specs.Values.{Term, weight}
+use Rattle.values.specs.Values.{Term}
 use Rattle.values.specs.Rows.{rows}
-use Rattle.tables.specs.declared.Row.{Row}
 use Rattle.tables.specs.declared.Row.the-variants as row
 use Rattle.tables.specs.Layout.{amountNumber}
 use Rattle.program.specs.Program.{Declaration, ratio, root, sequence, frequency, from, system, anchor, width, freshPeriod, onwardPeriod, tones, logic, Placed, Program, Position, mute, same, named, Order}
 use Rattle.program.specs.Allowed as allowed
 use Rattle.program.specs.Allowed.{Each, Terms, AnchorAmount, WidthAmount, FitStart, Fits}
-use Rattle.filling.specs.Tables.{sumOf, capped, toneOf, tonesOf, changeOf, changesOf, ordersOf, startCode, rowOf, Filled, filledFrom}
-use Rattle.filling.specs.Inner.{Valued, valueIn, calledBy, FitValue, FitTerm, Summable, FitPlace, FitPosition, FitOrder, FitParts}
+use Rattle.filling.specs.Tables.{sumOf, toneOf, tonesOf, changeOf, changesOf, ordersOf, rowOf, filledFrom}
+use Rattle.filling.specs.Inner.{Valued, calledBy, FitValue, FitTerm, Summable, FitPlace, FitPosition, FitOrder, FitParts}
+use Rattle.filling.proofs.Each.{each-map}
 use Rattle.filling.proofs.Forms.{start-any}
 
-each-map : {A : Type 0} {P Q : A → Type 0} → ((x : A) → P x → Q x) → (xs : List A) → Each P xs → Each Q xs
-each-map f [] h = tt
-each-map f (x ∷ xs) h = (f x (h .0), each-map f xs (h .1))
-
 -- ---- what is required of a declaration
-
-amount-small : (m : Amount) → amountNumber m ≤ 9999 → amountNumber m < 2 ^ 16
-amount-small m h = omega arith
 
 anchor-fit : (m : Amount) → AnchorAmount m → amountNumber m < 2 ^ 16
 anchor-fit Kept h = omega arith

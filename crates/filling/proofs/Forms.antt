@@ -13,6 +13,7 @@ use Rattle.grammar.specs.Items.{itemAt}
 use Rattle.names.specs.Parts as parts
 use Rattle.names.specs.Parts.{Part, declares, gives, uses, says, part}
 use Rattle.values.specs.Values.{Term}
+use Rattle.values.proofs.Cases.{clash}
 use Rattle.tables.specs.Layout.{soundingOf, pitchOf, changeCode, changeNumber}
 use Rattle.tables.specs.declared.Counts.{Counts}
 use Rattle.tables.specs.declared.Row.{Row}
@@ -21,7 +22,7 @@ use Rattle.program.specs.Program.{Declaration, declarationOf, periodBy, periodO
 use Rattle.valuation.specs.Inner.{between}
 use Rattle.filling.specs.Tables.{tonesOf, changesOf, startCode, rowOf}
 use Rattle.filling.specs.Inner.{valueIn, letterOf, callOf, calledBy, begins, Summable, FitParts, Stored, rowAfter, plainRow, Lists, listed, Rowed}
-use Rattle.filling.proofs.Inside.{tag, Inside, add, subtract, muted, kept, tone, start, order, outside, inside, no-begin, impossible}
+use Rattle.filling.proofs.Inside.{tag, Inside, add, subtract, muted, kept, tone, start, order, outside, no-begin}
 use Rattle.valuation.proofs.Between.{between-none}
 use Rattle.filling.proofs.Items.{item-next}
 
@@ -110,9 +111,9 @@ as-plain values used (item.Subtract a b) h e rest = record { row = refl; lists =
 as-plain values used (item.Frequency a) h e rest = record { row = refl; lists = λ l. refl; fit = λ f. f }
 as-plain values used (item.Base a) h e rest = record { row = refl; lists = λ l. refl; fit = λ f. f }
 as-plain values used (item.AnchorKey a) h e rest = absurd (miss plains 7 tt h)
-as-plain values used item.MutedPosition h e rest = impossible e
-as-plain values used item.KeptPosition h e rest = impossible e
-as-plain values used (item.TonePosition a) h e rest = impossible e
+as-plain values used item.MutedPosition h e rest = absurd (clash refl e)
+as-plain values used item.KeptPosition h e rest = absurd (clash refl e)
+as-plain values used (item.TonePosition a) h e rest = absurd (clash refl e)
 as-plain values used item.AnchorKept h e rest = record { row = refl; lists = λ l. refl; fit = λ f. f }
 as-plain values used (item.AnchorTo a) h e rest = record { row = refl; lists = λ l. refl; fit = λ f. f }
 as-plain values used (item.AnchorUp a) h e rest = record { row = refl; lists = λ l. refl; fit = λ f. f }
@@ -132,14 +133,14 @@ as-plain values used (item.Order a b) h e rest = record { row = refl; lists = λ
 -- ---- positions
 
 pub as-tones : {i : Item} → Inside i → begins (part i) ≡ true → (rest : List Item) → declarationOf (i ∷ rest) ≡ tones (grouped (i ∷ rest) .positions)
-as-tones add e rest = impossible (sym e)
-as-tones subtract e rest = impossible (sym e)
+as-tones add e rest = absurd (clash e refl)
+as-tones subtract e rest = absurd (clash e refl)
 as-tones muted e rest = refl
 as-tones kept e rest = refl
 as-tones tone e rest = refl
-as-tones start e rest = impossible (sym e)
-as-tones order e rest = impossible (sym e)
-as-tones (outside o) e rest = impossible (sym e ∙ no-begin o)
+as-tones start e rest = absurd (clash e refl)
+as-tones order e rest = absurd (clash e refl)
+as-tones (outside o) e rest = absurd (clash e (no-begin o))
 
 -- ---- periods: a new one, or onto the old one, by the first item after `[ ]`
 

@@ -1,35 +1,36 @@
 -- Where the terms end that stand before the next position. Assumes nothing.
 use mathlib.Core.Path.{_≡_, refl, sym, _∙_, ap}
-use mathlib.Core.Bool.{Bool, true, false}
-use mathlib.Core.List.{List, [], _∷_, _++_}
+use mathlib.Core.Bool.{true, false}
+use mathlib.Core.List.{List, [], _++_}
 use Prim.Native.Nat.{ℕ, _+_, _≤_, _<_}
 use native.Mathlib.Omega.{arith}
 use Rattle.grammar.specs.declared.Item.{Item}
 use Rattle.grammar.specs.Items.{itemAt}
 use Rattle.names.specs.Parts.{part}
 use Rattle.values.specs.Values.{Term}
-use Rattle.program.specs.Program.{Grouped, Position, termThen, termsOf, groupThen, grouped}
+use Rattle.values.proofs.Cases.{clash}
+use Rattle.program.specs.Program.{Grouped, termThen, groupThen, grouped}
 use Rattle.valuation.specs.Inner.{between}
 use Rattle.filling.specs.Inner.{begins, positionBy, positionAt}
-use Rattle.filling.proofs.Inside.{Inside, add, subtract, muted, kept, tone, start, order, outside, inside, impossible, no-begin}
-use Rattle.filling.proofs.Items.{terms-end, terms-next, groups-end, groups-next}
+use Rattle.filling.proofs.Inside.{Inside, add, subtract, muted, kept, tone, start, order, outside, inside, no-begin}
+use Rattle.filling.proofs.Items.{termsFrom, terms-end, terms-next, groups-end, groups-next}
 
 before-none : {i : Item} → Inside i → (g : Grouped) → begins (part i) ≡ true → groupThen (part i) g .before ≡ []
-before-none add g e = impossible (sym e)
-before-none subtract g e = impossible (sym e)
+before-none add g e = absurd (clash e refl)
+before-none subtract g e = absurd (clash e refl)
 before-none muted g e = refl
 before-none kept g e = refl
 before-none tone g e = refl
-before-none start g e = impossible (sym e)
-before-none order g e = impossible (sym e)
-before-none (outside o) g e = impossible (sym e ∙ no-begin o)
+before-none start g e = absurd (clash e refl)
+before-none order g e = absurd (clash e refl)
+before-none (outside o) g e = absurd (clash e (no-begin o))
 
 before-first : {i : Item} → Inside i → (g : Grouped) → begins (part i) ≡ false → groupThen (part i) g .before ≡ termThen (part i) [] ++ g .before
 before-first add g e = refl
 before-first subtract g e = refl
-before-first muted g e = impossible e
-before-first kept g e = impossible e
-before-first tone g e = impossible e
+before-first muted g e = absurd (clash refl e)
+before-first kept g e = absurd (clash refl e)
+before-first tone g e = absurd (clash refl e)
 before-first start g e = refl
 before-first order g e = refl
 before-first (outside o) g e =
@@ -38,26 +39,23 @@ before-first (outside o) g e =
 abbrev beforeIn : List ℕ → ℕ → ℕ → List Term
 beforeIn l i to = grouped (between l i to) .before
 
-abbrev termsIn : List ℕ → ℕ → ℕ → List Term
-termsIn l i to = termsOf (between l i to)
-
 -- no position from one place on to the i-th: wherever the terms end from there, they end from the first place
 pub record Passing (l : List ℕ) (from to i : ℕ) : Type 0 where
   pub upto : i ≤ to
-  pub end : (r : ℕ) → i ≤ r → beforeIn l i to ≡ termsIn l i r → beforeIn l from to ≡ termsIn l from r
+  pub end : (r : ℕ) → i ≤ r → beforeIn l i to ≡ termsFrom l i r → beforeIn l from to ≡ termsFrom l from r
 
 pub passing-none : (l : List ℕ) (from to : ℕ) → from ≤ to → Passing l from to from
 passing-none l from to h = record { upto = h; end = λ r k e. e }
 
 module _ {l : List ℕ} {from to i : ℕ} (h : Passing l from to i) where
-  pub passing-all : to ≤ i → beforeIn l from to ≡ termsIn l from to
+  pub passing-all : to ≤ i → beforeIn l from to ≡ termsFrom l from to
   passing-all k = h .end to (h .upto) (ap (λ (g : Grouped). g .before) (groups-end l i to k) ∙ sym (terms-end l i to k))
 
   module _ {x : Item} (e : x ≡ itemAt l i) (k : i < to) where
     at-item : beforeIn l i to ≡ groupThen (part x) (grouped (between l (i + 1) to)) .before
     at-item = ap (λ (g : Grouped). g .before) (groups-next l i to e k)
 
-    pub passing-stop : begins (part x) ≡ true → beforeIn l from to ≡ termsIn l from i
+    pub passing-stop : begins (part x) ≡ true → beforeIn l from to ≡ termsFrom l from i
     passing-stop b =
         h .end i (omega arith) (at-item ∙ before-none (inside x) (grouped (between l (i + 1) to)) b ∙ sym (terms-end l i i (omega arith)))
 

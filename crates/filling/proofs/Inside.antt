@@ -1,10 +1,10 @@
 -- The items of a declaration's lists, each told by its variant, and what the others leave alone. Assumes nothing.
-use mathlib.Core.Path.{_≡_, refl, ap, subst}
-use mathlib.Core.Bool.{true, false}
+use mathlib.Core.Path.{_≡_, refl, ap}
+use mathlib.Core.Bool.{false}
 use mathlib.Core.List.{List, [], _∷_}
 use mathlib.Core.Option.{Option}
 use Prim.Native.Nat.{ℕ}
-use lib.Dec.{T, ltb}
+use lib.Dec.{ltb}
 use lib.ListN.{length}
 use types.Run.{OneOf, miss}
 use denote.Enum.Declared.{tagOf}
@@ -16,6 +16,7 @@ use Rattle.values.specs.Values.{Term}
 use Rattle.program.specs.Program.{Grouped, Order, termThen, placeThen, groupThen, orderThen, startThen}
 use Rattle.filling.specs.Inner.{begins, positionBy}
 
+-- an item that gives nothing to any list
 pub record Outside (i : Item) : Type 0 where
   pub term : (ts : List Term) → termThen (part i) ts ≡ ts
   pub place : (l : List (Option ℕ)) → placeThen (part i) l ≡ l
@@ -23,6 +24,7 @@ pub record Outside (i : Item) : Type 0 where
   pub order : (l : List Order) → orderThen (part i) l ≡ l
   pub start : (s : Option ℕ) → startThen (part i) s ≡ s
 
+-- the others, one by one
 pub data Inside : Item → Type 0 where
   add : {f n : ℕ} → Inside (item.Add f n)
   subtract : {f n : ℕ} → Inside (item.Subtract f n)
@@ -136,10 +138,7 @@ no-start start h s = absurd (miss noStarts 24 tt h)
 no-start order h s = refl
 no-start (outside o) h s = o .start s
 
--- ---- an item that begins no position
-
-pub impossible : {A : Type 0} → true ≡ false → A
-impossible e = absurd (subst T e tt)
+-- ---- one that is none of them begins no position
 
 pub no-begin : {i : Item} → Outside i → begins (part i) ≡ false
 no-begin o = ap (λ (g : Grouped). ltb 0 (length (g .positions))) (o .group (record { before = []; positions = [] }))

@@ -7,7 +7,7 @@ use Rattle.grammar.specs.declared.Item.{Item}
 use Rattle.grammar.specs.Items.{itemAt}
 use Rattle.names.specs.Parts.{part}
 use Rattle.values.specs.Values.{Term}
-use Rattle.program.specs.Program.{Position, Order, Grouped, termThen, termsOf, placeThen, placesOf, groupThen, grouped, orderThen, ordersOf, startThen, startOf}
+use Rattle.program.specs.Program.{Order, Grouped, termThen, termsOf, placeThen, placesOf, groupThen, grouped, orderThen, ordersOf, startThen, startOf}
 use Rattle.valuation.specs.Inner.{between}
 use Rattle.filling.specs.Inner.{positionBy}
 use Rattle.valuation.proofs.Between.{between-none, between-here}
@@ -59,9 +59,12 @@ position-first (outside o) g =
 
 -- ---- the same from one place of a slice to another
 
+abbrev pub termsFrom : List ℕ → ℕ → ℕ → List Term
+termsFrom l i to = termsOf (between l i to)
+
 module _ (l : List ℕ) (i to : ℕ) where
   module _ (k : to ≤ i) where
-    pub terms-end : termsOf (between l i to) ≡ []
+    pub terms-end : termsFrom l i to ≡ []
     unfolding termsOf
     terms-end = ap termsOf (between-none l i to k)
 
@@ -85,9 +88,9 @@ module _ (l : List ℕ) (i to : ℕ) where
     pub item-next : between l i to ≡ x ∷ between l (i + 1) to
     item-next = rw e (between-here l i to k)
 
-    pub terms-next : termsOf (between l i to) ≡ termThen (part x) [] ++ termsOf (between l (i + 1) to)
+    pub terms-next : termsFrom l i to ≡ termThen (part x) [] ++ termsFrom l (i + 1) to
     unfolding termsOf
-    terms-next = ap termsOf item-next ∙ term-first (inside x) (termsOf (between l (i + 1) to))
+    terms-next = ap termsOf item-next ∙ term-first (inside x) (termsFrom l (i + 1) to)
 
     pub places-next : placesOf (between l i to) ≡ placeThen (part x) [] ++ placesOf (between l (i + 1) to)
     unfolding placesOf

@@ -1,5 +1,6 @@
 pub mod Caps
 pub mod CaseS
+pub mod Each
 pub mod Entries
 pub mod Filling
 pub mod Fitting

@@ -15,21 +15,15 @@ use Rattle.grammar.specs.Reading.{mostTerms}
 use Rattle.names.specs.Parts.{part}
 use Rattle.values.specs.Values.{Term, weight}
 use Rattle.values.specs.Inner.{greatestFactor, largestTerm}
-use Rattle.program.specs.Program.{termThen, termsOf}
+use Rattle.program.specs.Program.{termThen}
 use Rattle.program.specs.Allowed.{Each}
-use Rattle.valuation.specs.Inner.{between}
 use Rattle.filling.specs.Tables.{sumOf}
 use Rattle.filling.specs.Inner.{valueIn, FitTerm, Summable}
-use Rattle.filling.proofs.Items.{terms-end, terms-next}
+use Rattle.filling.proofs.Each.{each-append}
+use Rattle.filling.proofs.Items.{termsFrom, terms-end, terms-next}
 
 abbrev termOf : Item → List Term
 termOf i = termThen (part i) []
-
--- ---- lists of which each is fit
-
-pub each-append : {A : Type 0} (P : A → Type 0) (xs ys : List A) → Each P (xs ++ ys) → Each P xs × Each P ys
-each-append P [] ys h = (tt, h)
-each-append P (x ∷ xs) ys h = let r = each-append P xs ys (h .1) in ((h .0, r .0), r .1)
 
 -- ---- sums
 
@@ -66,9 +60,6 @@ pub sum-limit : {values : List ℤ} {ts : List Term} → Summable values ts → 
 sum-limit {values} {ts} h = omega (arith, sum-size values ts (h .each), h .few)
 
 -- ---- adding up the terms of the items from one place to another: the sum of those in front of the i-th, and what is left
-
-abbrev termsFrom : List ℕ → ℕ → ℕ → List Term
-termsFrom l i to = termsOf (between l i to)
 
 pub record Adding (values : List ℤ) (l : List ℕ) (from to i : ℕ) (s : ℤ) : Type 0 where
   pub each : Each (FitTerm values) (termsFrom l i to)

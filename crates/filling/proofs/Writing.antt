@@ -8,7 +8,7 @@ use lib.ListN.{length, length-map, set}
 use lib.Seq.{sets, length-sets}
 use Rattle.program.specs.Allowed.{Each}
 use Rattle.filling.specs.Inner.{Appended}
-use Rattle.filling.proofs.Terms.{each-append}
+use Rattle.filling.proofs.Each.{each-append}
 
 -- all of them are to be written, and these are left
 record Writing {A B C : Type 0} (f : A → B) (g : A → C) (all : List A) (at : ℕ) (bs₀ : List B) (cs₀ : List C) (left : List A) (bs : List B) (cs : List C) (count : ℕ) : Type 0 where

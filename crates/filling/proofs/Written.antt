@@ -1,6 +1,6 @@
 -- The tables of a text whose items are ready and whose values are known, declaration by declaration. Assumes nothing.
-use mathlib.Core.Path.{_≡_, refl, sym, _∙_, ap, subst}
-use mathlib.Core.List.{List, [], _∷_}
+use mathlib.Core.Path.{_≡_, sym, _∙_, ap, subst}
+use mathlib.Core.List.{List}
 use Prim.Native.Nat.{ℕ, suc, _+_, _≤_, _<_}
 use native.Mathlib.Omega.{arith}
 use lib.IntN.{ℤ}
@@ -16,7 +16,7 @@ use Rattle.filling.specs.Tables.{filledFrom, laidOut, tablesOf}
 use Rattle.filling.specs.Inner.{Valued, blank, valueIn, FitValue, Writable, Lists, Added}
 use Rattle.filling.proofs.Fitting.{value-fit, fit-parts, filled-same}
 use Rattle.filling.proofs.Totals.{Within, filled-within}
-use Rattle.filling.proofs.Filling.{Filling, filling-none, filling-all, filling-sized, filling-next, Sized, room-rows, room-tones, room-changes, room-orders}
+use Rattle.filling.proofs.Filling.{together, fourCounts, Filling, filling-none, filling-all, filling-sized, filling-next, Sized, room-rows, room-tones, room-changes, room-orders}
 
 -- the tables of tones, changes and orders among all
 abbrev pub listsOf : Tables → Lists
@@ -36,19 +36,7 @@ module _ {is : List Item} {items : List ℕ} {count : ℕ} {starts : List ℕ} {
     pub written-sized : Sized rows lists
     written-sized = filling-sized h within
 
-    pub written-all : n ≤ d → {counts : List ℕ} → counts ≡ used .rows ∷ used .tones ∷ used .changes ∷ used .orders ∷ []
-        → _≡_ {A = Tables}
-        (record {
-          rows = rows;
-          sounding = lists .sounding;
-          tones = lists .tones;
-          kinds = lists .kinds;
-          changes = lists .changes;
-          letters = lists .letters;
-          calls = lists .calls;
-          counts = counts;
-        })
-        (tablesOf (programOf is))
+    pub written-all : n ≤ d → {counts : List ℕ} → counts ≡ fourCounts used → together rows lists counts ≡ tablesOf (programOf is)
     unfolding tablesOf
     written-all k {counts} e =
         let p = programOf is in

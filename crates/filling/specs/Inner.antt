@@ -3,13 +3,12 @@ use mathlib.Core.Path.{_≡_}
 use mathlib.Core.Bool.{Bool}
 use mathlib.Core.List.{List, [], _∷_, map}
 use mathlib.Core.Option.{Option, some, none}
-use Prim.Native.Nat.{ℕ, _+_, _-_, _*_, _≤_, _<_, _^_}
+use Prim.Native.Nat.{ℕ, _+_, _*_, _≤_, _<_, _^_}
 use lib.Dec.{ltb}
 use lib.IntN.{ℤ, pos, natAbs}
-use lib.ListN.{length, getD, drop, replicate}
+use lib.ListN.{length, getD, replicate}
 use lib.Seq.{sets}
-use Rattle.grammar.specs.declared.Item.{Item}
-use Rattle.grammar.specs.Items.{rowSize, itemAt}
+use Rattle.grammar.specs.Items.{itemAt}
 use Rattle.grammar.specs.Reading.{mostTerms}
 use Rattle.names.specs.Parts.{Part, part}
 use Rattle.values.specs.Values.{Term, toneLimit}
@@ -22,7 +21,7 @@ use Rattle.tables.specs.declared.Counts.{Counts}
 use Rattle.tables.specs.declared.Row.{Row}
 use Rattle.tables.specs.declared.Row.the-variants as row
 use Rattle.tables.specs.Layout.{Tables, mostRows, rowWidth, mostTones, mostChanges, mostOrders, countsSize, numbersOf, written, amountNumber, soundingOf, pitchOf, changeCode, changeNumber}
-use Rattle.program.specs.Program.{Declaration, ratio, root, sequence, frequency, from, system, anchor, width, freshPeriod, onwardPeriod, tones, logic, Program, Position, mute, same, named, Order, Grouped, groupThen, grouped}
+use Rattle.program.specs.Program.{Declaration, ratio, root, sequence, frequency, from, system, anchor, width, freshPeriod, onwardPeriod, tones, logic, Program, Position, mute, same, named, Order, groupThen, grouped}
 use Rattle.program.specs.Meaning.{valueOf}
 use Rattle.program.specs.Allowed.{Each}
 use Rattle.valuation.specs.Inner.{between}

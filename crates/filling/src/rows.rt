@@ -18,7 +18,6 @@ ghost use mathlib.Core.List.{[], _∷_};
 ghost use Prim.Native.Nat.{_+_, _≤_, _<_};
 ghost use lib.ListN.{length};
 ghost use Rattle.tables.specs.Layout.{mostRows, mostOrders, soundingOf, pitchOf, changeCode, changeNumber};
-ghost use Rattle.names.specs.Parts.{part};
 ghost use Rattle.program.specs.Program.{declarationOf, periodOf, tones, grouped, startOf, ordersOf};
 ghost use Rattle.valuation.specs.Inner.{between};
 ghost use Rattle.filling.specs.Tables.{tonesOf, changesOf, rowOf};

@@ -1,6 +1,6 @@
 -- The invariant: the declarations in front of the present one are written (`Filling`). The measure is the declarations that are left.
-use Prim.Native.Nat.{ℕ, _+_, _-_}
-use mathlib.Core.Path.{_≡_, sym, _∙_, ap}
+use Prim.Native.Nat.{ℕ, _-_}
+use mathlib.Core.Path.{sym, _∙_, ap}
 use native.Mathlib.Omega.{arith}
 use borrow.Author.Needs.{needs}
 use lib.ListN.{length, length-replicate}
@@ -85,8 +85,8 @@ module _ (c : tie.After-slice-known10 Inv-loop μ-loop) where
       let pre = start .before .before .before .before .before .before .before .pre in
       written-sized (pre .0) (pre .1 .0) (loop-holds start)
 
-  at-exit : let now = c .before .before .before .before .before .loop in
-      Sized (now .rows) (record { sounding = now .sounding; tones = now .tones; kinds = now .kinds; changes = now .changes; letters = now .letters; calls = now .calls })
+  at-exit : let last = c .before .before .before .before .before .loop in
+      Sized (last .rows) (record { sounding = last .sounding; tones = last .tones; kinds = last .kinds; changes = last .changes; letters = last .letters; calls = last .calls })
   at-exit =
       let pre = start .before .before .before .before .before .before .before .pre in
       written-sized (pre .0) (pre .1 .0) (c .before .before .before .before .before .loop .inv)

@@ -1,13 +1,11 @@
 -- The invariant: what the present item and those after it start with is what all start with. The measure is the items that are left.
-use Prim.Native.Nat.{ℕ, _+_, _-_, _<_, _^_}
-use mathlib.Core.Path.{_≡_, refl, sym, _∙_, ap, subst}
-use mathlib.Core.Option.{Option, some}
+use Prim.Native.Nat.{_-_}
+use mathlib.Core.Path.{_≡_, refl, sym, _∙_, ap}
+use mathlib.Core.Option.{some}
 use native.Mathlib.Numerals.{add-one}
 use native.Mathlib.Omega.{arith}
 use borrow.Author.Needs.{needs}
-use Rattle.names.specs.Parts.{part}
-use Rattle.program.specs.Program.{startThen, startOf}
-use Rattle.grammar.specs.declared.Item.{Item}
+use Rattle.program.specs.Program.{startOf}
 use Rattle.valuation.specs.Inner.{between}
 use Rattle.filling.specs.Inner.{calledBy}
 use Rattle.filling.proofs.Inside.{inside, no-start}

@@ -1,5 +1,5 @@
 -- By the item with which a position begins; another one gives no change.
-use Prim.Native.Nat.{ℕ, _+_, _<_}
+use Prim.Native.Nat.{ℕ, _+_}
 use mathlib.Core.Path.{_≡_, sym, _∙_, ap, subst}
 use mathlib.Core.List.{List, [], _∷_, map}
 use native.Mathlib.Omega.{arith}
@@ -10,14 +10,12 @@ use mir.Syntax.{w32, w64}
 use mir.Val.{SFits, toZ, ofZ}
 use Rattle.integers.proofs.Signed.{signed, sum}
 use Rattle.tuning.specs.declared.ToneChange.the-variants.{Move, Set}
-use Rattle.grammar.specs.declared.Item.{Item}
-use Rattle.names.specs.Parts.{part}
 use Rattle.values.specs.Values.{Term}
 use Rattle.program.specs.Program.{Position, same, named, grouped}
 use Rattle.program.specs.Allowed.{Each}
 use Rattle.valuation.specs.Inner.{between}
 use Rattle.filling.specs.Tables.{changeOf, capped, sumOf}
-use Rattle.filling.specs.Inner.{valueIn, positionBy, positionAt, FitValue, Summable, FitPosition}
+use Rattle.filling.specs.Inner.{valueIn, positionAt, FitValue, Summable, FitPosition}
 use Rattle.filling.proofs.Inside.{inside, no-position}
 use Rattle.filling.proofs.Groups.{position-by}
 use Rattle.filling.proofs.Terms.{sum-limit}

@@ -1,15 +1,14 @@
 -- By the item; one that is no position gives no tone.
-use mathlib.Core.Path.{_≡_, sym, _∙_, ap}
-use mathlib.Core.List.{List, [], _∷_, map}
+use mathlib.Core.Path.{sym, _∙_, ap}
+use mathlib.Core.List.{[], _∷_, map}
 use borrow.Author.Needs.{needs}
 use lib.IntN.{ℤ}
 use mir.Facts.{toZ-ofZ}
 use mir.Syntax.{w32}
 use mir.Val.{SFits}
-use Rattle.tuning.specs.declared.Tone.{Tone}
 use Rattle.tuning.specs.declared.Tone.the-variants.{At}
 use Rattle.filling.specs.Tables.{toneOf}
-use Rattle.filling.specs.Inner.{valueIn, FitValue}
+use Rattle.filling.specs.Inner.{valueIn}
 use Rattle.filling.proofs.Inside.{inside, no-place}
 use Rattle.filling.proofs.lists.read_tone.Statement.{statement}
 use Rattle.filling.proofs.lists.read_tone.Tie as tie

@@ -1,5 +1,5 @@
 -- The terms up to the next position are those that stand before it.
-use mathlib.Core.Path.{_≡_, sym, _∙_, ap, subst}
+use mathlib.Core.Path.{sym, _∙_, ap, subst}
 use mathlib.Core.List.{List}
 use borrow.Author.Needs.{needs}
 use mir.Facts.{toZ-ofZ}

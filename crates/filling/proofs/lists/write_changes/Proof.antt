@@ -56,10 +56,9 @@ loop-again c =
     making-skip (here .before .loop .inv) (present here) _ (next here) (ap changesHere (sym (c .enum-told .given .1)) ∙ c .before .before .read-change .ensures)
 
 -- the change that it gives
-module _ (c : tie.After-change Inv-loop μ-loop) where
-  given : let here = c .before .before .before in
-      c .change .given .0 .0 ∷ [] ≡ map (changeOf (valueIn (here .before .before .before .before .args .values .now))) (present here)
-  given = ap changesHere (sym (c .change .given .1)) ∙ c .before .before .read-change .ensures
+given : (c : tie.After-change Inv-loop μ-loop) → let here = c .before .before .before in
+    c .change .given .0 .0 ∷ [] ≡ map (changeOf (valueIn (here .before .before .before .before .args .values .now))) (present here)
+given c = ap changesHere (sym (c .change .given .1)) ∙ c .before .before .read-change .ensures
 
 store-change-requires : tie.Need-store-change-requires Inv-loop μ-loop
 store-change-requires c κs = search needs

@@ -57,9 +57,10 @@ loop-again c =
     (ap tonesHere (sym (c .enum-told .given .1)) ∙ c .before .before .read-tone .ensures)
 
 -- the tone that it gives
-module _ (c : tie.After-tone Inv-loop μ-loop) where
-  given : c .tone .given .0 .0 ∷ [] ≡ map (toneOf (valueIn (c .before .before .before .before .before .before .before .before .args .values .now))) (placeThen (part (c .before .before .before .item-at .result)) [])
-  given = ap tonesHere (sym (c .tone .given .1)) ∙ c .before .before .read-tone .ensures
+given : (c : tie.After-tone Inv-loop μ-loop) → let here = c .before .before .before in
+    c .tone .given .0 .0 ∷ []
+    ≡ map (toneOf (valueIn (here .before .before .before .before .before .args .values .now))) (placeThen (part (here .item-at .result)) [])
+given c = ap tonesHere (sym (c .tone .given .1)) ∙ c .before .before .read-tone .ensures
 
 store-tone-requires : tie.Need-store-tone-requires Inv-loop μ-loop
 store-tone-requires c κs = search needs
@@ -68,7 +69,8 @@ add-count : tie.Need-add-count Inv-loop μ-loop
 add-count c =
     let told = c .before .before .before .before .before .before .before in
     let here = told .before .before .before in
-    let room = making-room (here .before .before .loop .inv) (placeThen (part (here .item-at .result)) []) _ (next here) (given told) (here .before .before .before .before .before .pre .1) in
+    let most = here .before .before .before .before .before .pre .1 in
+    let room = making-room (here .before .before .loop .inv) (placeThen (part (here .item-at .result)) []) _ (next here) (given told) most in
     omega (arith, room)
 
 add-i-2 : tie.Need-add-i-2 Inv-loop μ-loop

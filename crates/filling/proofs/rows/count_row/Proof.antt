@@ -1,6 +1,6 @@
 -- By the row; one that has no list leaves the other counts as they are.
 use mathlib.Core.Path.{_≡_, refl}
-use mathlib.Core.List.{List, [], _∷_}
+use mathlib.Core.List.{[], _∷_}
 use Prim.Native.Nat.{ℕ}
 use borrow.Author.Needs.{needs}
 use types.Run.{OneOf, miss}

@@ -1,9 +1,8 @@
 -- By the first item: each arm writes what its declaration has.
 use mathlib.Core.Path.{_≡_, refl, sym, _∙_, ap, subst}
-use mathlib.Core.Bool.{true, false}
-use mathlib.Core.List.{List, [], _∷_}
-use Prim.Native.Nat.{ℕ, _+_}
-use native.Mathlib.Omega.{arith}
+use mathlib.Core.Bool.{true}
+use mathlib.Core.List.{List, _∷_}
+use Prim.Native.Nat.{_+_}
 use borrow.Author.Needs.{needs}
 use lib.IntN.{ℤ}
 use mir.Facts.{toZ-ofZ}
@@ -12,12 +11,10 @@ use mir.Val.{SFits}
 use Rattle.grammar.specs.declared.Item.{Item}
 use Rattle.grammar.specs.declared.Item.the-variants as item
 use Rattle.names.specs.Parts.{part}
-use Rattle.tables.specs.declared.Counts.{Counts}
-use Rattle.tables.specs.declared.Row.{Row}
-use Rattle.tables.specs.declared.Row.the-variants.{Interval, Logic}
-use Rattle.program.specs.Program.{Declaration, declarationOf, periodOf, tones, grouped, startOf, ordersOf, placesOf, termsOf, sequence}
+use Rattle.tables.specs.declared.Row.the-variants.{Interval}
+use Rattle.program.specs.Program.{Declaration, declarationOf, periodOf, tones, grouped}
 use Rattle.valuation.specs.Inner.{between}
-use Rattle.filling.specs.Inner.{valueIn, begins, FitParts, Writable, Lists, Rowed}
+use Rattle.filling.specs.Inner.{begins, Writable}
 use Rattle.filling.proofs.Inside.{inside}
 use Rattle.valuation.proofs.Between.{between-none}
 use Rattle.filling.proofs.Items.{item-next}
@@ -34,7 +31,8 @@ read-value-requires c κs = search needs
 returns : tie.Need-returns
 returns c =
     let f : SFits w32 (c .read-value .result) = search needs in
-    rowed-as (ap declarationOf (between-none _ _ _ (c .before .if1 .taken))) (record { row = ap (λ (z : ℤ). Interval (record { 0 = z })) (toZ-ofZ f ∙ c .read-value .ensures); lists = refl })
+    let e = ap (λ (z : ℤ). Interval (record { 0 = z })) (toZ-ofZ f ∙ c .read-value .ensures) in
+    rowed-as (ap declarationOf (between-none _ _ _ (c .before .if1 .taken))) (record { row = e; lists = refl })
 
 item-at-requires : tie.Need-item-at-requires
 item-at-requires c κs = search needs
@@ -44,27 +42,36 @@ is-position-requires c κs = search needs
 
 -- the declaration by its first item
 module _ (c : tie.After-item-at) where
-  first : {x : Item} → c .item-at .result ≡ x → let args = c .before .before .before .before .before .before .before .before .args in
-      declarationOf (between (args .items .now) (args .from) (args .to)) ≡ declarationOf (x ∷ between (args .items .now) (args .from + 1) (args .to))
+  abbrev start : tie.Start
+  start = c .before .before .before .before .before .before .before .before
+
+  abbrev body : List Item
+  body = between (start .args .items .now) (start .args .from) (start .args .to)
+
+  abbrev rest : List Item
+  rest = between (start .args .items .now) (start .args .from + 1) (start .args .to)
+
+  first : {x : Item} → c .item-at .result ≡ x → declarationOf body ≡ declarationOf (x ∷ rest)
   first e = ap declarationOf (item-next _ _ _ (sym e ∙ c .item-at .ensures) (c .before .if1 .left))
 
-  onward : c .item-at .result ≡ item.Onward → let args = c .before .before .before .before .before .before .before .before .args in
-      declarationOf (between (args .items .now) (args .from) (args .to)) ≡ periodOf (between (args .items .now) (args .from) (args .to))
+  onward : c .item-at .result ≡ item.Onward → declarationOf body ≡ periodOf body
   onward e = first e ∙ ap periodOf (sym (item-next _ _ _ (sym e ∙ c .item-at .ensures) (c .before .if1 .left)))
 
-module _ (c : tie.After-is-position) where
-  positions : begins (part (c .before .item-at .result)) ≡ true → let args = c .before .before .before .before .before .before .before .before .before .args in
-      declarationOf (between (args .items .now) (args .from) (args .to)) ≡ tones (grouped (between (args .items .now) (args .from) (args .to)) .positions)
+  positions : begins (part (c .item-at .result)) ≡ true → declarationOf body ≡ tones (grouped body .positions)
   positions e =
-      let args = c .before .before .before .before .before .before .before .before .before .args in
-      first (c .before) refl ∙ as-tones (inside (c .before .item-at .result)) e _ ∙ ap (λ (is : List Item). tones (grouped is .positions)) (sym (item-next _ _ _ (c .before .item-at .ensures) (c .before .before .if1 .left)))
+      first refl
+      ∙ as-tones (inside (c .item-at .result)) e rest
+      ∙ ap (λ (is : List Item). tones (grouped is .positions)) (sym (item-next _ _ _ (c .item-at .ensures) (c .before .if1 .left)))
+
+  -- whatever it is equal to can be written
+  writable : {d : Declaration} → declarationOf body ≡ d → Writable (start .args .values .now) (start .args .used) d
+  writable e = subst (λ (d : Declaration). Writable (start .args .values .now) (start .args .used) d) e (start .pre)
 
 write-tones-requires : tie.Need-write-tones-requires
 write-tones-requires c κs =
     let tested = c .before .before in
-    let start = tested .before .before .before .before .before .before .before .before .before .before in
-    let e = positions (tested .before) (sym (tested .before .is-position .ensures) ∙ tested .if2 .taken) in
-    subst (λ (d : Declaration). Writable (start .args .values .now) (start .args .used) d) e (start .pre)
+    let here = tested .before .before in
+    writable here (positions here (sym (tested .before .is-position .ensures) ∙ tested .if2 .taken))
 
 same-length : tie.Need-same-length
 same-length c = search needs
@@ -76,8 +83,8 @@ returns-2 : tie.Need-returns-2
 returns-2 c =
     let done = c .before .before .before in
     let tested = done .before .before .before in
-    let e = positions (tested .before) (sym (tested .before .is-position .ensures) ∙ tested .if2 .taken) in
-    rowed-as e (tones-rowed (done .write-tones .ensures .0) (done .write-tones .ensures .1))
+    rowed-as (positions (tested .before .before) (sym (tested .before .is-position .ensures) ∙ tested .if2 .taken))
+    (tones-rowed (done .write-tones .ensures .0) (done .write-tones .ensures .1))
 
 add-rest : tie.Need-add-rest
 add-rest c = search needs
@@ -88,24 +95,20 @@ enum-known-item c = search needs
 write-system-requires : tie.Need-write-system-requires
 write-system-requires c κs =
     let told = c .before .before .before in
-    let start = told .before .before .before .before .before .before .before .before .before .before .before .before in
-    subst (λ (d : Declaration). Writable (start .args .values .now) (start .args .used) d) (first (told .before .before .before .before) (told .item .given .1)) (start .pre)
+    let here = told .before .before .before .before in
+    writable here (first here (told .item .given .1))
 
 enum-told : tie.Need-enum-told
 enum-told c = search needs
 
 read-period-requires : tie.Need-read-period-requires
-read-period-requires c κs =
-    let start = c .before .before .before .before .before .before .before .before .before .before .before .before in
-    subst (λ (d : Declaration). FitParts (start .args .values .now) d) (first (c .before .before .before .before) (c .enum-told .given .1)) (start .pre .parts)
+read-period-requires c κs = let here = c .before .before .before .before in writable here (first here (c .enum-told .given .1)) .parts
 
 enum-told-2 : tie.Need-enum-told-2
 enum-told-2 c = search needs
 
 read-period-requires-2 : tie.Need-read-period-requires-2
-read-period-requires-2 c κs =
-    let start = c .before .before .before .before .before .before .before .before .before .before .before .before in
-    subst (λ (d : Declaration). FitParts (start .args .values .now) d) (onward (c .before .before .before .before) (c .enum-told2 .given .1)) (start .pre .parts)
+read-period-requires-2 c κs = let here = c .before .before .before .before in writable here (onward here (c .enum-told2 .given .1)) .parts
 
 enum-known-item-2 : tie.Need-enum-known-item-2
 enum-known-item-2 c = search needs
@@ -113,23 +116,21 @@ enum-known-item-2 c = search needs
 write-logic-requires : tie.Need-write-logic-requires
 write-logic-requires c κs =
     let told = c .before .before .before in
-    let start = told .before .before .before .before .before .before .before .before .before .before .before .before in
-    let e = first (told .before .before .before .before) (told .item2 .given .1) in
-    let w = subst (λ (d : Declaration). Writable (start .args .values .now) (start .args .used) d) e (start .pre) in
+    let here = told .before .before .before .before in
+    let w = writable here (first here (told .item2 .given .1)) in
     (w .parts, w .orders)
 
 -- a declaration with no list and no sum
-plain : (c : tie.At-match-keys5) → let args = c .before .before .before .before .before .before .before .before .before .before .before .args in
-    Plain (args .values .now) (args .used) (c .before .before .before .item-at .result) (between (args .items .now) (args .from + 1) (args .to))
+plain : (c : tie.At-match-keys5) → let here = c .before .before .before in
+    Plain (start here .args .values .now) (start here .args .used) (here .item-at .result) (rest here)
 plain c =
-    let at-item-at = c .before .before .before in
-    as-plain _ _ (at-item-at .item-at .result) (c .match .keys5) (sym (c .before .before .is-position .ensures) ∙ c .before .if2 .left) _
+    let here = c .before .before .before in
+    as-plain _ _ (here .item-at .result) (c .match .keys5) (sym (c .before .before .is-position .ensures) ∙ c .before .if2 .left) _
 
 make-plain-requires : tie.Need-make-plain-requires
 make-plain-requires c κs =
-    let start = c .before .before .before .before .before .before .before .before .before .before .before in
-    let f = subst (λ (d : Declaration). FitParts (start .args .values .now) d) (first (c .before .before .before) refl) (start .pre .parts) in
-    (start .pre .value, plain c .fit f)
+    let here = c .before .before .before in
+    (start here .pre .value, plain c .fit (writable here (first here refl) .parts))
 
 same-length-3 : tie.Need-same-length-3
 same-length-3 c = search needs
@@ -141,19 +142,18 @@ returns-3 : tie.Need-returns-3
 returns-3 c =
     let done = c .before .before .before in
     let told = done .before .before .before .before in
-    rowed-as (first (told .before .before .before .before) (told .item .given .1)) (system-rowed (done .write-system .ensures .0) (done .write-system .ensures .1))
+    rowed-as (first (told .before .before .before .before) (told .item .given .1))
+    (system-rowed (done .write-system .ensures .0) (done .write-system .ensures .1))
 
 returns-4 : tie.Need-returns-4
 returns-4 c =
-    let start = c .before .before .before .before .before .before .before .before .before .before .before .before .before in
-    rowed-as (first (c .before .before .before .before .before) (c .before .enum-told .given .1))
-    (period-rowed (period-form (between (start .args .items .now) (start .args .from + 1) (start .args .to))) (c .read-period .ensures))
+    let here = c .before .before .before .before .before in
+    rowed-as (first here (c .before .enum-told .given .1)) (period-rowed (period-form (rest here)) (c .read-period .ensures))
 
 returns-5 : tie.Need-returns-5
 returns-5 c =
-    let start = c .before .before .before .before .before .before .before .before .before .before .before .before .before in
-    rowed-as (onward (c .before .before .before .before .before) (c .before .enum-told2 .given .1))
-    (period-rowed (period-form (between (start .args .items .now) (start .args .from) (start .args .to))) (c .read-period2 .ensures))
+    let here = c .before .before .before .before .before in
+    rowed-as (onward here (c .before .enum-told2 .given .1)) (period-rowed (period-form (body here)) (c .read-period2 .ensures))
 
 same-length-5 : tie.Need-same-length-5
 same-length-5 c = search needs
@@ -165,7 +165,8 @@ returns-6 : tie.Need-returns-6
 returns-6 c =
     let done = c .before .before .before .before in
     let told = done .before .before .before .before in
-    rowed-as (first (told .before .before .before .before) (told .item2 .given .1)) (logic-rowed (done .write-logic .ensures .0) (done .write-logic .ensures .1))
+    rowed-as (first (told .before .before .before .before) (told .item2 .given .1))
+    (logic-rowed (done .write-logic .ensures .0) (done .write-logic .ensures .1))
 
 returns-7 : tie.Need-returns-7
 returns-7 c =

@@ -1,10 +1,8 @@
 -- By the two tests; what is between the caps fits an `i32`.
-use mathlib.Core.Path.{_≡_, sym, _∙_, ap, subst}
 use borrow.Author.Needs.{needs}
-use lib.IntN.{ℤ}
 use mir.Facts.{toZ-ofZ}
-use mir.Syntax.{w32, w64}
-use mir.Val.{SFits, toZ, ofZ}
+use mir.Syntax.{w32}
+use mir.Val.{SFits}
 use Rattle.integers.proofs.Signed.{signed}
 use Rattle.filling.proofs.Caps.{capped-low, capped-high, capped-same, between-caps}
 use Rattle.filling.proofs.sums.cap.Statement.{statement}

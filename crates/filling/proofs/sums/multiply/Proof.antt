@@ -1,8 +1,6 @@
 -- The product of a value in range and a factor fits an `i64`.
-use Prim.Native.Nat.{_≤_}
-use mathlib.Core.Path.{_≡_}
 use borrow.Author.Needs.{needs}
-use lib.IntN.{natAbs, _*ℤ_}
+use lib.IntN.{_*ℤ_}
 use mir.Facts.{toZ-ofZ}
 use mir.Syntax.{w64}
 use mir.Val.{SFits}
