@@ -24,7 +24,7 @@ ghost use Rattle.names.specs.Names.{meanings};
 ghost use Rattle.names.specs.Inner.{itemsIn, Held};
 ghost use Rattle.program.specs.Program.{programOf};
 ghost use Rattle.program.specs.Meaning.{valued};
-ghost use Rattle.program.specs.Text.{placeOf, byValue, byMeaning};
+ghost use Rattle.program.specs.Text.{placeOf, byValue, byMeaning, readText};
 ghost use Rattle.valuation.specs.Inner.{Ready};
 ghost use Rattle.filling.specs.Inner.{blank};
 ghost use Rattle.mutabor.specs.Reading.{byVerdict, reading, Leaves};
@@ -180,6 +180,45 @@ fn take_items(
     )
 }
 
+// Reads the symbols (2, 3, 4, 9), and goes on with the items.
+fn take_symbols(
+    text: &[u8],
+    rows: &mut [i32],
+    sounding: &mut [u8],
+    tones: &mut [i32],
+    kinds: &mut [u8],
+    changes: &mut [i32],
+    letters: &mut [u8],
+    calls: &mut [u16],
+    counts: &mut [u32],
+) -> TextReading
+    requires { ⌜ record { rows = now rows; sounding = now sounding; tones = now tones; kinds = now kinds; changes = now changes; letters = now letters; calls = now calls; counts = now counts } ≡ blank ⌝ }
+    ensures { λ r. ⌜ Leaves (byVerdict blank (readText (now (text .entry)))) r (record { rows = now (rows .exit); sounding = now (sounding .exit); tones = now (tones .exit); kinds = now (kinds .exit); changes = now (changes .exit); letters = now (letters .exit); calls = now (calls .exit); counts = now (counts .exit) }) ⌝ }
+{
+    let mut items = [0u32; ITEM_SLOTS];
+    let read = read_items(text, &mut items);
+    if read.number != DONE {
+        return TextReading {
+            number: read.number,
+            place: read.place,
+        };
+    }
+    let n = read.count;
+    take_items(
+        text,
+        &mut items,
+        n,
+        rows,
+        sounding,
+        tones,
+        kinds,
+        changes,
+        letters,
+        calls,
+        counts,
+    )
+}
+
 // Reads a text into the tables. Where it is refused, or a table is not of full size, every table is zero.
 pub fn read_text(
     text: &[u8],
@@ -219,19 +258,8 @@ pub fn read_text(
             place: 0,
         };
     }
-    let mut items = [0u32; ITEM_SLOTS];
-    let read = read_items(text, &mut items);
-    if read.number != DONE {
-        return TextReading {
-            number: read.number,
-            place: read.place,
-        };
-    }
-    let count = read.count;
-    take_items(
+    take_symbols(
         text,
-        &mut items,
-        count,
         rows,
         sounding,
         tones,

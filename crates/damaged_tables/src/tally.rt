@@ -1,0 +1,176 @@
+// Damages tried, and how many of them were answered as they must be. Each is made in the sample, one number at a time.
+use crate::lent::Lent;
+use crate::lent::TABLES;
+use crate::lent::TOO_LONG;
+use crate::lent::TOO_SHORT;
+use crate::lent::Table;
+use crate::trial::send_frame;
+use answers::SMALLEST_BUFFER;
+use protocol::Active;
+use protocol::Desk;
+use status::BUFFER_TOO_SMALL;
+use status::TABLE_DAMAGED;
+use std::num::wrapping_add_u64;
+use tables::LOGIC_FORM;
+use tables::ROW_WIDTH;
+use tables::UNUSED_FORM;
+use tuning::PLACES;
+use tuning::Position;
+use tuning::State;
+use tuning::Tone;
+ghost use Prim.Native.Nat.{_≤_};
+
+// The forms go from 1 to 8.
+const BELOW_FORMS: i32 = UNUSED_FORM as i32;
+
+const ABOVE_FORMS: i32 = LOGIC_FORM as i32 + 1;
+
+// How many wrong numbers a row is given besides those of its form: two for each of its other four numbers.
+const WRONG: usize = 8;
+
+pub struct Tally {
+    pub right: u64,
+    pub tried: u64,
+}
+
+fn one_if(right: bool) -> u64 {
+    if right { 1 } else { 0 }
+}
+
+impl Tally {
+    pub fn new() -> Tally {
+        Tally { right: 0, tried: 0 }
+    }
+
+    // One more; no run comes near 2^64.
+    pub fn add(self, right: bool) -> Tally {
+        Tally {
+            right: wrapping_add_u64(self.right, one_if(right)),
+            tried: wrapping_add_u64(self.tried, 1),
+        }
+    }
+
+    // A frame that has to get this number, and change nothing.
+    fn try_frame(self, t: Lent, desk: Desk, frame: &[u8], room: usize, number: u8) -> Tally {
+        let outcome = send_frame(t, desk, frame, room);
+        self.add(outcome.number == number && outcome.unchanged)
+    }
+
+    // A key's frame that has to get 23.
+    fn try_key(self, t: Lent, desk: Desk) -> Tally {
+        self.try_frame(t, desk, b"010245", SMALLEST_BUFFER, TABLE_DAMAGED)
+    }
+
+    pub fn try_number(self, table: Table, at: usize, wrong: i32) -> Tally {
+        self.try_key(Lent::sample().with_number(table, at, wrong), Desk::start())
+    }
+
+    // The same wrong number at each place from `from` to `to`.
+    pub fn try_places(self, table: Table, from: usize, to: usize, wrong: i32) -> Tally {
+        let mut tally = self;
+        let mut at = from;
+        while at < to {
+            tally = tally.try_number(table, at, wrong);
+            at += 1;
+        }
+        tally
+    }
+
+    // Two wrong numbers for each number of a row: its form's, then those given for the first, the second, `from` and `to`.
+    pub fn try_row(self, row: usize, wrong: [i32; WRONG]) -> Tally
+        requires { ⌜ row ≤ 704 ⌝ }
+    {
+        let form = ROW_WIDTH * row;
+        let mut tally = self.try_number(Table::Rows, form, BELOW_FORMS)
+            .try_number(Table::Rows, form, ABOVE_FORMS);
+        let mut k: usize = 0;
+        while k < WRONG {
+            tally = tally.try_number(Table::Rows, form + 1 + k / 2, wrong[k]);
+            k += 1;
+        }
+        tally
+    }
+
+    fn try_size(self, table: usize, wrong: usize) -> Tally {
+        self.try_key(Lent::sample().with_size(table, wrong), Desk::start())
+    }
+
+    // Each table a number shorter, and a number longer.
+    pub fn try_sizes(self) -> Tally {
+        let mut tally = self;
+        let mut k: usize = 0;
+        while k < TABLES {
+            tally = tally.try_size(k, TOO_SHORT[k]).try_size(k, TOO_LONG[k]);
+            k += 1;
+        }
+        tally
+    }
+
+    pub fn try_tuning(self, tuning: State) -> Tally {
+        let active = Active::Nothing;
+        self.try_key(Lent::sample(), Desk { tuning, active })
+    }
+
+    // The start with another tone at each position from `from` to `to`.
+    pub fn try_tones(self, from: usize, to: usize, tone: Tone) -> Tally {
+        let mut tally = self;
+        let mut i = from;
+        while i < to {
+            let mut s = State::start();
+            if i < PLACES {
+                s.tones[i] = Position { tone };
+            }
+            tally = tally.try_tuning(s);
+            i += 1;
+        }
+        tally
+    }
+
+    // Declaration i as the active logic.
+    pub fn try_active(self, i: u32) -> Tally {
+        let tuning = State::start();
+        let active = Active::Logic(i);
+        self.try_key(Lent::sample(), Desk { tuning, active })
+    }
+
+    // Each of the first `n` declarations as the active logic.
+    pub fn try_first_active(self, n: u32) -> Tally {
+        let mut tally = self;
+        let mut i: u32 = 0;
+        while i < n {
+            tally = tally.try_active(i);
+            i += 1;
+        }
+        tally
+    }
+
+    // Damaged tables with buffers of less than 512 bytes: 19.
+    pub fn try_buffers(self) -> Tally {
+        let mut tally = self;
+        let mut room: usize = 0;
+        while room < SMALLEST_BUFFER {
+            let t = Lent::damaged();
+            tally = tally.try_frame(t, Desk::start(), b"010245", room, BUFFER_TOO_SMALL);
+            room += 1;
+        }
+        tally
+    }
+
+    // Damaged tables with the beginnings of a frame, which are bad frames: 23.
+    pub fn try_beginnings(self, frame: &[u8]) -> Tally {
+        let mut tally = self;
+        let mut n: usize = 0;
+        while n < frame.len() {
+            let t = Lent::damaged();
+            tally = tally.try_frame(
+                t,
+                Desk::start(),
+                &frame[..n],
+                SMALLEST_BUFFER,
+                TABLE_DAMAGED,
+            );
+            n += 1;
+        }
+        tally
+    }
+}
