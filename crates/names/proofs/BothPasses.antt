@@ -13,8 +13,9 @@ use Rattle.grammar.specs.declared.Item.{Item}
 use Rattle.grammar.specs.Items.{holding}
 use Rattle.names.specs.declared.Naming.{Naming}
 use Rattle.names.specs.Names.{declared, twiceFrom, resolved, unlessMissing, meanings}
-use Rattle.names.specs.Inner.{namedOf, packed, begunWith, rewritten, leftItems, numberIf, placeIf, Declarable, mostDeclarations, FirstPass, SecondPass, BothPasses}
-use Rattle.names.proofs.FirstPass.{kept-names, distinct-few, distinct-all}
+use Rattle.names.specs.Inner.{namedOf, packed, Kept, Room, begunWith, rewritten, leftItems, numberIf, placeIf, Declarable, mostDeclarations, FirstPass, SecondPass, BothPasses}
+use Rattle.names.proofs.Marks.{kept-names, kept-now}
+use Rattle.names.proofs.FirstPass.{distinct-few, distinct-all}
 
 module _ (text : List ℕ) (is : List Item) where
   -- a name stands twice in a kind
@@ -47,9 +48,19 @@ module _ (text : List ℕ) (is : List Item) where
       go Nothing q = refl
       go (Row p) q = absurd (omega arith)
 
-  pub first-few : {names starts : List ℕ} {r : Naming} {names′ starts′ : List ℕ} → FirstPass text is names starts r names′ starts′ → Declarable is
-      → r .declarations ≤ mostDeclarations
-  first-few first h = omega (arith, first .count, distinct-few text [] (declared is), h .few)
+  -- what the first pass keeps
+  module _ {names starts : List ℕ} {r : Naming} {names′ starts′ : List ℕ} (first : FirstPass text is names starts r names′ starts′) where
+    first-kept : names′ ≡ begunWith (r .declarations) (map (packed text) (declared is)) names
+    first-kept = first .kept ∙ ap (λ m. begunWith m (map (packed text) (declared is)) names) (sym (first .count))
+
+    within : r .declarations ≤ length (declared is)
+    within = omega (arith, first .count, distinct-few text [] (declared is))
+
+    pub first-few : Declarable is → r .declarations ≤ mostDeclarations
+    first-few h = omega (arith, within, h .few)
+
+    pub first-found : Declarable is → Room names starts → Kept text names′ (r .declarations)
+    first-found h room = kept-now text (declared is) names (r .declarations) within first-kept (omega (arith, first-few h, room .names))
 
   module _ (items names starts : List ℕ) where
     pub both-stop : items ≡ holding is items → {r : Naming} {names′ starts′ : List ℕ} → FirstPass text is names starts r names′ starts′ → (r .number ≡ 0 → ⊥)
@@ -76,9 +87,8 @@ module _ (text : List ℕ) (is : List Item) where
         let ds = declared is in
         let t = told (r .number) (first .number) z in
         let n : r .declarations ≡ length ds = first .count ∙ distinct-all text [] ds t in
-        let k : names′ ≡ begunWith (r .declarations) (map packed ds) names = first .kept ∙ ap (λ m. begunWith m (map packed ds) names) (sym (first .count)) in
         let d : namedOf (take (r .declarations) names′) ≡ ds =
-        kept-names ds names (r .declarations) (omega arith) k ∙ ap (λ m. take m ds) n ∙ take-length ds in
+        kept-names text ds names (r .declarations) (omega arith) (first-kept first) ∙ ap (λ m. take m ds) n ∙ take-length ds in
         let s : SecondPass text ds (r .declarations) is items q items′ = subst (λ es. SecondPass text es (r .declarations) is items q items′) d second in
         record {
           number = s .number ∙ ap (λ m. m .number) (sym (once t));

@@ -1,58 +1,29 @@
 -- Laws of the first pass over the items: what is kept of the declarations in front of an item.
 -- Assumes nothing.
-use Prim.Native.Nat.{ℕ, suc, _+_, _/_, _%_, _≤_, _<_}
+use Prim.Native.Nat.{ℕ, suc, _+_, _≤_, _<_}
 use mathlib.Core.Path.{_≡_, refl, sym, _∙_, ap, subst}
 use mathlib.Core.List.{List, [], _∷_, _++_, map}
 use native.Mathlib.Numerals.{add-one}
 use native.Mathlib.Omega.{arith}
 use types.Run.{OneOf, miss}
 use denote.Enum.Declared.{tagOf}
-use lib.ListN.{length, getD, take, drop, set, length-map, length-set, drop-of-length-le}
+use lib.ListN.{length, getD, take, drop, set, length-set, drop-of-length-le}
 use Rattle.status.specs.Status.{done, nameTwice}
 use Rattle.symbols.specs.Names.{nameAt}
 use Rattle.symbols.specs.declared.names.Found.{Found}
 use Rattle.symbols.specs.declared.names.Found.the-variants.{Nothing, Row}
 use Rattle.grammar.specs.declared.Kind.{Kind}
-use Rattle.grammar.specs.declared.Kind.the-variants.{Interval, Tone, System, Retuning, Logic, Order as AnOrder}
 use Rattle.grammar.specs.declared.Item.{Item}
-use Rattle.grammar.specs.Moves.{kindNumber}
 use Rattle.grammar.specs.Reading.{mostBytes}
 use Rattle.names.specs.declared.Role.{Role}
 use Rattle.names.specs.declared.Role.the-variants as role
 use Rattle.names.proofs.Role as roles
 use Rattle.names.specs.Parts.{Part, declares, gives, uses, says, part}
 use Rattle.names.specs.Names.{Named, namedBy, declared, numberOf, twiceFrom}
-use Rattle.names.specs.Inner.{roleOf, kindRoom, packed, unpacked, namedOf, beginningBy, beginningsFrom, beginnings, distinctFrom, begunWith, InText, FirstPass}
-use Rattle.names.proofs.Searching.{nothing-no-row, kind-back}
-use Rattle.names.proofs.Lists.{head-fits, head-rest, head-taken, here, begun-set, begun-taken, take-map, drop-map}
-
--- ---- a declaration as a number
-
-pub kind-few : (k : Kind) → kindNumber k < kindRoom
-kind-few Interval = omega arith
-kind-few Tone = omega arith
-kind-few System = omega arith
-kind-few Retuning = omega arith
-kind-few Logic = omega arith
-kind-few AnOrder = omega arith
-
-pub unpacked-packed : (d : Named) → unpacked (packed d) ≡ d
-unpacked-packed d =
-    let h = kind-few (d .kind) in
-    let m : packed d % kindRoom ≡ kindNumber (d .kind) = omega arith in
-    let q : packed d / kindRoom ≡ d .place = omega arith in
-    rw (m, q, kind-back (d .kind))
-
-pub named-packed : (ds : List Named) → namedOf (map packed ds) ≡ ds
-named-packed [] = refl
-named-packed (d ∷ ds) = rw (unpacked-packed d, named-packed ds)
-
--- the first n of them, after they were written over what a slice held
-pub kept-names : (ds : List Named) (before : List ℕ) (n : ℕ) {l : List ℕ} → n ≤ length ds → l ≡ begunWith n (map packed ds) before
-    → namedOf (take n l) ≡ take n ds
-kept-names ds before n h e =
-    let m : n ≤ length (map packed ds) = simp length-map h in
-    ap (λ t. namedOf (take n t)) e ∙ ap namedOf (begun-taken (map packed ds) before n m ∙ take-map packed n ds) ∙ named-packed (take n ds)
+use Rattle.names.specs.Inner.{roleOf, packed, namedOf, Kept, beginningBy, beginningsFrom, beginnings, distinctFrom, begunWith, InText, FirstPass}
+use Rattle.names.proofs.Searching.{nothing-no-row}
+use Rattle.names.proofs.Marks.{kept-names, kept-now}
+use Rattle.names.proofs.Lists.{head-fits, head-rest, head-taken, here, begun-set, drop-map}
 
 -- ---- what an item's role tells
 
@@ -126,7 +97,7 @@ module _ (text : List ℕ) (is : List Item) (names₀ starts₀ : List ℕ) wher
     pub names : drop n (declared is) ≡ declared (drop i is)
     pub starts : drop n (beginnings is) ≡ beginningsFrom i (drop i is)
     pub near : InText (declared (drop i is))
-    pub kept : l ≡ begunWith n (map packed (declared is)) names₀
+    pub kept : l ≡ begunWith n (map (packed text) (declared is)) names₀
     pub begun : m ≡ begunWith n (beginnings is) starts₀
     pub room : length l ≡ length names₀
     pub space : length m ≡ length starts₀
@@ -150,6 +121,10 @@ module _ (text : List ℕ) (is : List Item) (names₀ starts₀ : List ℕ) wher
       }
 
   module _ {l m : List ℕ} {n i : ℕ} (p : Passed l m n i) where
+    -- what is kept is found by its marks
+    pub passed-kept : n ≤ length names₀ → Kept text l n
+    passed-kept = kept-now text (declared is) names₀ n (p .few) (p .kept)
+
     -- the pass ends
     pub passed-all : length is ≤ i → FirstPass text is names₀ starts₀ (record { number = done; place = 0; declarations = n }) l m
     unfolding declared twiceFrom distinctFrom
@@ -213,7 +188,7 @@ module _ (text : List ℕ) (is : List Item) (names₀ starts₀ : List ℕ) wher
 
         module _ {f : Found} (found : f ≡ numberOf text (namedOf (take n l)) k (nameAt text q)) where
           found-before : f ≡ numberOf text (take n (declared is)) k (nameAt text q)
-          found-before = found ∙ ap (λ ds. numberOf text ds k (nameAt text q)) (kept-names (declared is) names₀ n (p .few) (p .kept))
+          found-before = found ∙ ap (λ ds. numberOf text ds k (nameAt text q)) (kept-names text (declared is) names₀ n (p .few) (p .kept))
 
           -- the name stood before in its kind
           pub passed-stop : {j : ℕ} → f ≡ Row j → FirstPass text is names₀ starts₀ (record { number = nameTwice; place = q; declarations = n }) l m
@@ -225,20 +200,20 @@ module _ (text : List ℕ) (is : List Item) (names₀ starts₀ : List ℕ) wher
               record { number = rw t; place = rw t; count = sym e; kept = rw e (p .kept); begun = rw e (p .begun) }
 
           -- it is kept
-          pub passed-more : f ≡ Nothing → {v : ℕ} → v ≡ packed (record { kind = k; place = q }) → n < length names₀ → n < length starts₀
+          pub passed-more : f ≡ Nothing → {v : ℕ} → v ≡ packed text (record { kind = k; place = q }) → n < length names₀ → n < length starts₀
               → Passed (set l n v) (set m n i) (n + 1) (i + 1)
           passed-more z {v} w a b =
               let s = distinct-on text (declared is) n names-here found-before z in
               let c = p .distinct in
-              let y : drop n (map packed (declared is)) ≡ packed (record { kind = k; place = q }) ∷ map packed (declared after) =
-              drop-map packed n (declared is) ∙ ap (map packed) names-here in
+              let y : drop n (map (packed text) (declared is)) ≡ packed text (record { kind = k; place = q }) ∷ map (packed text) (declared after) =
+              drop-map (packed text) n (declared is) ∙ ap (map (packed text)) names-here in
               record {
                 within = omega arith;
                 few = omega (arith, one-more);
                 names = head-rest (declared is) n names-here;
                 starts = head-rest (beginnings is) n starts-here;
                 near = near-here .1;
-                kept = rw (w, p .kept) (begun-set (map packed (declared is)) names₀ n y a);
+                kept = rw (w, p .kept) (begun-set (map (packed text) (declared is)) names₀ n y a);
                 begun = rw (p .begun) (begun-set (beginnings is) starts₀ n starts-here b);
                 room = simp length-set (p .room);
                 space = simp length-set (p .space);

@@ -1,5 +1,6 @@
 pub mod Searching
 pub mod Lists
+pub mod Marks
 pub mod Held
 pub mod FirstPass
 pub mod SecondPass

@@ -14,7 +14,7 @@ use Rattle.symbols.specs.Bytes.{same}
 use Rattle.symbols.specs.Names.{nameAt}
 use Rattle.symbols.specs.declared.names.Found.{Found}
 use Rattle.symbols.specs.declared.names.Found.the-variants.{Nothing, Row}
-use Rattle.symbols.proofs.Parts.{part-empty, part-out, part-cons}
+use Rattle.symbols.proofs.Parts.{part-empty, part-cons}
 use Rattle.grammar.specs.declared.Kind.{Kind}
 use Rattle.grammar.specs.declared.Kind.the-variants.{Interval, Tone, System, Retuning, Logic, Order as AnOrder}
 use Rattle.grammar.specs.Moves.{kinds, kindNumber}
@@ -41,10 +41,6 @@ module _ (text kept name : List ℕ) (k : Kind) (row n : ℕ) where
   pub search-end : n ≤ row → Nothing ≡ numberFrom row text (namedOf (slice row n kept)) k name
   unfolding numberFrom
   search-end h = rw (part-empty kept row n h)
-
-  pub search-out : length kept ≤ row → Nothing ≡ numberFrom row text (namedOf (slice row n kept)) k name
-  unfolding numberFrom
-  search-out h = rw (part-out kept row n h)
 
   module _ (h : row < n) (l : row < length kept) {b : Bool}
       (e : b ≡ (eqb (kindNumber (unpacked (getD kept row 0) .kind)) (kindNumber k) && same (nameAt text (unpacked (getD kept row 0) .place)) name)) where

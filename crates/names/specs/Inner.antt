@@ -44,20 +44,45 @@ kindsIn Tones = meant base
 kindsIn Starts = meant start
 kindsIn Orders = meant order
 
--- ---- a declared name as one number: its place, with room for its kind's number below it
+-- ---- a declared name as one number: its place, with room below it for a mark, which is a tag of its name and its kind's number
 
 abbrev pub kindRoom : ℕ
 kindRoom = 8
 
-abbrev pub packed : Named → ℕ
-packed d = d .place * kindRoom + kindNumber (d .kind)
+abbrev pub tagRoom : ℕ
+tagRoom = 4096
 
--- and back (`named-packed` of proofs/FirstPass.antt)
+abbrev pub tagFactor : ℕ
+tagFactor = 31
+
+abbrev pub markRoom : ℕ
+markRoom = tagRoom * kindRoom
+
+-- a number below `tagRoom` by which most names are told apart, counted on from t
+unfoldable pub tagFrom : ℕ → List ℕ → ℕ
+tagFrom t [] = t
+tagFrom t (b ∷ name) = tagFrom ((t * tagFactor + b) % tagRoom) name
+
+abbrev pub tagOf : List ℕ → ℕ
+tagOf name = tagFrom 0 name
+
+abbrev pub markOf : Kind → List ℕ → ℕ
+markOf k name = tagOf name * kindRoom + kindNumber k
+
+abbrev pub packed : List ℕ → Named → ℕ
+packed text d = d .place * markRoom + markOf (d .kind) (nameAt text (d .place))
+
+-- and back (`named-packed` of proofs/Marks.antt)
 abbrev pub unpacked : ℕ → Named
-unpacked x = record { kind = getD kinds (x % kindRoom) AnOrder; place = x / kindRoom }
+unpacked x = record { kind = getD kinds (x % kindRoom) AnOrder; place = x / markRoom }
 
 abbrev pub namedOf : List ℕ → List Named
 namedOf xs = map unpacked xs
+
+-- a slice begins with n numbers of declarations of this text
+pub record Kept (text l : List ℕ) (n : ℕ) : Type 0 where
+  pub within : n ≤ length l
+  pub of-text : map (packed text) (namedOf (take n l)) ≡ take n l
 
 -- ---- what the first pass leaves
 
@@ -164,7 +189,7 @@ pub record FirstPass (text : List ℕ) (is : List Item) (names starts : List ℕ
   pub number : r .number ≡ numberIf nameTwice (twiceFrom text [] (declared is))
   pub place : r .place ≡ placeIf (twiceFrom text [] (declared is))
   pub count : r .declarations ≡ distinct text is
-  pub kept : names′ ≡ begunWith (distinct text is) (map packed (declared is)) names
+  pub kept : names′ ≡ begunWith (distinct text is) (map (packed text) (declared is)) names
   pub begun : starts′ ≡ begunWith (distinct text is) (beginnings is) starts
 
 -- the second pass: names that are not among n declarations; `items` before and after it
@@ -180,5 +205,5 @@ pub record BothPasses (text : List ℕ) (is : List Item) (items names starts : L
   pub place : r .place ≡ meanings text is .place
   pub count : r .declarations ≡ distinct text is
   pub left : items′ ≡ holding (leftItems text is) items
-  pub kept : names′ ≡ begunWith (distinct text is) (map packed (declared is)) names
+  pub kept : names′ ≡ begunWith (distinct text is) (map (packed text) (declared is)) names
   pub begun : starts′ ≡ begunWith (distinct text is) (beginnings is) starts

@@ -5,12 +5,13 @@ use grammar::items;
 use status::DONE;
 use status::NAME_NOT_DECLARED;
 use status::NAME_TWICE;
+use symbols::bytes;
 use symbols::names;
 use symbols::names::Found;
 ghost use mathlib.Core.Path.{_≡_};
 ghost use mathlib.Core.Bool.{_&&_};
 ghost use mathlib.Core.List.{List};
-ghost use Prim.Native.Nat.{_≤_};
+ghost use Prim.Native.Nat.{_%_, _≤_};
 ghost use lib.ListN.{take};
 ghost use lib.Dec.{eqb};
 ghost use Rattle.symbols.specs.Bytes.{same};
@@ -19,10 +20,19 @@ ghost use Rattle.grammar.specs.Moves.{kindNumber};
 ghost use Rattle.grammar.specs.Reading.{mostBytes};
 ghost use Rattle.names.specs.Parts.{part};
 ghost use Rattle.names.specs.Names.{numberOf, calledIn};
-ghost use Rattle.names.specs.Inner.{unpacked, roleOf, packed, namedOf, kindsIn, itemsIn, Held, Declarable, Room, FirstPass, SecondPass, BothPasses, mostDeclarations};
+ghost use Rattle.names.specs.Inner.{roleOf, tagOf, markOf, markRoom, packed, unpacked, namedOf, Kept, kindsIn, itemsIn, Held, Declarable, Room, FirstPass, SecondPass, BothPasses, mostDeclarations};
 
-// Room for a kind's number below a declaration's place.
+// Room for a kind's number.
 const KIND_ROOM: u32 = 8;
+
+// Room for a name's tag.
+const TAG_ROOM: u32 = 4096;
+
+// What a tag is multiplied by before the next letter is added.
+const TAG_FACTOR: u32 = 31;
+
+// Room for a tag and a kind's number, below a declaration's place.
+const MARK_ROOM: u32 = TAG_ROOM * KIND_ROOM;
 
 // What a used name may mean.
 enum Scope {
@@ -59,20 +69,6 @@ fn kind_number(kind: Kind) -> u32
     }
 }
 
-// The kind of a declaration that is kept as a number.
-fn kind_of(kept: u32) -> Kind
-    ensures { λ r. ⌜ r ≡ unpacked kept .kind ⌝ }
-{
-    match kept % KIND_ROOM {
-        0 => Kind::Interval,
-        1 => Kind::Tone,
-        2 => Kind::System,
-        3 => Kind::Retuning,
-        4 => Kind::Logic,
-        _ => Kind::Order,
-    }
-}
-
 fn role_of(item: Item) -> Role
     ensures { λ r. ⌜ r ≡ roleOf (part item) ⌝ }
 {
@@ -88,33 +84,54 @@ fn role_of(item: Item) -> Role
     }
 }
 
-// A declaration as one number.
-fn pack(kind: Kind, place: u32) -> u32
-    requires { ⌜ place ≤ mostBytes ⌝ }
-    ensures { λ r. ⌜ r ≡ packed (record { kind = kind; place = place }) ⌝ }
+// The tag of the name at `at`: a small number by which most names are told apart.
+fn tag_of(text: &[u8], at: usize) -> u32
+    ensures { λ r. ⌜ r ≡ tagOf (nameAt (now (text .entry)) at) ⌝ }
 {
-    place * KIND_ROOM + kind_number(kind)
+    let mut tag = 0;
+    for i in at..text.len() {
+        let b = text[i];
+        if !bytes::in_name(b) {
+            return tag;
+        }
+        tag = (tag * TAG_FACTOR + bytes::small(b) as u32) % TAG_ROOM;
+    }
+    tag
 }
 
-// Whether a kept declaration is of the kind, and its name the one at `at`.
-fn declares(text: &[u8], kept: u32, kind: Kind, at: usize) -> bool
-    ensures { λ r. ⌜ r ≡ (eqb (kindNumber (unpacked kept .kind)) (kindNumber kind) && same (nameAt (now (text .entry)) (unpacked kept .place)) (nameAt (now (text .entry)) at)) ⌝ }
+// The tag of the name at `at` and the kind, as one number.
+fn mark_of(text: &[u8], kind: Kind, at: usize) -> u32
+    ensures { λ r. ⌜ r ≡ markOf kind (nameAt (now (text .entry)) at) ⌝ }
 {
-    if kind_number(kind_of(kept)) != kind_number(kind) {
+    tag_of(text, at) * KIND_ROOM + kind_number(kind)
+}
+
+// A declaration as one number.
+fn pack(text: &[u8], kind: Kind, place: u32) -> u32
+    requires { ⌜ place ≤ mostBytes ⌝ }
+    ensures { λ r. ⌜ r ≡ packed (now (text .entry)) (record { kind = kind; place = place }) ⌝ }
+{
+    place * MARK_ROOM + mark_of(text, kind, place as usize)
+}
+
+// Whether a kept declaration has the mark, and its name is the one at `at`.
+fn declares(text: &[u8], kept: u32, mark: u32, at: usize) -> bool
+    ensures { λ r. ⌜ r ≡ (eqb (kept % markRoom) mark && same (nameAt (now (text .entry)) (unpacked kept .place)) (nameAt (now (text .entry)) at)) ⌝ }
+{
+    if kept % MARK_ROOM != mark {
         return false;
     }
-    names::same_name(text, (kept / KIND_ROOM) as usize, at)
+    names::same_name(text, (kept / MARK_ROOM) as usize, at)
 }
 
 // The first of the first `n` declarations that is of the kind and has the name at `at`.
-pub fn find_declaration(text: &[u8], declared: &[u32], n: usize, kind: Kind, at: usize) -> Found
+fn find_declaration(text: &[u8], declared: &[u32], n: usize, kind: Kind, at: usize) -> Found
+    requires { ⌜ Kept (now text) (now declared) n ⌝ }
     ensures { λ r. ⌜ r ≡ numberOf (now (text .entry)) (namedOf (take n (now (declared .entry)))) kind (nameAt (now (text .entry)) at) ⌝ }
 {
+    let mark = mark_of(text, kind, at);
     for row in 0..n {
-        if declared.len() <= row {
-            return Found::Nothing;
-        }
-        if declares(text, declared[row], kind, at) {
+        if declares(text, declared[row], mark, at) {
             return Found::Row(row);
         }
     }
@@ -123,6 +140,7 @@ pub fn find_declaration(text: &[u8], declared: &[u32], n: usize, kind: Kind, at:
 
 // The retuning of the name at `at`, else the tone system.
 fn find_start(text: &[u8], declared: &[u32], n: usize, at: usize) -> Found
+    requires { ⌜ Kept (now text) (now declared) n ⌝ }
     ensures { λ r. ⌜ r ≡ calledIn (now (text .entry)) (namedOf (take n (now (declared .entry)))) (kindsIn Scope.Starts) (nameAt (now (text .entry)) at) ⌝ }
 {
     let Found::Row(number) = find_declaration(text, declared, n, Kind::Retuning, at) else {
@@ -133,6 +151,7 @@ fn find_start(text: &[u8], declared: &[u32], n: usize, at: usize) -> Found
 
 // The retuning or the tone system of the name at `at`, else the logic.
 fn find_order(text: &[u8], declared: &[u32], n: usize, at: usize) -> Found
+    requires { ⌜ Kept (now text) (now declared) n ⌝ }
     ensures { λ r. ⌜ r ≡ calledIn (now (text .entry)) (namedOf (take n (now (declared .entry)))) (kindsIn Scope.Orders) (nameAt (now (text .entry)) at) ⌝ }
 {
     let Found::Row(number) = find_start(text, declared, n, at) else {
@@ -143,6 +162,7 @@ fn find_order(text: &[u8], declared: &[u32], n: usize, at: usize) -> Found
 
 // What the name at `at` means.
 fn find_meaning(text: &[u8], declared: &[u32], n: usize, scope: Scope, at: usize) -> Found
+    requires { ⌜ Kept (now text) (now declared) n ⌝ }
     ensures { λ r. ⌜ r ≡ calledIn (now (text .entry)) (namedOf (take n (now (declared .entry)))) (kindsIn scope) (nameAt (now (text .entry)) at) ⌝ }
 {
     match scope {
@@ -180,7 +200,7 @@ fn declare_all(
                 declarations: n,
             };
         }
-        declared[n] = pack(kind, place);
+        declared[n] = pack(text, kind, place);
         starts[n] = i as u32;
         n += 1;
     }
@@ -197,6 +217,7 @@ fn resolve_uses(text: &[u8], items: &mut [u32], count: usize, declared: &[u32], 
     requires { λ is. ⌜ itemsIn count (now items) ≡ is ⌝ }
     requires { λ is. ⌜ Held is (now items) ⌝ }
     requires { λ is. ⌜ n ≤ mostDeclarations ⌝ }
+    requires { λ is. ⌜ Kept (now text) (now declared) n ⌝ }
     ensures { λ is r. ⌜ SecondPass (now (text .entry)) (namedOf (take n (now (declared .entry)))) n is (now (items .entry)) r (now (items .exit)) ⌝ }
 {
     for i in 0..count {

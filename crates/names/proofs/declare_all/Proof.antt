@@ -8,7 +8,7 @@ use Rattle.grammar.specs.declared.Item.the-variants.{MutedPosition}
 use Rattle.names.specs.Parts.{part}
 use Rattle.names.specs.Inner.{itemsIn, roleOf}
 use Rattle.names.proofs.Held.{length-items-in, held-item, held-few}
-use Rattle.names.proofs.FirstPass.{Passed, passed-none, passed-all, passed-on, place-near, one-more, passed-stop, passed-more}
+use Rattle.names.proofs.FirstPass.{Passed, passed-none, passed-kept, passed-all, passed-on, place-near, one-more, passed-stop, passed-more}
 use Rattle.names.proofs.declare_all.Statement.{statement}
 use Rattle.names.proofs.declare_all.Tie as tie
 
@@ -63,7 +63,7 @@ cast-find-declaration : tie.Need-cast-find-declaration Inv-loop μ-loop
 cast-find-declaration c = search needs
 
 find-declaration-requires : tie.Need-find-declaration-requires Inv-loop μ-loop
-find-declaration-requires c κs = search needs
+find-declaration-requires c κs = passed-kept _ _ _ _ (c .before .before .before .before .before .before .before .loop .inv) (omega (arith, room-here (c .before .before) .0))
 
 enum-told : tie.Need-enum-told Inv-loop μ-loop
 enum-told c = search needs

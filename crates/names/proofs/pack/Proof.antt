@@ -1,6 +1,7 @@
--- A place of the text leaves room for the kind's number.
+-- A place of the text leaves room for the mark.
 use native.Mathlib.Omega.{arith}
-use Rattle.names.proofs.FirstPass.{kind-few}
+use Rattle.symbols.specs.Names.{nameAt}
+use Rattle.names.proofs.Marks.{mark-few}
 use borrow.Author.Needs.{needs}
 use Rattle.names.proofs.pack.Statement.{statement}
 use Rattle.names.proofs.pack.Tie as tie
@@ -8,14 +9,14 @@ use Rattle.names.proofs.pack.Tie as tie
 mul-result : tie.Need-mul-result
 mul-result c = search needs
 
-kind-number-requires : tie.Need-kind-number-requires
-kind-number-requires c κs = search needs
+mark-of-requires : tie.Need-mark-of-requires
+mark-of-requires c κs = search needs
 
 add-result : tie.Need-add-result
-add-result c = omega (arith, c .kind-number .ensures, kind-few (c .before .args .kind))
+add-result c = omega (arith, c .mark-of .ensures, mark-few (c .before .before .args .kind) (nameAt (c .before .before .args .text .now) (c .before .before .args .place)))
 
 returns : tie.Need-returns
 returns c = search needs
 
 pub pack-spec : {M : Type 1} → statement M
-pack-spec = tie.close (tie.spec mul-result kind-number-requires add-result returns)
+pack-spec = tie.close (tie.spec mul-result mark-of-requires add-result returns)

@@ -1,5 +1,5 @@
 -- What the first pass finds, or else what the second does.
-use Rattle.names.proofs.BothPasses.{both-stop, first-few, both-done}
+use Rattle.names.proofs.BothPasses.{both-stop, first-few, first-found, both-done}
 use borrow.Author.Needs.{needs}
 use Rattle.names.proofs.resolve_names.Statement.{statement}
 use Rattle.names.proofs.resolve_names.Tie as tie
@@ -20,7 +20,7 @@ returns : tie.Need-returns
 returns c = both-stop _ _ _ _ _ (c .before .before .before .before .before .before .before .before .before .before .before .before .before .before .pre .0 .rows) (c .before .before .before .before .before .before .declare-all .ensures) (c .if1 .taken)
 
 resolve-uses-requires : tie.Need-resolve-uses-requires
-resolve-uses-requires c κs = (c .before .before .before .before .before .before .before .before .before .before .before .before .before .before .before .before .pre .0, first-few _ _ (c .before .before .before .before .before .before .before .before .declare-all .ensures) (c .before .before .before .before .before .before .before .before .before .before .before .before .before .before .before .before .pre .1 .0))
+resolve-uses-requires c κs = (c .before .before .before .before .before .before .before .before .before .before .before .before .before .before .before .before .pre .0, (first-few _ _ (c .before .before .before .before .before .before .before .before .declare-all .ensures) (c .before .before .before .before .before .before .before .before .before .before .before .before .before .before .before .before .pre .1 .0), first-found _ _ (c .before .before .before .before .before .before .before .before .declare-all .ensures) (c .before .before .before .before .before .before .before .before .before .before .before .before .before .before .before .before .pre .1 .0) (c .before .before .before .before .before .before .before .before .before .before .before .before .before .before .before .before .pre .1 .1)))
 
 same-length-4 : tie.Need-same-length-4
 same-length-4 c = search needs
