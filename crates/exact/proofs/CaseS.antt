@@ -24,14 +24,23 @@ use Rattle.tuning.specs.State.{held, validState, allMuted}
 use Rattle.frames.specs.Frames.{digitOf, byteOf, bytesOf, framed, frameOf}
 use Rattle.protocol.specs.Letters.{firstLogic, firstOrder, pressed}
 use Rattle.protocol.specs.Answers.{Made, startDesk, callOn, tuningFrom, madeFrom, letterOutcome, keyOutcome, frameOutcome, answerOf}
-use Rattle.protocol.specs.Streams.{Lent, deskAfter, madeIn}
+use Rattle.hexadecimal.specs.Hexadecimal.{hexOf, hexes, twos, fourOf}
+use Rattle.answers.specs.Answer.{tonesBytes}
+use Rattle.protocol.specs.Streams.{Lent, deskAfter, madeIn, linesOf}
 use Rattle.exact.specs.Entry.{Factor, Entry, degreeOf, degrees, weight, part, aboveBy, belowBy, above, below, u, v, Within}
 use Rattle.exact.specs.Book.{Powers, entries, number, start440, startRoot, once, numbered, numbersOf, written, bookFrom}
 use Rattle.exact.specs.Book.{KeyAgrees, both-silent, near}
 use Rattle.exact.specs.Actions.{declaredIn, entryWithin}
 use Rattle.exact.specs.Claim.{fedBy, bookAfter, StreamAgrees}
-use Rattle.exact.specs.CaseS.{frames, entryIn, entry71}
+use Rattle.exact.specs.CaseS.{Whole, frames, entryIn, entry71}
 use Rattle.exact.proofs.Claim.{stream-agrees}
+
+pub case-s : Whole
+unfolding Option·elim leadingZeros place bits L measure nearest plus total ranged valueAt valueOf writtenAll joined rowOf filledFrom tablesOf
+    validTables rowRight rowsRight ordersRight eachRight allZero allNought called firstFailing anyBeyond validState allMuted digitOf byteOf bytesOf
+    framed frameOf firstLogic firstOrder pressed callOn tuningFrom madeFrom letterOutcome keyOutcome frameOutcome answerOf linesOf hexOf hexes twos
+    fourOf tonesBytes
+case-s = record { read = case-s-read; answered = refl }
 
 pub case-s-agrees : (stream : List Lent) → StreamAgrees program stream
 case-s-agrees = stream-agrees text program case-s-read

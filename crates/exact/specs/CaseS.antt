@@ -1,12 +1,16 @@
 -- Case S of document 01 as a stream: its text and its frames.
+use mathlib.Core.Path.{_≡_}
 use mathlib.Core.List.{List, [], _∷_, map}
 use Prim.Native.Nat.{ℕ}
 use Rattle.symbols.specs.Bytes.{bytes}
 use Rattle.tuning.specs.Scale.{Sound, muted, sounds}
 use Rattle.tuning.specs.Tuning.{soundOf}
 use Rattle.answers.specs.Answer.{smallestBuffer}
-use Rattle.program.specs.CaseS.{program}
-use Rattle.protocol.specs.Streams.{Lent}
+use Rattle.program.specs.CaseS.{text, program}
+use Rattle.program.specs.Text.{accepted, readText}
+use Rattle.filling.specs.Tables.{tablesOf}
+use Rattle.protocol.specs.Answers.{startDesk}
+use Rattle.protocol.specs.Streams.{Lent, linesOf}
 use Rattle.exact.specs.Entry.{Entry}
 use Rattle.exact.specs.Book.{Powers, entries, numbersOf, written}
 use Rattle.exact.specs.Actions.{declaredIn}
@@ -18,6 +22,17 @@ lent line = record { frame = line; room = smallestBuffer }
 
 abbrev pub frames : List Lent
 frames = map lent (bytes "01014D" ∷ bytes "010245" ∷ bytes "010155" ∷ bytes "020155" ∷ bytes "020247" ∷ bytes "010158" ∷ bytes "0201" ∷ [])
+
+-- the column "Out", each line with its line feed
+abbrev pub lines : List (List ℕ)
+lines =
+    bytes "01014D00450200124F80\n" ∷ bytes "0102450000694920\n" ∷ bytes "01015500460200124F80\n" ∷ bytes "02015500470200124F80\n"
+    ∷ bytes "02024700007EB526\n" ∷ bytes "01015815470200124F80\n" ∷ bytes "FF16\n" ∷ []
+
+-- "Case S, whole": the text is read as the program, and each frame is answered by its line
+pub record Whole : Type 0 where
+  pub read : readText text ≡ accepted program
+  pub answered : linesOf (tablesOf program) startDesk frames ≡ lines
 
 -- the entry of a sound, of which a muted one has none
 abbrev pub entryIn : Sound Powers → Entry

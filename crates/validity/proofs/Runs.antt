@@ -1,23 +1,25 @@
 -- The tests of lists as the loops make them: one turn further, and at the end. Assumes nothing.
-use mathlib.Core.Path.{_≡_, refl, sym, ap}
-use mathlib.Core.Bool.{Bool, true, false, not, _&&_, _||_, and-true, and-false, and-assoc, true≢false}
-use mathlib.Core.List.{List, [], _∷_}
-use Prim.Native.Nat.{ℕ, suc, _+_, _-_, _≤_, _<_}
+use mathlib.Core.Path.{_≡_, refl, sym, ap, _∙_}
+use mathlib.Core.Bool.{Bool, true, false, not, _&&_, _||_, and-true, and-false, and-assoc, true≢false, false≢true}
+use mathlib.Core.List.{List, [], _∷_, _++_}
+use mathlib.Core.Logic.{_≢_}
+use Prim.Native.Nat.{ℕ, zero, suc, _+_, _-_, _≤_, _<_}
 use native.Mathlib.Numerals.{add-one}
 use native.Mathlib.Omega.{arith}
-use borrow.Author.Tests.{leb-true, leb-false, le-leb}
+use borrow.Author.Tests.{leb-true, leb-false, le-leb, lt-leb, ne-eqb}
 use lib.Dec.{leb, eqb}
 use lib.IntN.{ℤ, pos, negsuc, natAbs, _-ℤ_}
 use lib.Signed.{leZ}
-use lib.ListN.{length, getD}
-use lib.Seq.{slice, slice-cons, slice-empty}
+use lib.ListN.{length, getD, take, drop, take-append-drop}
+use lib.Seq.{slice, slice-cons, slice-empty, take-length, length-take-le, drop-append-le}
 use Rattle.integers.specs.Parts.{up}
 use Rattle.integers.proofs.Signed.{signed, abs, diff}
-use Rattle.tuning.proofs.Lists.{every}
+use Rattle.tuning.specs.Desk.{between, isTone}
+use Rattle.tuning.proofs.Lists.{every, both}
 use Rattle.tables.specs.declared.Counts.{Counts}
 use Rattle.tables.specs.declared.Numbers.{Numbers}
-use Rattle.tables.specs.Layout.{numbers, readAt, systemForm, logicForm}
-use Rattle.validity.specs.Valid.{isZero, isLetter, isForm, rowRight, hasNaturals, rowsRight, ordersRight, eachRight, allZero, allNought}
+use Rattle.tables.specs.Layout.{numbers, readAt, intervalForm, toneForm, systemForm, logicForm}
+use Rattle.validity.specs.Valid.{isZero, isLetter, isForm, noPart, rowRight, hasNaturals, rowsRight, ordersRight, eachRight, allZero, allNought}
 
 -- ---- zeros, as a test of every element
 
@@ -34,6 +36,36 @@ unfolding allNought every
 nought-each [] = refl
 nought-each (k ∷ l) = ap (λ (b : Bool). isNought k && b) (nought-each l)
 
+-- a run is tested a block of so many at a time, and each block by a loop
+abbrev pub blockSize : ℕ
+blockSize = 128
+
+-- `all` is the test of every element
+module _ {A : Type 0} (p : A → Bool) (all : List A → Bool) (each : (l : List A) → all l ≡ every p l) (l : List A) where
+  pub block-turn : (f i t : ℕ) (ok : Bool) (d : A) → f + i < t → t ≤ length l → ok && p (getD l (f + i) d) && all (slice (f + (i + 1)) t l) ≡ ok && all (slice (f + i) t l)
+  unfolding every
+  block-turn f i t ok d h k =
+      let e : f + (i + 1) ≡ suc (f + i) = omega arith in
+      rw (e, each (slice (suc (f + i)) t l), each (slice (f + i) t l), slice-cons (f + i) t l d h k) (and-assoc ok _ _)
+
+  pub block-end : (i t : ℕ) (ok : Bool) → i ≡ t → ok && all (slice i t l) ≡ ok
+  unfolding every
+  block-end i t ok e = rw (e, slice-empty t l, each []) (and-true ok)
+
+  joined : (xs ys : List A) → every p (xs ++ ys) ≡ every p xs && every p ys
+  unfolding every
+  joined [] ys = refl
+  joined (x ∷ xs) ys = rw (joined xs ys) (sym (and-assoc (p x) _ _))
+
+  pub run-split : (i j : ℕ) {b : Bool} → all (slice i j l) ≡ b → i ≤ j → j ≤ length l → all (drop i l) ≡ b && all (drop j l)
+  run-split i j e h k =
+      let n : i ≤ length (take j l) = rw (length-take-le j l k) h in
+      let parts : drop i l ≡ slice i j l ++ drop j l = ap (drop i) (sym (take-append-drop j l)) ∙ drop-append-le i (take j l) (drop j l) n in
+      rw (parts, each (slice i j l ++ drop j l), sym e, each (slice i j l), each (drop j l)) (joined (slice i j l) (drop j l))
+
+  pub run-end : (i j : ℕ) {b : Bool} → b ≡ all (slice i j l) → j ≡ length l → b ≡ all (drop i l)
+  run-end i j f e = f ∙ rw (e, take-length l)
+
 -- ---- kinds and numbers
 
 module _ (last : ℕ) (ok : ℤ → Bool) (ks : List ℕ) (zs : List ℤ) (n : ℕ) where
@@ -49,21 +81,64 @@ module _ (last : ℕ) (ok : ℤ → Bool) (ks : List ℕ) (zs : List ℤ) (n : �
 
 -- ---- rows
 
+zero-natural : (m : ℤ) → isZero m ≡ leZ (pos 0) m && eqb (up m) 0
+zero-natural (pos zero) = refl
+zero-natural (pos (suc k)) = rw (lt-leb (suc k) 0 (omega arith), ne-eqb (suc k) 0 (omega arith))
+zero-natural (negsuc k) = refl
+
+regroup : (x a b r s : Bool) → x && (a && r) && (b && s) ≡ (a && b) && (x && (r && s))
+regroup true true true r s = refl
+regroup true true false r s = and-false r
+regroup true false b r s = refl
+regroup false a b r s = sym (and-false (a && b))
+
+-- bounds that are zero are no negative numbers, and nothing is between them
+zero-bounds : (x : Bool) (m n : ℤ) → x && isZero m && isZero n ≡ (leZ (pos 0) m && leZ (pos 0) n) && (x && noPart (up m) (up n))
+zero-bounds x m n = rw (zero-natural m, zero-natural n) (regroup x (leZ (pos 0) m) (leZ (pos 0) n) (eqb (up m) 0) (eqb (up n) 0))
+
+pub natural-is : (z : ℤ) → leZ (pos 0) z ≡ true → natAbs z ≡ up z
+natural-is (pos n) h = refl
+natural-is (negsuc n) h = absurd (false≢true h)
+
+pub other-form : (f : ℤ) → leZ (pos 0) f ≡ true → between (pos intervalForm) (pos toneForm) f ≡ false → (natAbs f ≢ intervalForm) × (natAbs f ≢ toneForm)
+other-form (pos n) h k = (λ e. true≢false (ap sounding (sym e) ∙ k), λ e. true≢false (ap sounding (sym e) ∙ k))
+  where
+    sounding : ℕ → Bool
+    sounding m = between (pos intervalForm) (pos toneForm) (pos m)
+other-form (negsuc n) h k = absurd (false≢true h)
+
 module _ (rows : List ℤ) (c : Counts) where
   -- a row by its form
   pub form-right : (n : Numbers) (k : ℕ) → n .form ≡ k → rowRight rows c (numbers k (n .first) (n .second) (n .from) (n .to)) ≡ rowRight rows c n
   form-right n k e = ap (λ (f : ℕ). rowRight rows c (numbers f (n .first) (n .second) (n .from) (n .to))) (sym e)
 
-  pub rows-turn : (i n : ℕ) (b natural right : Bool) → i < n → natural ≡ hasNaturals rows i → right ≡ rowRight rows c (readAt rows i)
-      → b && (natural && right) && rowsRight rows c (i + 1) (n - (i + 1)) ≡ b && rowsRight rows c i (n - i)
-  unfolding rowsRight
-  rows-turn i n b natural right h e f =
-      let s : n - i ≡ suc (n - (i + 1)) = omega arith in
-      rw (s, add-one i, e, f) (and-assoc b _ _)
+  -- intervals and tones
+  pub sounding-right : (f a b m n : ℤ) → between (pos intervalForm) (pos toneForm) f ≡ true
+      → isTone a && isZero b && isZero m && isZero n ≡ (leZ (pos 0) f && leZ (pos 0) m && leZ (pos 0) n) && rowRight rows c (numbers (up f) a b (up m) (up n))
+  unfolding rowRight
+  sounding-right (negsuc k) a b m n h = absurd (false≢true h)
+  sounding-right (pos zero) a b m n h = absurd (false≢true h)
+  sounding-right (pos (suc zero)) a b m n h = zero-bounds (isTone a && isZero b) m n
+  sounding-right (pos (suc (suc zero))) a b m n h = zero-bounds (isTone a && isZero b) m n
+  sounding-right (pos (suc (suc (suc k)))) a b m n h =
+      let e : ⊥ = omega (arith, leb-true (suc (suc (suc k))) toneForm (both (leb intervalForm (suc (suc (suc k)))) (leb (suc (suc (suc k))) toneForm) h .1)) in
+      absurd e
 
-  pub rows-end : (i n : ℕ) (b : Bool) → n ≤ i → b && rowsRight rows c i (n - i) ≡ b
+  pub row-wrong : (i n : ℕ) → i < n → hasNaturals rows i && rowRight rows c (readAt rows i) ≡ false → rowsRight rows c i (n - i) ≡ false
   unfolding rowsRight
-  rows-end i n b h = let e : n - i ≡ 0 = omega arith in rw e (and-true b)
+  row-wrong i n h e =
+      let s : n - i ≡ suc (n - (i + 1)) = omega arith in
+      rw (s, e)
+
+  pub rows-turn : (i n : ℕ) → i < n → hasNaturals rows i && rowRight rows c (readAt rows i) ≡ true → rowsRight rows c (i + 1) (n - (i + 1)) ≡ rowsRight rows c i (n - i)
+  unfolding rowsRight
+  rows-turn i n h e =
+      let s : n - i ≡ suc (n - (i + 1)) = omega arith in
+      rw (s, add-one i, e)
+
+  pub rows-end : (i n : ℕ) → n ≤ i → rowsRight rows c i (n - i) ≡ true
+  unfolding rowsRight
+  rows-end i n h = let e : n - i ≡ 0 = omega arith in rw e
 
 -- ---- starts: none, or the declaration before the number
 
@@ -81,13 +156,21 @@ start-less s h = omega (signed, diff s (pos 1), abs (s -ℤ pos 1), abs s)
 -- ---- orders
 
 module _ (rows : List ℤ) (count : ℕ) (letters calls : List ℕ) where
-  pub orders-turn : (i n : ℕ) (b known : Bool) → i < n → known ≡ isForm rows count systemForm logicForm (getD calls i 0)
-      → b && (isLetter (pos (getD letters i 0)) && known) && ordersRight rows count letters calls (i + 1) (n - (i + 1)) ≡ b && ordersRight rows count letters calls i (n - i)
-  unfolding ordersRight
-  orders-turn i n b known h e =
-      let s : n - i ≡ suc (n - (i + 1)) = omega arith in
-      rw (s, add-one i, e) (and-assoc b _ _)
+  abbrev pub orderRight : ℕ → Bool
+  orderRight i = isLetter (pos (getD letters i 0)) && isForm rows count systemForm logicForm (getD calls i 0)
 
-  pub orders-end : (i n : ℕ) (b : Bool) → n ≤ i → b && ordersRight rows count letters calls i (n - i) ≡ b
+  pub order-wrong : (i n : ℕ) → i < n → orderRight i ≡ false → ordersRight rows count letters calls i (n - i) ≡ false
   unfolding ordersRight
-  orders-end i n b h = let e : n - i ≡ 0 = omega arith in rw e (and-true b)
+  order-wrong i n h e =
+      let s : n - i ≡ suc (n - (i + 1)) = omega arith in
+      rw (s, e)
+
+  pub orders-turn : (i n : ℕ) → i < n → orderRight i ≡ true → ordersRight rows count letters calls (i + 1) (n - (i + 1)) ≡ ordersRight rows count letters calls i (n - i)
+  unfolding ordersRight
+  orders-turn i n h e =
+      let s : n - i ≡ suc (n - (i + 1)) = omega arith in
+      rw (s, add-one i, e)
+
+  pub orders-end : (i n : ℕ) → n ≤ i → ordersRight rows count letters calls i (n - i) ≡ true
+  unfolding ordersRight
+  orders-end i n h = let e : n - i ≡ 0 = omega arith in rw e

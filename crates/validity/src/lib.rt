@@ -1,4 +1,5 @@
-// Whether tables are valid. It is tested at every frame: the runs have no early way out, so that they go many numbers at a time.
+// Whether tables are valid. It is tested at every frame: long runs of zeros go a block at a time. Within a block there is no way out, so that its
+// numbers go many at once.
 use tables::ANCHOR_FORM;
 use tables::CHANGES;
 use tables::Counts;
@@ -25,10 +26,13 @@ use tables::decode;
 use tables::has_full_size;
 use tuning::PLACES;
 ghost use mathlib.Core.Path.{_≡_};
+ghost use mathlib.Core.Bool.{_&&_};
+ghost use mathlib.Core.Logic.{_≢_};
 ghost use Prim.Native.Nat.{_+_, _*_, _≤_};
 ghost use lib.ListN.{length, drop, take};
+ghost use lib.Seq.{slice};
 ghost use Rattle.tuning.specs.Desk.{between, isTone};
-ghost use Rattle.tables.specs.Layout.{divideCode, soundsCode, setCode};
+ghost use Rattle.tables.specs.Layout.{rowWidth, readAt, intervalForm, toneForm, divideCode, soundsCode, setCode};
 ghost use Rattle.validity.specs.Valid.{countsRight, isZero, isSum, isAmount, isPart, noPart, isForm, isStart, rowRight, hasNaturals, rowsRight, ordersRight, eachRight, allZero, allNought, poolRight, validTables};
 
 const FARTHEST_TONE: i32 = 100_000_000;
@@ -40,6 +44,9 @@ const HIGHEST_KEY: i32 = 127;
 const FARTHEST_SUM: i32 = 200_000_001;
 
 const MOST_AMOUNT: i32 = 9_999;
+
+// So many zeros are tested before there is a way out.
+const BLOCK: usize = 128;
 
 const LETTER_A: u8 = b'A';
 
@@ -108,13 +115,13 @@ fn is_start(rows: &[i32], count: u32, start: i32) -> bool
     is_form(rows, count, SYSTEM_FORM, TONES_FORM, (start - 1) as u32)
 }
 
-fn is_row(rows: &[i32], used: Counts, n: Numbers) -> bool
+// A row that is no interval and no tone.
+fn is_other_row(rows: &[i32], used: Counts, n: Numbers) -> bool
+    requires { ⌜ (n .form ≢ intervalForm) × (n .form ≢ toneForm) ⌝ }
     ensures { λ r. ⌜ r ≡ rowRight (now (rows .entry)) used n ⌝ }
 {
     let form = n.form;
     match form {
-        INTERVAL_FORM => is_tone(n.first) & is_zero(n.second) & is_nothing(n.from, n.to),
-        TONE_FORM => is_tone(n.first) & is_zero(n.second) & is_nothing(n.from, n.to),
         SYSTEM_FORM => {
             is_between(0, HIGHEST_KEY, n.first)
                 & is_between(0, LONGEST_PERIOD, n.second)
@@ -141,31 +148,51 @@ fn is_row(rows: &[i32], used: Counts, n: Numbers) -> bool
     }
 }
 
-// Whether the form and the bounds of row i are not negative.
-fn has_naturals(rows: &[i32], i: u32) -> bool
-    ensures { λ r. ⌜ r ≡ hasNaturals (now (rows .entry)) i ⌝ }
+// Whether row i is right. Most rows are intervals and tones, so these are tested first.
+fn is_row(rows: &[i32], used: Counts, i: usize) -> bool
+    requires { ⌜ rowWidth * i + rowWidth ≤ length (now rows) ⌝ }
+    ensures { λ r. ⌜ r ≡ hasNaturals (now (rows .entry)) i && rowRight (now (rows .entry)) used (readAt (now (rows .entry)) i) ⌝ }
 {
-    let at = ROW_WIDTH * i as usize;
-    let form = decode::number_at(rows, at);
-    let from = decode::number_at(rows, at + 3);
-    let to = decode::number_at(rows, at + 4);
-    (0 <= form) & (0 <= from) & (0 <= to)
+    let at = ROW_WIDTH * i;
+    let form = rows[at];
+    let first = rows[at + 1];
+    let second = rows[at + 2];
+    let from = rows[at + 3];
+    let to = rows[at + 4];
+    if is_between(INTERVAL_FORM as i32, TONE_FORM as i32, form) {
+        return is_tone(first) & is_zero(second) & is_zero(from) & is_zero(to);
+    }
+    let natural = (0 <= form) & (0 <= from) & (0 <= to);
+    if !natural {
+        return false;
+    }
+    is_other_row(
+        rows,
+        used,
+        Numbers {
+            form: form as u32,
+            first,
+            second,
+            from: from as u32,
+            to: to as u32,
+        },
+    )
 }
 
 // Whether the used rows are right.
 fn are_rows(rows: &[i32], used: Counts) -> bool
+    requires { ⌜ rowWidth * used .rows ≤ length (now rows) ⌝ }
     ensures { λ r. ⌜ r ≡ rowsRight (now (rows .entry)) used 0 (used .rows) ⌝ }
 {
-    let end = used.rows;
-    let mut ok = true;
-    let mut i: u32 = 0;
+    let end = used.rows as usize;
+    let mut i: usize = 0;
     while i < end {
-        let natural = has_naturals(rows, i);
-        let right = is_row(rows, used, decode::numbers_at(rows, i as usize));
-        ok = ok & (natural & right);
+        if !is_row(rows, used, i) {
+            return false;
+        }
         i += 1;
     }
-    ok
+    true
 }
 
 // Whether the first `used` have a kind up to `last` and a number in its range, 0 where the kind is 0.
@@ -184,31 +211,63 @@ fn are_in_range(kinds: &[u8], numbers: &[i32], used: usize, last: u8, low: i32, 
     ok
 }
 
-// Whether the numbers from `from` on are zero.
-fn are_zero_numbers(table: &[i32], from: usize) -> bool
-    ensures { λ r. ⌜ r ≡ allZero (drop from (now (table .entry))) ⌝ }
+// Whether so many numbers from `from` on are zero.
+fn are_zeros(table: &[i32], from: usize, count: usize) -> bool
+    requires { ⌜ from + count ≤ length (now table) ⌝ }
+    ensures { λ r. ⌜ r ≡ allZero (slice from (from + count) (now (table .entry))) ⌝ }
 {
     let mut ok = true;
-    let mut i = from;
-    while i < table.len() {
-        let z = table[i];
+    let mut i: usize = 0;
+    while i < count {
+        let z = table[from + i];
         ok = ok & ((0 <= z) & (z <= 0));
         i += 1;
     }
     ok
 }
 
-fn are_zero_bytes(table: &[u8], from: usize) -> bool
-    ensures { λ r. ⌜ r ≡ allNought (drop from (now (table .entry))) ⌝ }
+// Whether the numbers from `from` on are zero.
+fn are_zero_numbers(table: &[i32], from: usize) -> bool
+    requires { ⌜ from ≤ length (now table) ⌝ }
+    ensures { λ r. ⌜ r ≡ allZero (drop from (now (table .entry))) ⌝ }
+{
+    let mut i = from;
+    while BLOCK <= table.len() - i {
+        if !are_zeros(table, i, BLOCK) {
+            return false;
+        }
+        i += BLOCK;
+    }
+    are_zeros(table, i, table.len() - i)
+}
+
+// Whether so many bytes from `from` on are zero.
+fn are_noughts(table: &[u8], from: usize, count: usize) -> bool
+    requires { ⌜ from + count ≤ length (now table) ⌝ }
+    ensures { λ r. ⌜ r ≡ allNought (slice from (from + count) (now (table .entry))) ⌝ }
 {
     let mut ok = true;
-    let mut i = from;
-    while i < table.len() {
-        let b = table[i];
+    let mut i: usize = 0;
+    while i < count {
+        let b = table[from + i];
         ok = ok & (b == 0);
         i += 1;
     }
     ok
+}
+
+fn are_zero_bytes(table: &[u8], from: usize) -> bool
+    requires { ⌜ from ≤ length (now table) ⌝ }
+    ensures { λ r. ⌜ r ≡ allNought (drop from (now (table .entry))) ⌝ }
+{
+    let mut i = from;
+    while BLOCK <= table.len() - i {
+        if !are_noughts(table, i, BLOCK) {
+            return false;
+        }
+        i += BLOCK;
+    }
+    are_noughts(table, i, table.len() - i)
 }
 
 fn are_zero_calls(table: &[u16], from: usize) -> bool
@@ -262,16 +321,18 @@ fn are_orders(rows: &[i32], letters: &[u8], calls: &[u16], used: Counts) -> bool
     ensures { λ r. ⌜ r ≡ ordersRight (now (rows .entry)) (used .rows) (now (letters .entry)) (now (calls .entry)) 0 (used .orders) ⌝ }
 {
     let end = used.orders as usize;
-    let mut ok = true;
     let mut i: usize = 0;
     while i < end {
         let letter = letters[i];
         let called = calls[i];
         let known = is_form(rows, used.rows, SYSTEM_FORM, LOGIC_FORM, called as u32);
-        ok = ok & ((LETTER_A <= letter) & (letter <= LETTER_Z) & known);
+        let right = (LETTER_A <= letter) & (letter <= LETTER_Z) & known;
+        if !right {
+            return false;
+        }
         i += 1;
     }
-    ok
+    true
 }
 
 // Whether there is room for so many.

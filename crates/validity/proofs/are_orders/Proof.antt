@@ -1,21 +1,24 @@
--- `validity::are_orders` meets its contract. The loop's invariant: what was found so far and what is left give the answer. Assumes nothing.
-use mathlib.Core.Bool.{_&&_}
-use mathlib.Core.Path.{_≡_, sym, ap, _∙_}
+-- `validity::are_orders` meets its contract. The loop's invariant: what is left gives the answer. Assumes nothing.
+use mathlib.Core.Bool.{Bool, true, false, _&&_}
+use mathlib.Core.Path.{_≡_, sym, ap, _∙_, subst}
 use Prim.Native.Nat.{_-_, _≤_}
 use native.Mathlib.Nat.{sub-zero}
 use native.Mathlib.Omega.{arith}
 use borrow.Author.Needs.{needs}
-use Rattle.validity.proofs.Runs.{orders-turn, orders-end}
-use Rattle.validity.specs.Valid.{ordersRight}
+use borrow.Author.Tests.{not-true, not-false}
+use lib.IntN.{pos}
+use lib.ListN.{getD}
+use Rattle.validity.proofs.Runs.{order-wrong, orders-turn, orders-end}
+use Rattle.validity.specs.Valid.{isLetter, ordersRight}
 use Rattle.validity.proofs.are_orders.Statement.{statement}
 use Rattle.validity.proofs.are_orders.Tie as tie
 
 abbrev Inv-loop : tie.InvT-loop
-Inv-loop rows letters calls used end ok₀ i₀ ok i =
-    (i ≤ used .orders) × (ok && ordersRight rows (used .rows) letters calls i (used .orders - i) ≡ ordersRight rows (used .rows) letters calls 0 (used .orders))
+Inv-loop rows letters calls used end i₀ i =
+    (i ≤ used .orders) × (ordersRight rows (used .rows) letters calls i (used .orders - i) ≡ ordersRight rows (used .rows) letters calls 0 (used .orders))
 
 abbrev μ-loop : tie.MeasureT-loop
-μ-loop rows letters calls used end ok₀ i₀ ok i = used .orders - i
+μ-loop rows letters calls used end i₀ i = used .orders - i
 
 cast-end : tie.Need-cast-end Inv-loop μ-loop
 cast-end c = search needs
@@ -40,6 +43,13 @@ cast-is-form c = omega (arith, c .shared-slice-known4 .given (c .before .before 
 is-form-requires : tie.Need-is-form-requires Inv-loop μ-loop
 is-form-requires c κs = search needs
 
+returns : tie.Need-returns Inv-loop μ-loop
+returns c =
+    let l = c .before .before .before .before .before in
+    let a = l .before .before .before .before .args in
+    let wrong = subst (λ b. isLetter (pos (getD (a .letters .now) (l .loop .i) 0)) && b ≡ false) (c .before .is-form .ensures) (not-true _ (c .if1 .taken)) in
+    sym (order-wrong (a .rows .now) (a .used .rows) (a .letters .now) (a .calls .now) (l .loop .i) (a .used .orders) (c .before .before .before .before .loop-test .taken) wrong) ∙ l .loop .inv .1
+
 add-i : tie.Need-add-i Inv-loop μ-loop
 add-i c = search needs
 
@@ -48,19 +58,17 @@ loop-less c = search needs
 
 loop-again : tie.Need-loop-again Inv-loop μ-loop
 loop-again c =
-    let l = c .before .before .before .before in
+    let l = c .before .before .before .before .before in
     let a = l .before .before .before .before .args in
-    let taken = c .before .before .before .loop-test .taken in (
-      omega (arith, taken),
-      orders-turn (a .rows .now) (a .used .rows) (a .letters .now) (a .calls .now) (l .loop .i) (a .used .orders) (l .loop .ok) (c .is-form .result) taken (c .is-form .ensures)
-          ∙ l .loop .inv .1,
-    )
+    let taken = c .before .before .before .before .loop-test .taken in
+    let right = subst (λ b. isLetter (pos (getD (a .letters .now) (l .loop .i) 0)) && b ≡ true) (c .before .is-form .ensures) (not-false _ (c .if1 .left)) in
+    (omega (arith, taken), orders-turn (a .rows .now) (a .used .rows) (a .letters .now) (a .calls .now) (l .loop .i) (a .used .orders) taken right ∙ l .loop .inv .1)
 
-returns : tie.Need-returns Inv-loop μ-loop
-returns c =
+returns-2 : tie.Need-returns-2 Inv-loop μ-loop
+returns-2 c =
     let l = c .before in
     let a = l .before .before .before .before .args in
-    sym (orders-end (a .rows .now) (a .used .rows) (a .letters .now) (a .calls .now) (l .loop .i) (a .used .orders) (l .loop .ok) (c .loop-test .left)) ∙ l .loop .inv .1
+    sym (orders-end (a .rows .now) (a .used .rows) (a .letters .now) (a .calls .now) (l .loop .i) (a .used .orders) (c .loop-test .left)) ∙ l .loop .inv .1
 
 pub are-orders-spec : {M : Type 1} → statement M
 are-orders-spec =
@@ -75,7 +83,8 @@ are-orders-spec =
     shared-slice-read-called
     cast-is-form
     is-form-requires
+    returns
     add-i
     loop-less
     loop-again
-    returns)
+    returns-2)

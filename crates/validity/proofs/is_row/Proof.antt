@@ -1,61 +1,120 @@
--- `validity::is_row` meets its contract. Each arm is the test of its form. Assumes nothing.
+-- `validity::is_row` meets its contract. The five numbers are those of the row; intervals and tones have no bounds. Assumes nothing.
+use mathlib.Core.Bool.{false, true, _&&_}
+use mathlib.Core.Path.{_≡_, sym, _∙_}
+use Prim.Native.Nat.{ℕ, _+_, _*_}
+use native.Mathlib.Nat.{add-zero}
 use borrow.Author.Needs.{needs}
-use borrow.Author.Tests.{ne-eqb}
+use borrow.Author.Tests.{not-true, not-false}
+use lib.IntN.{ℤ, pos}
+use lib.ListN.{getD}
+use lib.Signed.{leZ}
 use mir.Facts.{toZ-ofZ}
 use mir.Syntax.{w32}
 use mir.Val.{SFits}
-use Rattle.validity.proofs.Runs.{form-right}
+use Rattle.integers.proofs.Signed.{signed, abs}
+use Rattle.tuning.specs.Desk.{between}
+use Rattle.tuning.proofs.Lists.{both}
+use Rattle.tables.specs.Layout.{rowWidth, intervalForm, toneForm}
 use Rattle.validity.specs.Valid.{rowRight}
+use Rattle.validity.proofs.Runs.{sounding-right, other-form, natural-is}
 use Rattle.validity.proofs.is_row.Statement.{statement}
 use Rattle.validity.proofs.is_row.Tie as tie
 
-first-fits : (c : tie.Start) → SFits w32 (c .args .n .first)
-first-fits c = search needs
+-- the numbers that were read
+abbrev start : tie.After-to → tie.Start
+start c = c .before .before .before .before .before
 
-second-fits : (c : tie.Start) → SFits w32 (c .args .n .second)
-second-fits c = search needs
+abbrev form : tie.After-to → ℤ
+form c = getD (start c .args .rows .now) (rowWidth * start c .args .i) (pos 0)
 
-is-tone-requires : tie.Need-is-tone-requires
-is-tone-requires c κs = search needs
+abbrev number : tie.After-to → ℕ → ℤ
+number c k = getD (start c .args .rows .now) (rowWidth * start c .args .i + k) (pos 0)
 
-is-zero-requires : tie.Need-is-zero-requires
-is-zero-requires c κs = search needs
+form-fits : (c : tie.After-to) → SFits w32 (form c)
+form-fits c = record { sfits = c .before .before .before .before .form .given }
 
-is-nothing-requires : tie.Need-is-nothing-requires
-is-nothing-requires c κs = search needs
+first-fits : (c : tie.After-to) → SFits w32 (number c 1)
+first-fits c = record { sfits = c .before .before .before .first .given }
 
-is-tone-requires-2 : tie.Need-is-tone-requires-2
-is-tone-requires-2 c κs = search needs
+second-fits : (c : tie.After-to) → SFits w32 (number c 2)
+second-fits c = record { sfits = c .before .before .second .given }
 
-is-zero-requires-2 : tie.Need-is-zero-requires-2
-is-zero-requires-2 c κs = search needs
+from-fits : (c : tie.After-to) → SFits w32 (number c 3)
+from-fits c = record { sfits = c .before .from .given }
 
-is-nothing-requires-2 : tie.Need-is-nothing-requires-2
-is-nothing-requires-2 c κs = search needs
+to-fits : (c : tie.After-to) → SFits w32 (number c 4)
+to-fits c = record { sfits = c .to .given }
 
-is-between-requires : tie.Need-is-between-requires
-is-between-requires c κs = search needs
+-- what the tests say of them
+sounds : (c : tie.Then1) → between (pos intervalForm) (pos toneForm) (form (c .before .before)) ≡ true
+sounds c =
+    let f = form-fits (c .before .before) in
+    sym (simp toZ-ofZ at (c .before .is-between .ensures)) ∙ c .if1 .taken
 
-is-between-requires-2 : tie.Need-is-between-requires-2
-is-between-requires-2 c κs = search needs
+is-other : (c : tie.Else1) → between (pos intervalForm) (pos toneForm) (form (c .before .before)) ≡ false
+is-other c =
+    let f = form-fits (c .before .before) in
+    sym (simp toZ-ofZ at (c .before .is-between .ensures)) ∙ c .if1 .left
 
-cast-is-part : tie.Need-cast-is-part
-cast-is-part c = search needs
+record Naturals (c : tie.After-to) : Type 0 where
+  form : leZ (pos 0) (form c) ≡ true
+  from : leZ (pos 0) (number c 3) ≡ true
+  to : leZ (pos 0) (number c 4) ≡ true
 
-is-part-requires : tie.Need-is-part-requires
-is-part-requires c κs = search needs
+naturals : (c : tie.Else2) → Naturals (c .before .before .before)
+naturals c =
+    let n = c .before .before .before in
+    let f = form-fits n in
+    let g = from-fits n in
+    let h = to-fits n in
+    let a = both _ (leZ (pos 0) (number n 4)) (not-false _ (simp toZ-ofZ at (c .if2 .left))) in
+    let b = both (leZ (pos 0) (form n)) (leZ (pos 0) (number n 3)) (a .0) in
+    record { form = b .0; from = b .1; to = a .1 }
 
-is-amount-requires : tie.Need-is-amount-requires
-is-amount-requires c κs = search needs
+mul-at : tie.Need-mul-at
+mul-at c = search needs
 
-is-nothing-requires-3 : tie.Need-is-nothing-requires-3
-is-nothing-requires-3 c κs = search needs
+mul-form : tie.Need-mul-form
+mul-form c = search needs
 
-is-amount-requires-2 : tie.Need-is-amount-requires-2
-is-amount-requires-2 c κs = search needs
+shared-slice-copy-out-form : tie.Need-shared-slice-copy-out-form
+shared-slice-copy-out-form c = search needs
 
-is-nothing-requires-4 : tie.Need-is-nothing-requires-4
-is-nothing-requires-4 c κs = search needs
+add-first : tie.Need-add-first
+add-first c = search needs
+
+mul-first : tie.Need-mul-first
+mul-first c = search needs
+
+shared-slice-copy-out-first : tie.Need-shared-slice-copy-out-first
+shared-slice-copy-out-first c = search needs
+
+add-second : tie.Need-add-second
+add-second c = search needs
+
+mul-second : tie.Need-mul-second
+mul-second c = search needs
+
+shared-slice-copy-out-second : tie.Need-shared-slice-copy-out-second
+shared-slice-copy-out-second c = search needs
+
+add-from : tie.Need-add-from
+add-from c = search needs
+
+mul-from : tie.Need-mul-from
+mul-from c = search needs
+
+shared-slice-copy-out-from : tie.Need-shared-slice-copy-out-from
+shared-slice-copy-out-from c = search needs
+
+add-to : tie.Need-add-to
+add-to c = search needs
+
+mul-to : tie.Need-mul-to
+mul-to c = search needs
+
+shared-slice-copy-out-to : tie.Need-shared-slice-copy-out-to
+shared-slice-copy-out-to c = search needs
 
 cast-is-between : tie.Need-cast-is-between
 cast-is-between c = search needs
@@ -63,148 +122,118 @@ cast-is-between c = search needs
 cast-is-between-2 : tie.Need-cast-is-between-2
 cast-is-between-2 c = search needs
 
-is-between-requires-3 : tie.Need-is-between-requires-3
-is-between-requires-3 c κs = search needs
+is-between-requires : tie.Need-is-between-requires
+is-between-requires c κs = search needs
 
-sub-is-between : tie.Need-sub-is-between
-sub-is-between c = search needs
+is-tone-requires : tie.Need-is-tone-requires
+is-tone-requires c κs = search needs
 
-is-between-requires-4 : tie.Need-is-between-requires-4
-is-between-requires-4 c κs = search needs
+is-zero-requires : tie.Need-is-zero-requires
+is-zero-requires c κs = search needs
 
-is-nothing-requires-5 : tie.Need-is-nothing-requires-5
-is-nothing-requires-5 c κs = search needs
+is-zero-requires-2 : tie.Need-is-zero-requires-2
+is-zero-requires-2 c κs = search needs
 
 is-zero-requires-3 : tie.Need-is-zero-requires-3
 is-zero-requires-3 c κs = search needs
 
-is-zero-requires-4 : tie.Need-is-zero-requires-4
-is-zero-requires-4 c κs = search needs
-
-cast-is-part-2 : tie.Need-cast-is-part-2
-cast-is-part-2 c = search needs
-
-is-part-requires-2 : tie.Need-is-part-requires-2
-is-part-requires-2 c κs = search needs
-
-cast-is-between-3 : tie.Need-cast-is-between-3
-cast-is-between-3 c = search needs
-
-cast-is-between-4 : tie.Need-cast-is-between-4
-cast-is-between-4 c = search needs
-
-is-between-requires-5 : tie.Need-is-between-requires-5
-is-between-requires-5 c κs = search needs
-
-is-start-requires : tie.Need-is-start-requires
-is-start-requires c κs = search needs
-
-cast-is-part-3 : tie.Need-cast-is-part-3
-cast-is-part-3 c = search needs
-
-is-part-requires-3 : tie.Need-is-part-requires-3
-is-part-requires-3 c κs = search needs
-
 returns : tie.Need-returns
-unfolding rowRight
 returns c =
-    let f = first-fits (c .before .before .before .before .before .before) in
-    let g = second-fits (c .before .before .before .before .before .before) in
-    rw (simp toZ-ofZ at (c .before .before .before .is-tone .ensures), simp toZ-ofZ at (c .before .is-zero .ensures), c .is-nothing .ensures) (form-right (c .before .before .before .before .before .before .args .rows .now) (c .before .before .before .before .before .before .args .used) (c .before .before .before .before .before .before .args .n) 1 (c .before .before .before .before .before .match .keys1))
+    let t = c .before .before .before .before in
+    let n = t .before .before in
+    let a = start n .args in
+    let f = first-fits n in
+    let g = second-fits n in
+    let h = from-fits n in
+    let k = to-fits n in
+    rw (
+      simp toZ-ofZ at (c .before .before .before .is-tone .ensures),
+      simp toZ-ofZ at (c .before .before .is-zero .ensures),
+      simp toZ-ofZ at (c .before .is-zero2 .ensures),
+      simp toZ-ofZ at (c .is-zero3 .ensures),
+      add-zero (rowWidth * a .i),
+    )
+    (sounding-right (a .rows .now) (a .used) (form n) (number n 1) (number n 2) (number n 3) (number n 4) (sounds t))
 
 returns-2 : tie.Need-returns-2
-unfolding rowRight
 returns-2 c =
-    let f = first-fits (c .before .before .before .before .before .before) in
-    let g = second-fits (c .before .before .before .before .before .before) in
-    rw (simp toZ-ofZ at (c .before .before .before .is-tone2 .ensures), simp toZ-ofZ at (c .before .is-zero2 .ensures), c .is-nothing2 .ensures) (form-right (c .before .before .before .before .before .before .args .rows .now) (c .before .before .before .before .before .before .args .used) (c .before .before .before .before .before .before .args .n) 2 (c .before .before .before .before .before .match .keys2))
+    let n = c .before .before .before in
+    let f = form-fits n in
+    let g = from-fits n in
+    let h = to-fits n in
+    let e : leZ (pos 0) (form n) && leZ (pos 0) (number n 3) && leZ (pos 0) (number n 4) ≡ false = not-true _ (simp toZ-ofZ at (c .if2 .taken)) in
+    rw (add-zero (rowWidth * start n .args .i), e)
+
+cast-t31 : tie.Need-cast-t31
+cast-t31 c =
+    let n = c .before .before .before in
+    let f = form-fits n in
+    let h = naturals c .form in
+    simp toZ-ofZ (omega (signed, abs (form n)))
+
+cast-t32 : tie.Need-cast-t32
+cast-t32 c =
+    let n = c .before .before .before in
+    let f = from-fits n in
+    let h = naturals c .from in
+    simp toZ-ofZ (omega (signed, abs (number n 3)))
+
+cast-t33 : tie.Need-cast-t33
+cast-t33 c =
+    let n = c .before .before .before in
+    let f = to-fits n in
+    let h = naturals c .to in
+    simp toZ-ofZ (omega (signed, abs (number n 4)))
+
+is-other-row-requires : tie.Need-is-other-row-requires
+is-other-row-requires c κs =
+    let n = c .before .before .before in
+    let f = form-fits n in
+    simp toZ-ofZ (other-form (form n) (naturals c .form) (is-other (c .before)))
 
 returns-3 : tie.Need-returns-3
-unfolding rowRight
 returns-3 c =
-    let f = first-fits (c .before .before .before .before .before .before) in
-    let g = second-fits (c .before .before .before .before .before .before) in
-    rw (simp toZ-ofZ at (c .before .before .before .is-between .ensures), simp toZ-ofZ at (c .before .is-between2 .ensures), c .is-part .ensures) (form-right (c .before .before .before .before .before .before .args .rows .now) (c .before .before .before .before .before .before .args .used) (c .before .before .before .before .before .before .args .n) 3 (c .before .before .before .before .before .match .keys3))
-
-returns-4 : tie.Need-returns-4
-unfolding rowRight
-returns-4 c =
-    let f = first-fits (c .before .before .before .before .before) in
-    let g = second-fits (c .before .before .before .before .before) in
-    rw (simp toZ-ofZ at (c .before .is-amount .ensures), c .is-nothing3 .ensures) (form-right (c .before .before .before .before .before .args .rows .now) (c .before .before .before .before .before .args .used) (c .before .before .before .before .before .args .n) 4 (c .before .before .before .before .match .keys4))
-
-returns-5 : tie.Need-returns-5
-unfolding rowRight
-returns-5 c =
-    let f = first-fits (c .before .before .before .before .before) in
-    let g = second-fits (c .before .before .before .before .before) in
-    rw (simp toZ-ofZ at (c .before .is-amount2 .ensures), c .is-nothing4 .ensures) (form-right (c .before .before .before .before .before .args .rows .now) (c .before .before .before .before .before .args .used) (c .before .before .before .before .before .args .n) 5 (c .before .before .before .before .match .keys5))
-
-returns-6 : tie.Need-returns-6
-unfolding rowRight
-returns-6 c =
-    let f = first-fits (c .before .before .before .before .before .before) in
-    let g = second-fits (c .before .before .before .before .before .before) in
-    rw (simp toZ-ofZ at (c .before .before .before .is-between3 .ensures), simp toZ-ofZ at (c .before .is-between4 .ensures), c .is-nothing5 .ensures) (form-right (c .before .before .before .before .before .before .args .rows .now) (c .before .before .before .before .before .before .args .used) (c .before .before .before .before .before .before .args .n) 6 (c .before .before .before .before .before .match .keys6))
-
-returns-7 : tie.Need-returns-7
-unfolding rowRight
-returns-7 c =
-    let f = first-fits (c .before .before .before .before .before .before) in
-    let g = second-fits (c .before .before .before .before .before .before) in
-    rw (simp toZ-ofZ at (c .before .before .before .is-zero3 .ensures), simp toZ-ofZ at (c .before .is-zero4 .ensures), c .is-part2 .ensures) (form-right (c .before .before .before .before .before .before .args .rows .now) (c .before .before .before .before .before .before .args .used) (c .before .before .before .before .before .before .args .n) 7 (c .before .before .before .before .before .match .keys7))
-
-returns-8 : tie.Need-returns-8
-unfolding rowRight
-returns-8 c =
-    let f = first-fits (c .before .before .before .before .before .before) in
-    let g = second-fits (c .before .before .before .before .before .before) in
-    rw (simp toZ-ofZ at (c .before .before .before .is-between5 .ensures), simp toZ-ofZ at (c .before .is-start .ensures), c .is-part3 .ensures) (form-right (c .before .before .before .before .before .before .args .rows .now) (c .before .before .before .before .before .before .args .used) (c .before .before .before .before .before .before .args .n) 8 (c .before .before .before .before .before .match .keys8))
-
-returns-9 : tie.Need-returns-9
-unfolding rowRight
-returns-9 c = simp (ne-eqb _ _ (c .match .rest .1), ne-eqb _ _ (c .match .rest .0 .1), ne-eqb _ _ (c .match .rest .0 .0 .1), ne-eqb _ _ (c .match .rest .0 .0 .0 .1), ne-eqb _ _ (c .match .rest .0 .0 .0 .0 .1), ne-eqb _ _ (c .match .rest .0 .0 .0 .0 .0 .1), ne-eqb _ _ (c .match .rest .0 .0 .0 .0 .0 .0 .1), ne-eqb _ _ (c .match .rest .0 .0 .0 .0 .0 .0 .0 .1))
+    let n = c .before .before .before .before in
+    let a = start n .args in
+    let h = naturals (c .before) in
+    let d = form-fits n in
+    let e = first-fits n in
+    let f = second-fits n in
+    let g = from-fits n in
+    let k = to-fits n in
+    rw (add-zero (rowWidth * a .i), h .form, h .from, h .to, sym (natural-is (form n) (h .form)), sym (natural-is (number n 3) (h .from)), sym (natural-is (number n 4) (h .to)))
+    (simp toZ-ofZ at (c .is-other-row .ensures))
 
 pub is-row-spec : {M : Type 1} → statement M
 is-row-spec =
     tie.close
     (tie.spec
-    is-tone-requires
-    is-zero-requires
-    is-nothing-requires
-    is-tone-requires-2
-    is-zero-requires-2
-    is-nothing-requires-2
-    is-between-requires
-    is-between-requires-2
-    cast-is-part
-    is-part-requires
-    is-amount-requires
-    is-nothing-requires-3
-    is-amount-requires-2
-    is-nothing-requires-4
+    mul-at
+    mul-form
+    shared-slice-copy-out-form
+    add-first
+    mul-first
+    shared-slice-copy-out-first
+    add-second
+    mul-second
+    shared-slice-copy-out-second
+    add-from
+    mul-from
+    shared-slice-copy-out-from
+    add-to
+    mul-to
+    shared-slice-copy-out-to
     cast-is-between
     cast-is-between-2
-    is-between-requires-3
-    sub-is-between
-    is-between-requires-4
-    is-nothing-requires-5
+    is-between-requires
+    is-tone-requires
+    is-zero-requires
+    is-zero-requires-2
     is-zero-requires-3
-    is-zero-requires-4
-    cast-is-part-2
-    is-part-requires-2
-    cast-is-between-3
-    cast-is-between-4
-    is-between-requires-5
-    is-start-requires
-    cast-is-part-3
-    is-part-requires-3
     returns
     returns-2
-    returns-3
-    returns-4
-    returns-5
-    returns-6
-    returns-7
-    returns-8
-    returns-9)
+    cast-t31
+    cast-t32
+    cast-t33
+    is-other-row-requires
+    returns-3)

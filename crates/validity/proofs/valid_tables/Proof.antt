@@ -54,7 +54,10 @@ cast-order-count : tie.Need-cast-order-count
 cast-order-count c = search needs
 
 are-rows-requires : tie.Need-are-rows-requires
-are-rows-requires c κs = search needs
+are-rows-requires c κs =
+    let r = room (c .before) in
+    let s = sizes (c .before .before .before .before) in
+    omega (arith, r .rows, s .rows)
 
 cast-are-zero-numbers : tie.Need-cast-are-zero-numbers
 cast-are-zero-numbers c = search needs
@@ -63,7 +66,10 @@ mul-are-zero-numbers : tie.Need-mul-are-zero-numbers
 mul-are-zero-numbers c = search needs
 
 are-zero-numbers-requires : tie.Need-are-zero-numbers-requires
-are-zero-numbers-requires c κs = search needs
+are-zero-numbers-requires c κs =
+    let r = room (c .before .before .before) in
+    let s = sizes (c .before .before .before .before .before .before) in
+    omega (arith, r .rows, s .rows)
 
 cast-are-tones : tie.Need-cast-are-tones
 cast-are-tones c = search needs
@@ -90,7 +96,10 @@ are-orders-requires c κs =
     (omega (arith, r .orders, s .letters), omega (arith, r .orders, s .calls))
 
 are-zero-bytes-requires : tie.Need-are-zero-bytes-requires
-are-zero-bytes-requires c κs = search needs
+are-zero-bytes-requires c κs =
+    let r = room (c .before .before .before .before .before .before .before .before .before) in
+    let s = sizes (c .before .before .before .before .before .before .before .before .before .before .before .before) in
+    omega (arith, r .orders, s .letters)
 
 are-zero-calls-requires : tie.Need-are-zero-calls-requires
 are-zero-calls-requires c κs = search needs
