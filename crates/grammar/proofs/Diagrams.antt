@@ -4,19 +4,19 @@ use mathlib.Core.Bool.{Bool, true, false, cond}
 use mathlib.Core.List.{List, [], _∷_}
 use mathlib.Core.Option.{Option, some, none}
 use mathlib.Core.Path.{_≡_, refl, sym, _∙_, ap, subst}
-use Prim.Native.Nat.{ℕ, _/_, _%_, _≤_, _<_}
+use Prim.Native.Nat.{ℕ, _*_, _/_, _%_, _≤_, _<_}
 use native.Mathlib.Omega.{arith}
 use borrow.Author.Tests.{eqb-true, eq-eqb}
 use lib.Dec.{T, eqb, ltb, ltb→lt, eqb→eq}
-use lib.ListN.{getD, List·getD-eq-default}
+use lib.ListN.{length, getD, List·getD-eq-default}
 use Rattle.grammar.specs.declared.Action.{Action}
 use Rattle.grammar.specs.declared.Action.the-variants.{Pass}
 use Rattle.grammar.specs.declared.moves.Move.the-variants.{Missing, To}
 use Rattle.grammar.specs.Syntax.{end, nothing, Node, Finish, Rule, rules}
 use Rattle.grammar.specs.Terminals.{terminalNumber, nodeNumber, nodes, nodeAt, picked}
-use Rattle.grammar.specs.Moves.{actionNumber, actionAt, moveBy, moveOf}
+use Rattle.grammar.specs.Moves.{actionNumber, actionAt, moveBy, moveOf, nextBy, actionBy, nextEntry, actionEntry, nodeCount, terminalCount, nextTable, actionTable, Moves}
 use Rattle.grammar.proofs.ActionNumbers.{action-back}
-use Rattle.grammar.proofs.Table.{both, both-left, both-right, each, read-of}
+use Rattle.grammar.proofs.Table.{at, length-tabulate, both, both-left, both-right, each, read-of}
 
 -- ---- the rule that is picked for a terminal is one of the list, and is for that terminal
 
@@ -66,20 +66,24 @@ past-terminals k t h = go (picked (rules (nodeAt k)) t) refl
 
 -- ---- a move by the numbers of its node and its action
 
-abbrev nextBy : Option Rule → ℕ
-nextBy none = 0
-nextBy (some r) = nodeNumber (r .next)
+-- an entry of the code's tables is what the rules compute
+module _ {next acts : List ℕ} (m : Moves next acts) where
+  pub next-size : length next ≡ nodeCount * terminalCount
+  unfolding nextTable
+  next-size = ap length (m .nodes) ∙ length-tabulate nextEntry 0 (nodeCount * terminalCount)
 
-abbrev actionBy : Option Rule → ℕ
-actionBy none = 0
-actionBy (some r) = actionNumber (r .action)
+  pub acts-size : length acts ≡ nodeCount * terminalCount
+  unfolding actionTable
+  acts-size = ap length (m .actions) ∙ length-tabulate actionEntry 0 (nodeCount * terminalCount)
 
--- the entries of the tables, which the code has computed
-abbrev pub nextEntry : ℕ → ℕ
-nextEntry i = nextBy (picked (rules (nodeAt (i / 26))) (i % 26))
+  module _ (i : ℕ) (h : i < nodeCount * terminalCount) where
+    pub next-at : getD next i 0 ≡ nextEntry i
+    unfolding nextTable
+    next-at = ap (λ (l : List ℕ). getD l i 0) (m .nodes) ∙ at nextEntry (nodeCount * terminalCount) i h
 
-abbrev pub actionEntry : ℕ → ℕ
-actionEntry i = actionBy (picked (rules (nodeAt (i / 26))) (i % 26))
+    pub act-at : getD acts i 0 ≡ actionEntry i
+    unfolding actionTable
+    act-at = ap (λ (l : List ℕ). getD l i 0) (m .actions) ∙ at actionEntry (nodeCount * terminalCount) i h
 
 module _ (k t i : ℕ) (row : i / 26 ≡ k) (column : i % 26 ≡ t) {n : ℕ} (next : n ≡ nextEntry i) where
   pub no-move : n ≡ 0 → Missing ≡ moveOf k t
@@ -137,3 +141,17 @@ finish-at-end k {r} e =
       eqb→eq (nodeNumber (r .next)) (nodeNumber Finish) (both-left n a q),
       sym (action-back (r .action)) ∙ ap actionAt (eqb→eq (actionNumber (r .action)) (actionNumber Pass) (both-right n a q)),
     )
+
+-- and nothing is done where the last node comes next
+finishes : Rule → Bool
+finishes r = cond (eqb (nodeNumber (r .next)) (nodeNumber Finish)) (eqb (actionNumber (r .action)) (actionNumber Pass)) true
+
+all-finish : Node → Bool
+all-finish q = each finishes (rules q)
+
+pub passes-to-finish : (k t : ℕ) {r : Rule} → picked (rules (nodeAt k)) t ≡ some r → nodeNumber (r .next) ≡ nodeNumber Finish → r .action ≡ Pass
+unfolding all-finish finishes rules actionAt
+passes-to-finish k t {r} e f =
+    let p = picked-of finishes (rules (nodeAt k)) t (read-of all-finish nodes Finish tt tt k) e in
+    let q = rw (eq-eqb _ _ f) at (p .0) in
+    sym (action-back (r .action)) ∙ ap actionAt (eqb→eq (actionNumber (r .action)) (actionNumber Pass) q)

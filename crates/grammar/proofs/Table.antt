@@ -1,19 +1,15 @@
 -- A table is what a function gives at each place, and a test of all entries of a list holds at any that is read: antt computes both.
 -- Assumes nothing.
-use mathlib.Core.Path.{_≡_, _∙_, ap, sym}
+use mathlib.Core.Path.{_≡_, refl, _∙_, ap, sym}
 use mathlib.Core.Bool.{Bool, true, false}
 use mathlib.Core.List.{List, [], _∷_}
 use Prim.Native.Nat.{ℕ, zero, suc, _+_, _<_}
 use native.Mathlib.Nat.{add-zero, zero-add, add-suc, suc-add, le-of-suc-le-suc, not-suc-le-zero}
 use lib.Dec.{T}
-use lib.ListN.{getD}
+use lib.ListN.{length, getD}
+use Rattle.grammar.specs.Moves.{tabulate}
 
 -- ---- tables
-
--- the n entries that f gives from i on
-abbrev pub tabulate : (ℕ → ℕ) → ℕ → ℕ → List ℕ
-tabulate f i zero = []
-tabulate f i (suc n) = f i ∷ tabulate f (suc i) n
 
 from : (f : ℕ → ℕ) (n i k : ℕ) → k < n → getD (tabulate f i n) k 0 ≡ f (i + k)
 from f zero i k h = absurd (not-suc-le-zero h)
@@ -22,6 +18,10 @@ from f (suc n) i (suc k) h = from f n (suc i) k (le-of-suc-le-suc h) ∙ ap f (s
 
 pub at : (f : ℕ → ℕ) (n k : ℕ) → k < n → getD (tabulate f 0 n) k 0 ≡ f k
 at f n k h = from f n 0 k h ∙ ap f (zero-add k)
+
+pub length-tabulate : (f : ℕ → ℕ) (i n : ℕ) → length (tabulate f i n) ≡ n
+length-tabulate f i zero = refl
+length-tabulate f i (suc n) = ap suc (length-tabulate f (suc i) n)
 
 -- ---- tests
 

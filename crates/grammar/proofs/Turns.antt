@@ -39,7 +39,7 @@ use Rattle.grammar.specs.Terminals.{terminalNumber, nodeNumber, nodeAt, 
 use Rattle.grammar.specs.Moves.{moveBy, moveOf}
 use Rattle.grammar.specs.Reading.{Read, limit, mostTerms, mostPositions, soFar, oneMore, withCounts, withPositions, noTerm, nextTerm, unlessFull, counted, positioned, judged, used, ifAllowed, numbered, acted, thenAt, notAllowed, byRule, stepped, begun, with, refusedAt, isFinished, readFrom, mostBytes, readItems, answered}
 use Rattle.grammar.specs.Items.{row, rowSize, rows, holding, itemSlots}
-use Rattle.grammar.proofs.Diagrams.{none-at-nothing, finish-at-end}
+use Rattle.grammar.proofs.Diagrams.{none-at-nothing, finish-at-end, passes-to-finish}
 use Rattle.grammar.proofs.Rows.{holding-more, length-holding}
 
 -- ---- a step by its move
@@ -173,6 +173,25 @@ none-after text s (End p) e = go (picked (rules (nodeAt (s .node))) (terminalNum
 none-after text s (NameSymbol a b) e = let z : _≡_ {A = ℕ} 0 1 = cc in absurd (omega arith)
 none-after text s (NumberSymbol a b) e = let z : _≡_ {A = ℕ} 0 1 = cc in absurd (omega arith)
 none-after text s (MarkSymbol k a b) e = let z : _≡_ {A = ℕ} 0 1 = cc in absurd (omega arith)
+
+-- no item is given where the text is complete
+abbrev Unfinished : Outcome → Type 0
+Unfinished (Refuse k p) = Unit {0}
+Unfinished (Go s) = Unit {0}
+Unfinished (Give s i) = s .node ≡ nodeNumber Finish → ⊥
+
+given-unfinished : (text : List ℕ) (s : Progress) (x : Placed) → Unfinished (stepped text s x)
+unfolding stepped acted
+given-unfinished text s x = go (picked (rules (nodeAt (s .node))) (x .terminal)) refl
+  where
+    then : (n : ℕ) (o : Outcome) → (n ≡ nodeNumber Finish → o ≡ Go s) → Unfinished (thenAt n o)
+    then n (Refuse k p) h = tt
+    then n (Go t) h = tt
+    then n (Give t i) h = λ e. let q = h e in let z : _≡_ {A = ℕ} 0 1 = cc in omega arith
+
+    go : (o : Option Rule) → picked (rules (nodeAt (s .node))) (x .terminal) ≡ o → Unfinished (byRule text s x o)
+    go none e = refusal Unfinished x (λ k. tt)
+    go (some r) e = then (nodeNumber (r .next)) (acted text s (r .action) x) (λ f. ap (λ (a : Action). acted text s a x) (passes-to-finish (s .node) (x .terminal) e f))
 
 -- ---- a symbol's places
 
@@ -362,3 +381,47 @@ module _ {text before items : List ℕ} {s : Progress} {at count : ℕ} (st : St
               left = st .left ∙ ap (onto is) r ∙ ap (λ (l : List Item). record { items = l; number = rest .number; place = rest .place }) (sym (append-snoc is i (rest .items)));
             },
           )
+
+-- ---- the loop: reading stands somewhere, or is finished
+
+pub record Walking (text before items : List ℕ) (s : Progress) (at count : ℕ) : Type 0 where
+  pub standing : (s .node ≡ nodeNumber Finish → ⊥) → Standing text before items s at count
+  pub ended : s .node ≡ nodeNumber Finish → Answer text before items count done 0
+  pub same-size : length items ≡ length before
+
+-- how many symbols may still come
+abbrev pub turnsLeft : List ℕ → Progress → ℕ → ℕ
+turnsLeft text s at = cond (isFinished s) 0 (1 + (length text - at))
+
+turns-less : (text : List ℕ) (s t : Progress) (at to : ℕ) → (s .node ≡ nodeNumber Finish → ⊥)
+    → ((t .node ≡ nodeNumber Finish → ⊥) → length text - to < length text - at) → turnsLeft text t to < turnsLeft text s at
+turns-less text s t at to n h = rw (ne-eqb (s .node) (nodeNumber Finish) n) (go (isFinished t) refl)
+  where
+    go : (b : Bool) → isFinished t ≡ b → cond b 0 (1 + (length text - to)) < 1 + (length text - at)
+    go true e = omega arith
+    go false e = let l = h (λ f. let z : _≡_ {A = Bool} true false = sym (eq-eqb _ _ f) ∙ e in let y : _≡_ {A = ℕ} 0 1 = cc in omega arith) in omega arith
+
+pub walks-first : (text before : List ℕ) → length text ≤ mostBytes → length before ≡ itemSlots → {s : Progress} → s ≡ begun
+    → Walking text before before s 0 0
+walks-first text before h k {s} e = record {
+  standing = λ n. stands-first text before h k e;
+  ended = λ f. let q : begun .node ≡ nodeNumber Finish = sym (ap (λ (t : Progress). t .node) e) ∙ f in absurd (omega arith);
+  same-size = refl;
+}
+
+-- one symbol further
+module _ {text before items : List ℕ} {s : Progress} {at count : ℕ} (st : Standing text before items s at count) (n : s .node ≡ nodeNumber Finish → ⊥)
+    {y : Symbol} (ey : y ≡ nextSymbol text at) {x : Placed} (ex : x ≡ placed text y) {o : Outcome} (eo : o ≡ stepped text s x) {t : Progress} where
+  pub walks-on : o ≡ Go t → (turnsLeft text t (x .end) < turnsLeft text s at) × Walking text before items t (x .end) count
+  walks-on q = (
+    turns-less text s t at (x .end) n (λ m. goes-on st ey ex eo q m .0),
+    record { standing = λ m. goes-on st ey ex eo q m .1; ended = finished st ey ex eo q; same-size = kept st },
+  )
+
+  pub walks-with : {i : Item} {next : List ℕ} → o ≡ Give t i → next ≡ sets items (rowSize * count) (row i)
+      → (turnsLeft text t (x .end) < turnsLeft text s at) × Walking text before next t (x .end) (count + 1)
+  walks-with q e =
+      let g = gives st ey ex eo q e in (
+        turns-less text s t at (x .end) n (λ m. g .0),
+        record { standing = λ m. g .1; ended = λ f. absurd (subst Unfinished (sym eo ∙ q) (given-unfinished text s x) f); same-size = kept (g .1) },
+      )

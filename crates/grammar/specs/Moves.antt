@@ -1,8 +1,9 @@
 -- The numbers of actions in the code's table, and its moves: for the contracts of private functions.
 use mathlib.Core.Bool.{Bool, true, false, cond}
 use mathlib.Core.List.{List, [], _∷_}
+use mathlib.Core.Path.{_≡_}
 use mathlib.Core.Option.{Option, some, none}
-use Prim.Native.Nat.{ℕ, _+_, _/_, _%_}
+use Prim.Native.Nat.{ℕ, zero, suc, _+_, _*_, _/_, _%_}
 use lib.Dec.{eqb}
 use lib.ListN.{getD}
 use Rattle.grammar.specs.declared.Kind.{Kind}
@@ -126,3 +127,41 @@ moveBy (some r) = To (r .action) (nodeNumber (r .next))
 
 unfoldable pub moveOf : ℕ → ℕ → Move
 moveOf node terminal = moveBy (picked (rules (nodeAt node)) terminal)
+
+-- ---- the code's two tables: for each node (row) and terminal (column) the next node's number and the action's, 0 where there is no rule
+
+abbrev pub nodeCount : ℕ
+nodeCount = 67
+
+abbrev pub terminalCount : ℕ
+terminalCount = 26
+
+abbrev pub nextBy : Option Rule → ℕ
+nextBy none = 0
+nextBy (some r) = nodeNumber (r .next)
+
+abbrev pub actionBy : Option Rule → ℕ
+actionBy none = 0
+actionBy (some r) = actionNumber (r .action)
+
+abbrev pub nextEntry : ℕ → ℕ
+nextEntry i = nextBy (picked (rules (nodeAt (i / terminalCount))) (i % terminalCount))
+
+abbrev pub actionEntry : ℕ → ℕ
+actionEntry i = actionBy (picked (rules (nodeAt (i / terminalCount))) (i % terminalCount))
+
+-- the n entries that f gives from i on
+abbrev pub tabulate : (ℕ → ℕ) → ℕ → ℕ → List ℕ
+tabulate f i zero = []
+tabulate f i (suc n) = f i ∷ tabulate f (suc i) n
+
+unfoldable pub nextTable : List ℕ
+nextTable = tabulate nextEntry 0 (nodeCount * terminalCount)
+
+unfoldable pub actionTable : List ℕ
+actionTable = tabulate actionEntry 0 (nodeCount * terminalCount)
+
+-- what is lent as the tables of moves
+pub record Moves (next acts : List ℕ) : Type 0 where
+  pub nodes : next ≡ nextTable
+  pub actions : acts ≡ actionTable

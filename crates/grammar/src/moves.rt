@@ -7,14 +7,15 @@ use crate::NameUse;
 use crate::NumberUse;
 ghost use mathlib.Core.Path.{_≡_};
 ghost use lib.ListN.{getD};
-ghost use Rattle.grammar.specs.Moves.{kinds, numberUses, nameUses, markUses, letterUses, plainActions, actionAt, moveOf};
+ghost use Rattle.grammar.specs.Moves.{kinds, numberUses, nameUses, markUses, letterUses, plainActions, actionAt, moveOf, Moves};
 
 const NODES: u8 = 67;
 
 const TERMINALS: u8 = 26;
 
 // For each node (row) and terminal (column) the number of the next node, 0 where the symbol is not allowed.
-const NEXT: [u8; 1742] = *b"\
+// A constant is built anew wherever it is read: who reads many entries keeps the two tables in locals, and lends them.
+pub const NEXT: [u8; 1742] = *b"\
     \x02\x0c\x13\x1e\x38\x00\x00\x00\x00\x00\x00\x00\x00\x00\x00\x00\x00\x00\x00\x00\x00\x00\x00\x00\x01\x00\
     \x00\x00\x00\x00\x00\x00\x00\x00\x00\x00\x00\x00\x00\x00\x00\x00\x00\x00\x00\x00\x00\x00\x00\x00\x00\x00\
     \x00\x00\x00\x00\x00\x00\x00\x00\x03\x03\x00\x00\x00\x00\x00\x00\x00\x00\x00\x00\x00\x00\x00\x00\x00\x00\
@@ -84,7 +85,7 @@ const NEXT: [u8; 1742] = *b"\
     \x02\x0c\x13\x1e\x38\x00\x00\x00\x39\x39\x00\x00\x00\x00\x00\x00\x00\x00\x00\x00\x00\x00\x00\x00\x01\x00";
 
 // And the number of the action.
-const ACTIONS: [u8; 1742] = *b"\
+pub const ACTIONS: [u8; 1742] = *b"\
     \x00\x00\x00\x00\x00\x00\x00\x00\x00\x00\x00\x00\x00\x00\x00\x00\x00\x00\x00\x00\x00\x00\x00\x00\x00\x00\
     \x00\x00\x00\x00\x00\x00\x00\x00\x00\x00\x00\x00\x00\x00\x00\x00\x00\x00\x00\x00\x00\x00\x00\x00\x00\x00\
     \x00\x00\x00\x00\x00\x00\x00\x00\x10\x10\x00\x00\x00\x00\x00\x00\x00\x00\x00\x00\x00\x00\x00\x00\x00\x00\
@@ -159,8 +160,9 @@ pub enum Move {
     To(Action, u8),
 }
 
-// The move at a node on a terminal.
-pub fn move_at(node: u8, terminal: u8) -> Move
+// The move at a node on a terminal, by the tables `NEXT` and `ACTIONS`.
+pub fn move_at(next: &[u8], acts: &[u8], node: u8, terminal: u8) -> Move
+    requires { ⌜ Moves (now next) (now acts) ⌝ }
     ensures { λ r. ⌜ r ≡ moveOf node terminal ⌝ }
 {
     if NODES <= node {
@@ -170,11 +172,11 @@ pub fn move_at(node: u8, terminal: u8) -> Move
         return Move::Missing;
     }
     let place = node as usize * TERMINALS as usize + terminal as usize;
-    let next = NEXT[place];
-    if next == 0 {
+    let then = next[place];
+    if then == 0 {
         return Move::Missing;
     }
-    Move::To(action_at(ACTIONS[place]), next)
+    Move::To(action_at(acts[place]), then)
 }
 
 fn kind_at(index: u8) -> Kind

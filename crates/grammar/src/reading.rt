@@ -15,11 +15,12 @@ use symbols::names;
 use symbols::names::Letter;
 use symbols::words;
 ghost use mathlib.Core.Path.{_≡_};
-ghost use Prim.Native.Nat.{_<_, _^_};
+ghost use Prim.Native.Nat.{_≤_, _<_, _^_};
 ghost use lib.ListN.{length};
 ghost use lib.Seq.{slice};
 ghost use Rattle.grammar.specs.Terminals.{terminalNumber, ofName, startOf, endOf, placed};
-ghost use Rattle.grammar.specs.Reading.{atNode, thenAt, notAllowed, stepped, begun, readItems, answered};
+ghost use Rattle.grammar.specs.Reading.{atNode, thenAt, notAllowed, stepped, begun, mostBytes, readItems, answered};
+ghost use Rattle.grammar.specs.Moves.{Moves};
 ghost use Rattle.grammar.specs.Items.{holding, itemSlots};
 ghost use Rattle.grammar.specs.Inner.{roomForTerm};
 
@@ -104,12 +105,13 @@ fn go_to(node: u8, outcome: Outcome) -> Outcome
     }
 }
 
-// What one symbol leads to.
-pub fn step(text: &[u8], s: Progress, x: Placed) -> Outcome
+// What one symbol leads to, by the tables of moves.
+pub fn step(text: &[u8], next: &[u8], acts: &[u8], s: Progress, x: Placed) -> Outcome
     requires { ⌜ roomForTerm s ⌝ }
+    requires { ⌜ Moves (now next) (now acts) ⌝ }
     ensures { λ r. ⌜ r ≡ stepped (now (text .entry)) s x ⌝ }
 {
-    let Move::To(action, node) = moves::move_at(s.node, x.terminal) else {
+    let Move::To(action, node) = moves::move_at(next, acts, s.node, x.terminal) else {
         return refuse_symbol(x);
     };
     go_to(node, actions::act(text, s, action, x))
@@ -143,6 +145,40 @@ fn begin() -> Progress
     }
 }
 
+// Reads a text of allowed length symbol by symbol; each item goes into the next row of the slice.
+fn read_symbols(text: &[u8], next: &[u8], acts: &[u8], items: &mut [u32]) -> Reading
+    requires { ⌜ length (now text) ≤ mostBytes ⌝ }
+    requires { ⌜ Moves (now next) (now acts) ⌝ }
+    requires { ⌜ length (now items) ≡ itemSlots ⌝ }
+    ensures { λ r. ⌜ (r ≡ answered (readItems (now (text .entry)))) × (now (items .exit) ≡ holding (readItems (now (text .entry)) .items) (now (items .entry))) ⌝ }
+{
+    let mut s = begin();
+    let mut at = 0;
+    let mut count = 0;
+    while s.node != FINISH {
+        let x = place_symbol(text, reader::find_symbol(text, at));
+        at = x.end as usize;
+        match step(text, next, acts, s, x) {
+            Outcome::Refuse { number, place } => return Reading {
+                count,
+                number,
+                place,
+            },
+            Outcome::Go(then) => s = then,
+            Outcome::Give(then, item) => {
+                items::store_item(items, count, item);
+                count += 1;
+                s = then;
+            }
+        }
+    }
+    Reading {
+        count,
+        number: status::DONE,
+        place: 0,
+    }
+}
+
 // The items of a text go into the first rows of the slice.
 pub fn read_items(text: &[u8], items: &mut [u32]) -> Reading
     requires { ⌜ length (now items) ≡ itemSlots ⌝ }
@@ -155,33 +191,7 @@ pub fn read_items(text: &[u8], items: &mut [u32]) -> Reading
             place: 0,
         };
     }
-    let mut s = begin();
-    let mut at = 0;
-    let mut count = 0;
-    loop {
-        let x = place_symbol(text, reader::find_symbol(text, at));
-        at = x.end as usize;
-        match step(text, s, x) {
-            Outcome::Refuse { number, place } => return Reading {
-                count,
-                number,
-                place,
-            },
-            Outcome::Go(next) => {
-                if next.node == FINISH {
-                    return Reading {
-                        count,
-                        number: status::DONE,
-                        place: 0,
-                    };
-                }
-                s = next;
-            }
-            Outcome::Give(next, item) => {
-                items::store_item(items, count, item);
-                count += 1;
-                s = next;
-            }
-        }
-    }
+    let next = moves::NEXT;
+    let acts = moves::ACTIONS;
+    read_symbols(text, &next, &acts, items)
 }

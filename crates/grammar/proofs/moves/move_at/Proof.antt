@@ -3,11 +3,8 @@
 use mathlib.Core.Path.{_∙_, ap}
 use Prim.Native.Nat.{_+_, _*_}
 use native.Mathlib.Omega.{arith}
-use Rattle.grammar.specs.Syntax.{rules}
-use Rattle.grammar.specs.Terminals.{picked}
 use Rattle.grammar.specs.Moves.{actionAt}
-use Rattle.grammar.proofs.Table.{at}
-use Rattle.grammar.proofs.Diagrams.{past-nodes, past-terminals, nextEntry, actionEntry, no-move, moved}
+use Rattle.grammar.proofs.Diagrams.{past-nodes, past-terminals, next-size, acts-size, next-at, act-at, no-move, moved}
 use borrow.Author.Needs.{needs}
 use Rattle.grammar.proofs.moves.move_at.Statement.{statement}
 use Rattle.grammar.proofs.moves.move_at.Tie as tie
@@ -27,29 +24,27 @@ mul-place c = search needs
 add-place : tie.Need-add-place
 add-place c = search needs
 
-array-read-next : tie.Need-array-read-next
-array-read-next c = search needs
+shared-slice-read-then : tie.Need-shared-slice-read-then
+shared-slice-read-then c = omega (arith, next-size (c .before .before .before .before .before .pre))
 
 returns-3 : tie.Need-returns-3
-unfolding picked rules
 returns-3 c =
-    let k = c .before .before .before .args .node in
-    let t = c .before .before .before .args .terminal in
-    no-move k t (k * 26 + t) (omega arith) (omega arith) (at nextEntry 1742 (k * 26 + t) (omega arith)) (c .if3 .taken)
+    let k = c .before .before .before .before .before .before .args .node in
+    let t = c .before .before .before .before .before .before .args .terminal in
+    no-move k t (k * 26 + t) (omega arith) (omega arith) (next-at (c .before .before .before .before .before .before .pre) (k * 26 + t) (omega arith)) (c .if3 .taken)
 
-array-read-action-at : tie.Need-array-read-action-at
-array-read-action-at c = search needs
+shared-slice-read-action-at : tie.Need-shared-slice-read-action-at
+shared-slice-read-action-at c = omega (arith, acts-size (c .before .before .before .before .before .before .before .pre))
 
 action-at-requires : tie.Need-action-at-requires
 action-at-requires c κs = search needs
 
 returns-4 : tie.Need-returns-4
-unfolding picked rules
 returns-4 c =
-    let k = c .before .before .before .before .args .node in
-    let t = c .before .before .before .before .args .terminal in
-    moved k t (k * 26 + t) (omega arith) (omega arith) (at nextEntry 1742 (k * 26 + t) (omega arith)) (c .before .if3 .left)
-    (c .action-at .ensures ∙ ap actionAt (at actionEntry 1742 (k * 26 + t) (omega arith)))
+    let k = c .before .before .before .before .before .before .before .before .args .node in
+    let t = c .before .before .before .before .before .before .before .before .args .terminal in
+    moved k t (k * 26 + t) (omega arith) (omega arith) (next-at (c .before .before .before .before .before .before .before .before .pre) (k * 26 + t) (omega arith)) (c .before .before .if3 .left)
+    (c .action-at .ensures ∙ ap actionAt (act-at (c .before .before .before .before .before .before .before .before .pre) (k * 26 + t) (omega arith)))
 
 pub move-at-spec : {M : Type 1} → statement M
 move-at-spec =
@@ -60,8 +55,8 @@ move-at-spec =
     cast-place
     mul-place
     add-place
-    array-read-next
+    shared-slice-read-then
     returns-3
-    array-read-action-at
+    shared-slice-read-action-at
     action-at-requires
     returns-4)
