@@ -8,7 +8,8 @@ use lib.IntN.{ℤ}
 use lib.ListN.{length, take, set, getD, length-append, length-take}
 use lib.Seq.{take-suc}
 use Rattle.tuning.specs.Scale.{Sound, muted}
-use Rattle.hexadecimal.specs.Hexadecimal.{fourOf, written, lineFeed, lineOf, answered}
+use Rattle.hexadecimal.specs.Numbers.{fourOf}
+use Rattle.hexadecimal.specs.Lines.{written, lineFeed, lineOf, begunWith}
 use Rattle.hexadecimal.proofs.Written.{written-then, line-written, length-line}
 use Rattle.answers.specs.Answer.{bitsOf, soundBytes, tonesBytes}
 
@@ -49,5 +50,5 @@ tones-written b k l i n h e f g =
 
 -- an answer that is written and ended: how long its line is, and the buffer
 pub ended : {u v : List ℕ} {r : ℕ} (l bs : List ℕ) (n : ℕ) → u ≡ written l 0 bs → (r ≡ 2 * n + 1) × (v ≡ set u (2 * n) lineFeed)
-    → n ≡ length bs → 2 * n < length l → (r ≡ length (lineOf bs)) × (v ≡ answered bs l)
+    → n ≡ length bs → 2 * n < length l → (r ≡ length (lineOf bs)) × (v ≡ begunWith (lineOf bs) l)
 ended l bs n e f h k = (omega (arith, f .0, length-line bs), line-written l bs (2 * n) e (f .1) (omega arith) k)

@@ -7,7 +7,7 @@ use Rattle.tuning.specs.Scale.{Sound, muted, sounds}
 use Rattle.tuning.specs.Tuning.{Tuning, width}
 use Rattle.tuning.specs.Desk.{cents}
 use Rattle.frames.specs.Frames.{letterKind, keyKind, dumpKind, dumpData}
-use Rattle.hexadecimal.specs.Hexadecimal.{twos, fourOf}
+use Rattle.hexadecimal.specs.Numbers.{twos, fourOf}
 
 -- "muted is 80000000"
 abbrev pub mutedBits : ℕ

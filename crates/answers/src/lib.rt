@@ -18,7 +18,8 @@ ghost use mathlib.Core.Bool.{true};
 ghost use Prim.Native.Nat.{_+_, _*_, _≤_};
 ghost use lib.ListN.{length, set};
 ghost use Rattle.tuning.specs.State.{held, heard, validState};
-ghost use Rattle.hexadecimal.specs.Hexadecimal.{written, lineFeed, lineOf, answered, twos};
+ghost use Rattle.hexadecimal.specs.Numbers.{twos};
+ghost use Rattle.hexadecimal.specs.Lines.{written, lineFeed, lineOf, begunWith};
 ghost use Rattle.answers.specs.Answer.{bitsOf, tonesBytes, head, stateBytes, letterBytes, keyBytes, dumpBytes, badBytes, refusalBytes, smallestBuffer};
 
 // The shortest buffer that every answer fits into.
@@ -102,7 +103,7 @@ fn end_line(buf: &mut [u8], bytes: usize) -> usize
 // The answer to a letter. Each of these tells how long the line is.
 pub fn answer_letter(buf: &mut [u8], house: u8, letter: u8, number: u8, s: State) -> usize
     requires { ⌜ (smallestBuffer ≤ length (now buf)) × (validState s ≡ true) ⌝ }
-    ensures { λ r. ⌜ (r ≡ length (lineOf (letterBytes house letter number (held s)))) × (now (buf .exit) ≡ answered (letterBytes house letter number (held s)) (now (buf .entry))) ⌝ }
+    ensures { λ r. ⌜ (r ≡ length (lineOf (letterBytes house letter number (held s)))) × (now (buf .exit) ≡ begunWith (lineOf (letterBytes house letter number (held s))) (now (buf .entry))) ⌝ }
 {
     put_head(buf, house, LETTER_KIND, letter, number);
     put_state(buf, s);
@@ -111,7 +112,7 @@ pub fn answer_letter(buf: &mut [u8], house: u8, letter: u8, number: u8, s: State
 
 pub fn answer_key(buf: &mut [u8], house: u8, key: u8, number: u8, tone: Tone) -> usize
     requires { ⌜ smallestBuffer ≤ length (now buf) ⌝ }
-    ensures { λ r. ⌜ (r ≡ length (lineOf (keyBytes house key number (heard tone)))) × (now (buf .exit) ≡ answered (keyBytes house key number (heard tone)) (now (buf .entry))) ⌝ }
+    ensures { λ r. ⌜ (r ≡ length (lineOf (keyBytes house key number (heard tone)))) × (now (buf .exit) ≡ begunWith (lineOf (keyBytes house key number (heard tone))) (now (buf .entry))) ⌝ }
 {
     put_head(buf, house, KEY_KIND, key, number);
     put_four(buf, STATE_AT, sound_bits(tone));
@@ -120,7 +121,7 @@ pub fn answer_key(buf: &mut [u8], house: u8, key: u8, number: u8, tone: Tone) ->
 
 pub fn answer_dump(buf: &mut [u8], house: u8, s: State) -> usize
     requires { ⌜ (smallestBuffer ≤ length (now buf)) × (validState s ≡ true) ⌝ }
-    ensures { λ r. ⌜ (r ≡ length (lineOf (dumpBytes house (held s)))) × (now (buf .exit) ≡ answered (dumpBytes house (held s)) (now (buf .entry))) ⌝ }
+    ensures { λ r. ⌜ (r ≡ length (lineOf (dumpBytes house (held s)))) × (now (buf .exit) ≡ begunWith (lineOf (dumpBytes house (held s))) (now (buf .entry))) ⌝ }
 {
     put_head(buf, house, DUMP_KIND, DUMP_DATA, DONE);
     put_state(buf, s);
@@ -130,7 +131,7 @@ pub fn answer_dump(buf: &mut [u8], house: u8, s: State) -> usize
 
 pub fn answer_bad(buf: &mut [u8]) -> usize
     requires { ⌜ smallestBuffer ≤ length (now buf) ⌝ }
-    ensures { λ r. ⌜ (r ≡ length (lineOf badBytes)) × (now (buf .exit) ≡ answered badBytes (now (buf .entry))) ⌝ }
+    ensures { λ r. ⌜ (r ≡ length (lineOf badBytes)) × (now (buf .exit) ≡ begunWith (lineOf badBytes) (now (buf .entry))) ⌝ }
 {
     put_byte(buf, 0, BAD_MARK);
     put_byte(buf, 1, BAD_FRAME);
@@ -140,7 +141,7 @@ pub fn answer_bad(buf: &mut [u8]) -> usize
 // The line of a refused text.
 pub fn answer_refusal(buf: &mut [u8], number: u8, place: u32) -> usize
     requires { ⌜ smallestBuffer ≤ length (now buf) ⌝ }
-    ensures { λ r. ⌜ (r ≡ length (lineOf (refusalBytes number place))) × (now (buf .exit) ≡ answered (refusalBytes number place) (now (buf .entry))) ⌝ }
+    ensures { λ r. ⌜ (r ≡ length (lineOf (refusalBytes number place))) × (now (buf .exit) ≡ begunWith (lineOf (refusalBytes number place)) (now (buf .entry))) ⌝ }
 {
     put_byte(buf, 0, REFUSAL_MARK);
     put_byte(buf, 1, number);

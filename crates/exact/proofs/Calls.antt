@@ -12,7 +12,9 @@ use Rattle.tuning.specs.Scale.{Sound}
 use Rattle.tuning.specs.Tuning.{Tuning, Action, done}
 use Rattle.tuning.specs.Desk.{cents, ifTaken, called}
 use Rattle.exact.specs.Entry.{Entry, degrees, weight, u, v, Within}
-use Rattle.exact.specs.Book.{Declared, Powers, entries, numbersOf, written, Made, bookFrom, KeyAgrees, both-silent, near, Agrees, AllInRange}
+use Rattle.exact.specs.Book.{Declared, Powers, entries, numbersOf, written, Made, bookFrom}
+use Rattle.exact.specs.Agreement.{KeyAgrees, both-silent, near, Agrees}
+use Rattle.exact.proofs.Ranges.{AllInRange}
 use Rattle.exact.proofs.EntryNear.{pitch, entry-near}
 use Rattle.exact.proofs.Follows as F
 use Rattle.exact.proofs.Follows.{Both, Agree, ActionBoth, same-length, sound-follows, done-follows}

@@ -8,7 +8,7 @@ use Prim.Native.Nat.{ℕ, _*_, _≤_, _<_}
 use lib.IntN.{ℤ, pos, negsuc, natAbs, _+ℤ_, _*ℤ_, *ℤ-comm}
 use lib.Signed.{leZ}
 use Rattle.integers.proofs.Signed.{signed, abs, sum as sum-parts}
-use Rattle.values.specs.Values.{Term, toneLimit, weight}
+use Rattle.values.specs.Values.{Term, farthestTone, weight}
 use Rattle.values.proofs.Cases.{clash, is-true, is-false, or-right}
 use Rattle.tuning.specs.Scale.{Sound, muted, sounds}
 use Rattle.tuning.specs.Tuning.{Tuning, fresh, onward, PositionTo, mute, move, setTo, Action, periodTo, tonesTo, system, newTone, newTones}
@@ -27,11 +27,11 @@ use Rattle.exact.proofs.Decoded.{cappedPosition, cappedOf}
 
 -- no tone and no period
 abbrev Out : ℤ → Type 0
-Out z = toneLimit < natAbs z
+Out z = farthestTone < natAbs z
 
 -- past twice the range of tones
 abbrev Far : ℤ → Type 0
-Far z = 2 * toneLimit < natAbs z
+Far z = 2 * farthestTone < natAbs z
 
 data Alike : ℤ → ℤ → Type 0 where
   same : {z : ℤ} → Alike z z
@@ -52,13 +52,13 @@ far-out : (z : ℤ) → Far z → Out z
 far-out z h = omega signed
 
 -- added to a number in range too
-added-out : (t z : ℤ) → natAbs t ≤ toneLimit → Far z → Out (t +ℤ z)
+added-out : (t z : ℤ) → natAbs t ≤ farthestTone → Far z → Out (t +ℤ z)
 added-out t z h k = omega (signed, sum-parts t z, abs t, abs z, abs (t +ℤ z))
 
 out-period : (z : ℤ) → Out z → isPeriod z ≡ false
 out-period z h = is-false (isPeriod z) (λ e. let s = period-size z e in omega signed)
 
-tone-size : (z : ℤ) → beyond (sounds z) ≡ false → natAbs z ≤ toneLimit
+tone-size : (z : ℤ) → beyond (sounds z) ≡ false → natAbs z ≤ farthestTone
 tone-size z h = allowed-size (At (record { 0 = z })) h
 
 out-tone : (z : ℤ) → Out z → beyond (sounds z) ≡ true

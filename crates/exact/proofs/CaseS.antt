@@ -21,15 +21,17 @@ use Rattle.tuning.specs.Scale.{Sound, sounds}
 use Rattle.tuning.specs.Tuning.{soundOf, start}
 use Rattle.tuning.specs.Desk.{cents, called, firstFailing, anyBeyond}
 use Rattle.tuning.specs.State.{held, validState, allMuted}
-use Rattle.frames.specs.Frames.{digitOf, byteOf, bytesOf, framed, frameOf}
+use Rattle.hexadecimal.specs.Digits.{digitOf, byteOf, bytesOf}
+use Rattle.frames.specs.Frames.{framed, frameOf}
 use Rattle.protocol.specs.Letters.{firstLogic, firstOrder, pressed}
 use Rattle.protocol.specs.Answers.{Made, startDesk, callOn, tuningFrom, madeFrom, letterOutcome, keyOutcome, frameOutcome, answerOf}
-use Rattle.hexadecimal.specs.Hexadecimal.{hexOf, hexes, twos, fourOf}
+use Rattle.hexadecimal.specs.Digits.{hexOf, hexes}
+use Rattle.hexadecimal.specs.Numbers.{twos, fourOf}
 use Rattle.answers.specs.Answer.{tonesBytes}
 use Rattle.protocol.specs.Streams.{Lent, deskAfter, madeIn, linesOf}
 use Rattle.exact.specs.Entry.{Factor, Entry, degreeOf, degrees, weight, part, aboveBy, belowBy, above, below, u, v, Within}
 use Rattle.exact.specs.Book.{Powers, entries, number, start440, startRoot, once, numbered, numbersOf, written, bookFrom}
-use Rattle.exact.specs.Book.{KeyAgrees, both-silent, near}
+use Rattle.exact.specs.Agreement.{KeyAgrees, both-silent, near}
 use Rattle.exact.specs.Actions.{declaredIn, entryWithin}
 use Rattle.exact.specs.Claim.{fedBy, bookAfter, StreamAgrees}
 use Rattle.exact.specs.CaseS.{Whole, frames, entryIn, entry71}

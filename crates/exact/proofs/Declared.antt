@@ -27,7 +27,8 @@ use Rattle.program.specs.Meaning.{ownOf, usedBy, nothing, declarationAt, own, t
 use Rattle.program.specs.Allowed.{Decimal, kindOf, Refers, Each, Terms, Fits, Allowed}
 use Rattle.filling.specs.Tables.{sumOf}
 use Rattle.program.proofs.AcceptedText.{fits-at, closed, sum-apart, outcome-done, value-is}
-use Rattle.exact.specs.Book.{Declared, frequency, ratio, root, Amount, Powers, entries, AllInRange, no-more, number-and, passing}
+use Rattle.exact.specs.Book.{Declared, frequency, ratio, root, Powers, entries}
+use Rattle.exact.proofs.Ranges.{Amount, AllInRange, no-more, number-and, passing}
 use Rattle.exact.specs.Actions.{total, numberOf, declaredIn, entryBy, entryWithin, entryOf}
 use Rattle.exact.proofs.Measured.{MeasuredStep, MeasuredTone, measure-follows, plus, own-ratio, own-root, own-frequency}
 use Rattle.exact.proofs.Capped.{sum-total}

@@ -1,4 +1,5 @@
 -- Theorems on the exact book, in the order in which they build on each other.
+pub mod Ranges
 pub mod EntryNear
 pub mod Follows
 pub mod Along
@@ -13,4 +14,5 @@ pub mod Stream
 pub mod Matched
 pub mod Claim
 pub mod Soundness
+pub mod Told
 pub mod CaseS

@@ -7,7 +7,8 @@ use native.Mathlib.Nat.{mul-one}
 use native.Mathlib.Omega.{arith}
 use Rattle.integers.proofs.Powers.{Under, one-pow}
 use Rattle.cents.proofs.Near.{Close, measure-close}
-use Rattle.exact.specs.Book.{Declared, frequency, ratio, root, InRange, number, start440, startRoot, Powers, numbered, numbersOf, written, AllInRange, no-more, number-and, passing}
+use Rattle.exact.specs.Book.{Declared, frequency, ratio, root, number, start440, startRoot, Powers, numbered, numbersOf, written}
+use Rattle.exact.proofs.Ranges.{InRange, AllInRange, no-more, number-and, passing}
 use Rattle.exact.proofs.EntryNear.{scaled, Good, AllGood, none as no-factor, also}
 
 -- a bare ratio is divided by nothing

@@ -1,33 +1,22 @@
 -- The exact book. Document 01, "State and retunings", last paragraph.
-use mathlib.Core.Path.{_≡_}
 use mathlib.Core.Bool.{Bool, true, false, cond}
 use mathlib.Core.List.{List, [], _∷_}
 use mathlib.Core.Option.{Option, some, none}
-use Prim.Native.Nat.{ℕ, zero, suc, _≤_, _<_, _^_}
+use Prim.Native.Nat.{ℕ, suc}
 use lib.IntN.{ℤ, pos, _+ℤ_, _-ℤ_, _*ℤ_}
 use lib.Dec.{eqb}
 use Rattle.cents.specs.Measure as measures
-use Rattle.cents.specs.Measure.{one, hertz440, pitch440}
-use Rattle.tuning.specs.Scale.{Scale, Sound, muted, sounds}
-use Rattle.tuning.specs.Tuning.{Tuning, Action, width, soundOf, done}
-use Rattle.tuning.specs.Desk.{cents, ifTaken}
-use Rattle.exact.specs.Entry.{Number, Entry, Within}
+use Rattle.cents.specs.Measure.{one, hertz440}
+use Rattle.tuning.specs.Scale.{Scale}
+use Rattle.tuning.specs.Tuning.{Tuning, Action, done}
+use Rattle.tuning.specs.Desk.{ifTaken}
+use Rattle.exact.specs.Entry.{Number, Entry}
 
 -- ---- "A declared number is one declaration's frequency, `p : q` or `A ROOT B`", each part in ten-thousandths
 
 pub data Declared : Type 0 where
   frequency : ℕ → Declared
   ratio root : ℕ → ℕ → Declared
-
--- "ratio parts, radicand, frequency: 0.0001 to 429496.7295"; "root degree: 1 to 65,535"
-pub record Amount (n : ℕ) : Type 0 where
-  pub least : 0 < n
-  pub most : n < 2 ^ 32
-
-abbrev pub InRange : Declared → Type 0
-InRange (frequency f) = Amount f
-InRange (ratio p q) = Amount p × Amount q
-InRange (root A B) = (0 < A) × Amount B
 
 unfoldable pub number : Declared → Number
 number (frequency f) = record { degree = 1; over = f; under = one; hertz = 1; size = measures.measure 1 f hertz440; counts = 1 }
@@ -108,20 +97,3 @@ pub record Made : Type 0 where
 unfoldable pub bookFrom : Tuning entries → List Made → Tuning entries
 bookFrom b [] = b
 bookFrom b (m ∷ ms) = bookFrom (ifTaken (m .number) (done entries b (m .call)) b) ms
-
--- ---- the desk and the book agree
-
--- a key: silent in one exactly where it is in the other, else at most w away; its pitch less 6,900,000 is the distance from 440 hertz
-pub data KeyAgrees (ds : List (Option Declared)) : Sound Powers → Sound ℤ → Type 0 where
-  both-silent : KeyAgrees ds muted muted
-  near : {e : Powers} {z : ℤ} → Within (written (numbersOf ds) e) (z -ℤ pitch440) → KeyAgrees ds (sounds e) (sounds z)
-
-pub record Agrees (ds : List (Option Declared)) (desk : Tuning cents) (book : Tuning entries) : Type 0 where
-  pub anchor : desk .anchor ≡ book .anchor
-  pub width : width cents desk ≡ width entries book
-  pub key : (x : ℕ) → KeyAgrees ds (soundOf entries book x) (soundOf cents desk x)
-
-pub data AllInRange : List (Option Declared) → Type 0 where
-  no-more : AllInRange []
-  number-and : {d : Declared} {l : List (Option Declared)} → InRange d → AllInRange l → AllInRange (some d ∷ l)
-  passing : {l : List (Option Declared)} → AllInRange l → AllInRange (none ∷ l)

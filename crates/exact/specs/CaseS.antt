@@ -2,7 +2,7 @@
 use mathlib.Core.Path.{_≡_}
 use mathlib.Core.List.{List, [], _∷_, map}
 use Prim.Native.Nat.{ℕ}
-use Rattle.symbols.specs.Bytes.{bytes}
+use Rattle.ascii.specs.Ascii.{bytes}
 use Rattle.tuning.specs.Scale.{Sound, muted, sounds}
 use Rattle.tuning.specs.Tuning.{soundOf}
 use Rattle.answers.specs.Answer.{smallestBuffer}

@@ -1,6 +1,7 @@
 -- Demand 3: the exact book of document 01, and how far the desk may be from it.
 pub mod Entry
 pub mod Book
+pub mod Agreement
 pub mod Actions
 pub mod Claim
 pub mod Soundness

@@ -187,7 +187,7 @@ module _ (l : List ℕ) (i to : ℕ) where
 -- ---- the row with what belongs to it, stored in two of the tables
 
 -- no value matters for a start
-pub start-any : (value : ℕ → ℤ) (s : Option ℕ) → calledBy s ≡ startCode value s
+pub start-any : (value : ℕ → ℤ) (s : Option ℕ) → calledBy s ≡ startCode s
 start-any value none = refl
 start-any value (some k) = refl
 

@@ -11,7 +11,7 @@ use lib.Seq.{sets}
 use Rattle.grammar.specs.Items.{itemAt}
 use Rattle.grammar.specs.Reading.{mostTerms}
 use Rattle.names.specs.Parts.{Part, part}
-use Rattle.values.specs.Values.{Term, toneLimit}
+use Rattle.values.specs.Values.{Term, farthestTone}
 use Rattle.values.specs.Rows.{rows}
 use Rattle.values.specs.Inner.{greatestFactor}
 use Rattle.tuning.specs.declared.Tone.{Tone}
@@ -35,7 +35,7 @@ use Rattle.filling.specs.Tables.{tonesOf, changesOf, ordersOf, startCode
 pub record Valued (p : Program) (values : List ℤ) : Type 0 where
   pub size : length values ≡ rows
   pub exact : (i : ℕ) → i < length p → getD values i (pos 0) ≡ valueOf p i
-  pub small : (i : ℕ) → i < length p → natAbs (getD values i (pos 0)) ≤ toneLimit
+  pub small : (i : ℕ) → i < length p → natAbs (getD values i (pos 0)) ≤ farthestTone
 
 -- tables of full size with zeros alone
 abbrev pub blank : Tables
@@ -84,13 +84,13 @@ callOf x = x .calls
 
 -- a start as a row has it: no value matters
 abbrev pub calledBy : Option ℕ → ℕ
-calledBy s = startCode (λ k. pos 0) s
+calledBy s = startCode s
 
 -- ---- what they require: each value that is read is there and in the range of tones, and each number fits its table, so that nothing overflows
 
 pub record FitValue (values : List ℤ) (k : ℕ) : Type 0 where
   pub within : k < length values
-  pub small : natAbs (valueIn values k) ≤ toneLimit
+  pub small : natAbs (valueIn values k) ≤ farthestTone
 
 pub record FitTerm (values : List ℤ) (t : Term) : Type 0 where
   pub factor : t .factor ≤ greatestFactor

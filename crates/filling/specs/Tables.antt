@@ -3,7 +3,7 @@ use mathlib.Core.Bool.{cond}
 use mathlib.Core.List.{List, [], _∷_, _++_, map}
 use mathlib.Core.Option.{Option, some, none}
 use Prim.Native.Nat.{ℕ, zero, suc, _+_, _-_, _*_}
-use lib.IntN.{ℤ, pos, negsuc, _+ℤ_, _*ℤ_}
+use lib.IntN.{ℤ, pos, negℤ, _+ℤ_, _*ℤ_}
 use lib.Signed.{leZ}
 use lib.ListN.{length}
 use Rattle.values.specs.Values.{Term, weight}
@@ -15,18 +15,24 @@ use Rattle.tuning.specs.declared.PeriodChange.the-variants.{Fresh, Onward}
 use Rattle.tuning.specs.declared.Retuning.the-variants.{Anchor, Width, Period, Tones}
 use Rattle.tables.specs.declared.Row.{Row}
 use Rattle.tables.specs.declared.Row.the-variants as row
-use Rattle.tables.specs.Layout.{mostRows, rowWidth, mostTones, mostChanges, mostOrders, writtenAll, full, soundingOf, pitchOf, changeCode, changeNumber}
+use Rattle.tables.specs.Layout.{mostRows, rowWidth, mostTones, mostChanges, mostOrders, farthestSum, writtenAll, full, soundingOf, pitchOf, changeCode, changeNumber}
 use Rattle.tables.specs.Layout as layout
 use Rattle.program.specs.Program.{Declaration, ratio, root, sequence, frequency, from, system, anchor, width, freshPeriod, onwardPeriod, tones, logic, Placed, Program, Position, mute, same, named, Order}
 use Rattle.program.specs.Meaning.{valueOf}
 
--- "Sequences add factor times measure"; what is past twice the range of tones is held as 1 past it: no result can be in range either way
+-- "Sequences add factor times measure"
 abbrev pub sumOf : (ℕ → ℤ) → List Term → ℤ
 sumOf value [] = pos 0
 sumOf value (t ∷ ts) = value (t .of) *ℤ weight t +ℤ sumOf value ts
 
+-- in a table a sum that is farther than `farthestSum` is held as that: no result can be in range either way (`capped-same` of the crate exact)
 abbrev pub capped : ℤ → ℤ
-capped z = cond (leZ z (negsuc 200_000_000)) (negsuc 200_000_000) (cond (leZ (pos 200_000_001) z) (pos 200_000_001) z)
+capped z = cond (leZ z (negℤ (pos farthestSum))) (negℤ (pos farthestSum)) (cond (leZ (pos farthestSum) z) (pos farthestSum) z)
+
+-- a logic's start: 0 for none, else one more than the number of what it calls
+abbrev pub startCode : Option ℕ → ℕ
+startCode none = 0
+startCode (some k) = suc k
 
 module _ (value : ℕ → ℤ) where
   abbrev pub sum : List Term → ℤ
@@ -72,10 +78,6 @@ module _ (value : ℕ → ℤ) where
   changesOf (logic c s os) = []
 
   -- the row of declaration i, before which so many tones, changes and orders stand
-  abbrev pub startCode : Option ℕ → ℕ
-  startCode none = 0
-  startCode (some k) = suc k
-
   abbrev pub rowOf : ℕ → ℕ → ℕ → ℕ → Declaration → Row
   rowOf i t c o (ratio p q) = row.Interval (record { 0 = value i })
   rowOf i t c o (root a b) = row.Interval (record { 0 = value i })

@@ -1,7 +1,8 @@
 -- Case S and other lines: each is its frame.
 use mathlib.Core.Path.{refl}
 use mathlib.Core.Option.{Option·elim}
-use Rattle.frames.specs.Frames.{digitOf, byteOf, bytesOf, framed, frameOf}
+use Rattle.hexadecimal.specs.Digits.{digitOf, byteOf, bytesOf}
+use Rattle.frames.specs.Frames.{framed, frameOf}
 use Rattle.frames.specs.Cases.{CaseS, Others}
 
 pub case-s : CaseS

@@ -1,5 +1,4 @@
 -- Laws of lines and frames, for the proofs of this crate and of its callers.
-pub mod Digits
 pub mod Lines
 pub mod Ranges
 pub mod Cases

@@ -10,7 +10,8 @@ use native.Mathlib.Decide.{decLe}
 use lib.ListN.{length, take, drop, getD, length-take, drop-of-length-le}
 use lib.Seq.{take-all, drop-cons}
 use Rattle.frames.specs.declared.Frame.the-variants.{Bad}
-use Rattle.frames.specs.Frames.{ofBoth, byteOf, bytesOf, framed, frameOf, enough}
+use Rattle.hexadecimal.specs.Digits.{ofBoth, byteOf, bytesOf}
+use Rattle.frames.specs.Frames.{framed, frameOf, enough}
 
 -- one byte more is two digits more
 longer : (o : Option ℕ) (p : Option (List ℕ)) (n : ℕ) {bs : List ℕ} → ((xs : List ℕ) → p ≡ some xs → n ≡ 2 * length xs) → ofBoth (λ b bs. b ∷ bs) o p ≡ some bs → suc (suc n) ≡ 2 * length bs

@@ -8,8 +8,9 @@ use borrow.Author.Tests.{leb-true}
 use lib.Dec.{eqb}
 use Rattle.frames.specs.declared.Frame.{Frame}
 use Rattle.frames.specs.declared.Frame.the-variants.{Bad, Letter, Key, Dump}
-use Rattle.frames.specs.Frames.{bytesOf, firstHouse, secondHouse, isHouse, letterKind, keyKind, dumpKind, firstLetter, lastLetter, isLetter, lastKey, isKey, dumpData, letterFrame, keyFrame, dumpFrame, kindFrame, framed, frameOf, inside}
-use Rattle.frames.proofs.Digits.{each, in-range}
+use Rattle.hexadecimal.specs.Digits.{bytesOf}
+use Rattle.frames.specs.Frames.{firstHouse, secondHouse, isHouse, letterKind, keyKind, dumpKind, firstLetter, lastLetter, isLetter, lastKey, isKey, dumpData, letterFrame, keyFrame, dumpFrame, kindFrame, framed, frameOf, inside}
+use Rattle.ascii.proofs.Between.{each, in-range}
 
 -- ---- for callers: what `inside` says of a frame that has come
 

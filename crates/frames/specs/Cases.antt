@@ -1,16 +1,12 @@
 -- Document 01, "Case S, whole": the frames of its lines.
-use Prim.Native.Nat.{ℕ}
-use Prim.Native.String.{String, [] as []ˢ, _∷_ as _∷ˢ_}
+use Prim.Native.String.{String}
 use mathlib.Core.Path.{_≡_}
 use mathlib.Core.List.{List, [], _∷_, map}
 use lib.ListN.{replicate}
+use Rattle.ascii.specs.Ascii.{byte, bytes}
 use Rattle.frames.specs.declared.Frame.{Frame}
 use Rattle.frames.specs.declared.Frame.the-variants.{Bad, Letter, Key, Dump}
-use Rattle.frames.specs.Frames.{byte, firstHouse, secondHouse, frameOf}
-
-abbrev pub bytes : String → List ℕ
-bytes []ˢ = []
-bytes (c ∷ˢ s) = byte c ∷ bytes s
+use Rattle.frames.specs.Frames.{firstHouse, secondHouse, frameOf}
 
 -- the column "In"
 abbrev pub caseLines : List String

@@ -1,48 +1,14 @@
 -- Document 01, section "Frames": the frame that a line is. A line comes without its line feed, "which the desk is not handed".
-use Prim.Native.Nat.{ℕ, _+_, _-_, _*_}
-use Prim.Native.Char.{Char, code}
+use Prim.Native.Nat.{ℕ}
 use mathlib.Core.Bool.{Bool, true, cond, _&&_}
 use mathlib.Core.List.{List, [], _∷_}
-use mathlib.Core.Option.{Option, none, some, Option·elim}
+use mathlib.Core.Option.{Option·elim}
 use lib.Dec.{leb, eqb}
+use Rattle.ascii.specs.Ascii.{between}
+pub use Rattle.limits.specs.Limits.{firstLetter, lastLetter}
+use Rattle.hexadecimal.specs.Digits.{bytesOf}
 use Rattle.frames.specs.declared.Frame.{Frame}
 use Rattle.frames.specs.declared.Frame.the-variants.{Bad, Letter, Key, Dump}
-
--- the byte that a character is
-abbrev pub byte : Char → ℕ
-byte c = code c
-
--- low to high, both included
-abbrev pub between : ℕ → ℕ → ℕ → Bool
-between low high b = leb low b && leb b high
-
--- ---- "capital hexadecimal digits"
-
-abbrev pub radix : ℕ
-radix = 16
-
--- the number that a digit writes; a byte that is no capital hexadecimal digit writes none
-unfoldable pub digitOf : ℕ → Option ℕ
-digitOf b =
-    cond (between (byte "0") (byte "9") b) (some (b - byte "0"))
-    (cond (between (byte "A") (byte "F") b) (some (b - byte "A" + 10))
-    none)
-
--- what two things make, where both are there
-abbrev pub ofBoth : {A B C : Type 0} → (A → B → C) → Option A → Option B → Option C
-ofBoth f (some a) (some b) = some (f a b)
-ofBoth f (some a) none = none
-ofBoth f none b = none
-
--- the byte that two digits write, the high one first
-unfoldable pub byteOf : ℕ → ℕ → Option ℕ
-byteOf high low = ofBoth (λ h l. radix * h + l) (digitOf high) (digitOf low)
-
--- the bytes that a line of any length writes, two digits each; a line of an odd number of digits, or with a byte that is no digit, writes none
-unfoldable pub bytesOf : List ℕ → Option (List ℕ)
-bytesOf [] = some []
-bytesOf (high ∷ []) = none
-bytesOf (high ∷ low ∷ line) = ofBoth (λ b bs. b ∷ bs) (byteOf high low) (bytesOf line)
 
 -- ---- "Byte 1: house, 01 or 02."
 
@@ -65,12 +31,6 @@ keyKind = 0x02
 
 abbrev pub dumpKind : ℕ
 dumpKind = 0x03
-
-abbrev pub firstLetter : ℕ
-firstLetter = 0x41
-
-abbrev pub lastLetter : ℕ
-lastLetter = 0x5A
 
 abbrev pub lastKey : ℕ
 lastKey = 0x7F

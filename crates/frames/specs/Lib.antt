@@ -1,4 +1,3 @@
 -- Document 01, section "Frames": what a line asks.
 pub mod Frames
-pub mod Inner
 pub mod Cases

@@ -1,9 +1,11 @@
 // Frames: a line of capital hexadecimal digits, and what it asks of the desk.
+use ascii::is_between;
+use hexadecimal::digits::Value;
+use hexadecimal::digits::byte_value;
 ghost use mathlib.Core.Path.{_≡_};
 ghost use mathlib.Core.Bool.{true};
 ghost use mathlib.Core.List.{[], _∷_};
-ghost use Rattle.frames.specs.Frames.{between, digitOf, byteOf, letterFrame, keyFrame, dumpFrame, framed, frameOf, inside};
-ghost use Rattle.frames.specs.Inner.{valued};
+ghost use Rattle.frames.specs.Frames.{letterFrame, keyFrame, dumpFrame, framed, frameOf, inside};
 
 // The first byte of a frame: the house that sends it.
 pub const FIRST_HOUSE: u8 = 1;
@@ -22,8 +24,6 @@ pub const DUMP_DATA: u8 = 0;
 
 const LAST_KEY: u8 = 127;
 
-const RADIX: u8 = 16;
-
 const FRAME_DIGITS: usize = 6;
 
 // Of a line no more than these bytes matter: one more than a frame has makes it too long.
@@ -35,42 +35,6 @@ pub enum Frame {
     Letter { house: u8, letter: u8 },
     Key { house: u8, key: u8 },
     Dump { house: u8 },
-}
-
-// What a digit, or two of them, write.
-enum Value {
-    Missing,
-    Of(u8),
-}
-
-fn is_between(low: u8, high: u8, b: u8) -> bool
-    ensures { λ r. ⌜ r ≡ between low high b ⌝ }
-{
-    (low <= b) & (b <= high)
-}
-
-fn digit_value(b: u8) -> Value
-    ensures { λ r. ⌜ r ≡ valued (digitOf b) ⌝ }
-{
-    if is_between(b'0', b'9', b) {
-        return Value::Of(b - b'0');
-    }
-    if is_between(b'A', b'F', b) {
-        return Value::Of(b - b'A' + 10);
-    }
-    Value::Missing
-}
-
-fn byte_value(high: u8, low: u8) -> Value
-    ensures { λ r. ⌜ r ≡ valued (byteOf high low) ⌝ }
-{
-    let Value::Of(h) = digit_value(high) else {
-        return Value::Missing;
-    };
-    let Value::Of(l) = digit_value(low) else {
-        return Value::Missing;
-    };
-    Value::Of(RADIX * h + l)
 }
 
 fn read_letter(house: u8, letter: u8) -> Frame

@@ -5,5 +5,3 @@ use Rattle.grammar.specs.declared.Progress.{Progress}
 -- one term more can be counted
 abbrev pub roomForTerm : Progress → Type 0
 roomForTerm s = s .term .before + 1 < 2 ^ 32
-
---

@@ -37,6 +37,8 @@ use Rattle.symbols.specs.Symbols.{symbols}
 use Rattle.symbols.specs.declared.Symbol.{Symbol}
 use Rattle.grammar.specs.declared.reading.Reading.{Reading}
 use Rattle.grammar.specs.Syntax.{Begin, Finish, Rule, rules}
+use Rattle.limits.specs.Limits.{leastDegree, mostDegree, mostFactor, mostAnchor, mostAmount, leastDivisor, mostIntervals, mostToneNames, mostSystems, mostLogics, mostRetunings, mostOrders}
+pub use Rattle.limits.specs.Limits.{mostBytes, mostTerms, mostPositions}
 use Rattle.grammar.specs.Terminals.{placed, picked, nodeAt, nodeNumber, isNothing, letterAt}
 
 -- ---- "Numbers allowed"
@@ -48,18 +50,18 @@ allowed RatioFirst = Decimal
 allowed RatioSecond = Decimal
 allowed Radicand = Decimal
 allowed Frequency = Decimal
-allowed Degree = Whole 1 65535
-allowed FirstFactor = Whole 0 999
-allowed Factor = Whole 0 999
-allowed AnchorKey = Whole 0 127
-allowed AnchorTo = Whole 0 9999
-allowed AnchorUp = Whole 0 9999
-allowed AnchorDown = Whole 0 9999
-allowed WidthTo = Whole 0 9999
-allowed WidthUp = Whole 0 9999
-allowed WidthDown = Whole 0 9999
-allowed WidthTimes = Whole 0 9999
-allowed WidthOver = Whole 1 9999
+allowed Degree = Whole leastDegree mostDegree
+allowed FirstFactor = Whole 0 mostFactor
+allowed Factor = Whole 0 mostFactor
+allowed AnchorKey = Whole 0 mostAnchor
+allowed AnchorTo = Whole 0 mostAmount
+allowed AnchorUp = Whole 0 mostAmount
+allowed AnchorDown = Whole 0 mostAmount
+allowed WidthTo = Whole 0 mostAmount
+allowed WidthUp = Whole 0 mostAmount
+allowed WidthDown = Whole 0 mostAmount
+allowed WidthTimes = Whole 0 mostAmount
+allowed WidthOver = Whole leastDivisor mostAmount
 
 -- the value of the number that these bytes write, if it is in a range
 abbrev pub within : NumberRange → List ℕ → Amount
@@ -71,19 +73,12 @@ judged u bytes = within (allowed u) bytes
 
 -- "intervals, tones: 256 each; tone systems, logics: 32 each; retunings: 128; orders in all logics together: 512"
 abbrev pub limit : Kind → ℕ
-limit Interval = 256
-limit Tone = 256
-limit System = 32
-limit Retuning = 128
-limit Logic = 32
-limit AnOrder = 512
-
--- "terms in one sequence, tone or expression: 16", "positions in one list: 60"
-abbrev pub mostTerms : ℕ
-mostTerms = 16
-
-abbrev pub mostPositions : ℕ
-mostPositions = 60
+limit Interval = mostIntervals
+limit Tone = mostToneNames
+limit System = mostSystems
+limit Retuning = mostRetunings
+limit Logic = mostLogics
+limit AnOrder = mostOrders
 
 -- ---- progress, with one part changed
 
@@ -280,10 +275,6 @@ readFrom text s (x ∷ xs) =
       | Go s′ ↦ elim (isFinished s′) [ true ↦ refusedAt done 0 | false ↦ readFrom text s′ xs ]
       | Give s′ i ↦ with i (readFrom text s′ xs)
     ]
-
--- "text: 0 to 32,768 bytes"
-abbrev pub mostBytes : ℕ
-mostBytes = 32768
 
 unfoldable pub readItems : List ℕ → Read
 readItems text = cond (leb (length text) mostBytes) (readFrom text begun (symbols text)) (refusedAt textTooLong 0)

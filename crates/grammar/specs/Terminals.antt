@@ -13,8 +13,8 @@ use Rattle.symbols.specs.declared.MarkKind.the-variants as mark
 use Rattle.symbols.specs.declared.words.Word.{Word}
 use Rattle.symbols.specs.declared.words.Word.the-variants as word
 use Rattle.symbols.specs.Words.{wordOf}
-use Rattle.symbols.specs.declared.names.Letter.{Letter}
-use Rattle.symbols.specs.declared.names.Letter.the-variants.{Missing, Capital}
+use Rattle.symbols.specs.declared.spelling.Letter.{Letter}
+use Rattle.symbols.specs.declared.spelling.Letter.the-variants.{Missing, Capital}
 use Rattle.symbols.specs.Names.{spelled, letterOf}
 use Rattle.grammar.specs.declared.Placed.{Placed}
 use Rattle.grammar.specs.Syntax.{Terminal, interval, tone, tonesystem, retuning, logic, key, root, unused, letter, name, number, equals, colon, plus, minus, times, divide, opening, closing, comma, at, widthOpen, widthClose, arrow, end, nothing, Node, Begin, Finish, IntervalName, IntervalEquals, IntervalBody, FirstNumber, RatioColon, RootWord, IntervalTerm, IntervalSign, IntervalFactor, IntervalDone, ToneName, ToneEquals, ToneBody, ToneTerm, ToneSign, ToneFactor, ToneDone, SystemName, SystemEquals, SystemAnchor, SystemOpen, SystemFirst, SystemComma, SystemTone, SystemPeriod, SystemTerm, SystemSign, SystemFactor, RetuningName, RetuningEquals, RetuningBody, RetuningOpen, RetuningDone, AnchorAt, AnchorPlus, AnchorMinus, AnchorOpen, AnchorClose, WidthBody, WidthAt, WidthPlus, WidthMinus, WidthAsterisk, WidthSlash, WidthClose, WidthEnd, PeriodBody, PeriodTerm, PeriodSign, PeriodFactor, TonesTerm, TonesSign, TonesFactor, TonesComma, LogicName, LogicKey, LogicLetter, LogicEquals, LogicStart, LogicOpen, OrdersOpen, OrderKey, OrderLetter, OrderArrow, LogicDone, Rule, rules}

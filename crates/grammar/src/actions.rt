@@ -14,8 +14,8 @@ use crate::Outcome;
 use crate::Placed;
 use crate::Progress;
 use numerals::Amount;
-use symbols::names;
-use symbols::names::Letter;
+use symbols::spelling;
+use symbols::spelling::Letter;
 ghost use mathlib.Core.Path.{_≡_};
 ghost use Prim.Native.Nat.{_<_};
 ghost use lib.Dec.{leb};
@@ -205,7 +205,7 @@ fn use_mark(s: Progress, purpose: MarkUse, x: Placed) -> Outcome
 fn read_letter(text: &[u8], x: Placed) -> u8
     ensures { λ r. ⌜ r ≡ letterAt (now (text .entry)) x ⌝ }
 {
-    let Letter::Capital(letter) = names::letter_at(text, x.start as usize, x.end as usize) else {
+    let Letter::Capital(letter) = spelling::letter_at(text, x.start as usize, x.end as usize) else {
         return 0;
     };
     letter

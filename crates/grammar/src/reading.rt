@@ -11,8 +11,8 @@ use crate::moves;
 use crate::moves::Move;
 use crate::terminals;
 use symbols::Symbol;
-use symbols::names;
-use symbols::names::Letter;
+use symbols::spelling;
+use symbols::spelling::Letter;
 use symbols::words;
 ghost use mathlib.Core.Path.{_≡_};
 ghost use Prim.Native.Nat.{_≤_, _<_, _^_};
@@ -39,7 +39,7 @@ pub struct Reading {
 fn terminal_of_name(text: &[u8], start: usize, end: usize) -> u8
     ensures { λ r. ⌜ r ≡ terminalNumber (ofName (slice start end (now (text .entry)))) ⌝ }
 {
-    let Letter::Missing = names::letter_at(text, start, end) else {
+    let Letter::Missing = spelling::letter_at(text, start, end) else {
         return terminals::LETTER;
     };
     terminals::of_word(words::word_at(text, start, end))

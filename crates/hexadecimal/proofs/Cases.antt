@@ -1,6 +1,7 @@
 -- Case S: each answer is its line.
 use mathlib.Core.Path.{refl}
-use Rattle.hexadecimal.specs.Hexadecimal.{hexOf, hexes, twos, fourOf}
+use Rattle.hexadecimal.specs.Digits.{hexOf, hexes}
+use Rattle.hexadecimal.specs.Numbers.{twos, fourOf}
 use Rattle.hexadecimal.specs.Cases.{CaseS}
 
 pub case-s : CaseS

@@ -9,7 +9,7 @@ use mir.Syntax.{w32}
 use mir.Val.{SFits}
 use Rattle.integers.specs.Parts.{dn}
 use Rattle.integers.proofs.Signed.{signed, diff, abs}
-use Rattle.hexadecimal.specs.Hexadecimal.{twos}
+use Rattle.hexadecimal.specs.Numbers.{twos}
 
 -- below zero -1 - z is a natural number
 pub below : (z : ℤ) → ltZ z (pos 0) ≡ true → negsuc 0 -ℤ z ≡ pos (dn z - 1)

@@ -7,7 +7,8 @@ use native.Mathlib.Numerals.{add-one}
 use native.Mathlib.Omega.{arith}
 use lib.ListN.{length, drop, set, length-append}
 use lib.Seq.{sets, sets-eq, length-sets, set-out}
-use Rattle.hexadecimal.specs.Hexadecimal.{radix, hexOf, hexes, written, lineFeed, lineOf, answered}
+use Rattle.hexadecimal.specs.Digits.{radix, hexOf, hexes}
+use Rattle.hexadecimal.specs.Lines.{written, lineFeed, lineOf, begunWith}
 
 -- ---- stores from a place on
 
@@ -71,7 +72,7 @@ written-then l k xs bs n e f h = f ∙ ap (λ (w : List ℕ). written w n bs) e 
 
 -- and a line feed after all bytes of an answer
 pub line-written : {u v : List ℕ} (l bs : List ℕ) (n : ℕ) → u ≡ written l 0 bs → v ≡ set u n lineFeed → n ≡ 2 * length bs → n < length l
-    → v ≡ answered bs l
+    → v ≡ begunWith (lineOf bs) l
 unfolding written
 line-written l bs n e f h k =
     let m = length-hexes bs in

@@ -1,14 +1,12 @@
 -- Document 01, "Case S, whole": answers as the digits of their bytes; and "muted is 80000000".
 use Prim.Native.Nat.{ℕ}
-use Prim.Native.String.{String, [] as []ˢ, _∷_ as _∷ˢ_}
+use Prim.Native.String.{String}
 use mathlib.Core.Path.{_≡_}
 use mathlib.Core.List.{List, [], _∷_, map}
 use lib.IntN.{pos, negsuc}
-use Rattle.hexadecimal.specs.Hexadecimal.{byte, twos, fourOf, lineOf}
-
-abbrev pub bytes : String → List ℕ
-bytes []ˢ = []
-bytes (c ∷ˢ s) = byte c ∷ bytes s
+use Rattle.ascii.specs.Ascii.{byte, bytes}
+use Rattle.hexadecimal.specs.Numbers.{twos, fourOf}
+use Rattle.hexadecimal.specs.Lines.{lineOf}
 
 -- house, kind, letter or key, number; then anchor, width and period, or the pitch; -2^31 is muted
 abbrev pub caseAnswers : List (List ℕ)

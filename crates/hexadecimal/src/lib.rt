@@ -1,20 +1,15 @@
 // Bytes as capital hexadecimal digits, written into a lent buffer.
+pub mod digits;
+
+use digits::RADIX;
+use digits::hex_digit;
 ghost use mathlib.Core.Path.{_≡_};
 ghost use mathlib.Core.List.{[], _∷_};
-ghost use Prim.Native.Nat.{_<_};
 ghost use lib.ListN.{set};
-ghost use Rattle.hexadecimal.specs.Hexadecimal.{hexOf, twos, fourOf, written};
+ghost use Rattle.hexadecimal.specs.Numbers.{twos, fourOf};
+ghost use Rattle.hexadecimal.specs.Lines.{written};
 
 pub const LINE_FEED: u8 = b'\n';
-
-const RADIX: u8 = 16;
-
-fn hex_digit(n: u8) -> u8
-    requires { ⌜ n < 16 ⌝ }
-    ensures { λ r. ⌜ r ≡ hexOf n ⌝ }
-{
-    if n < 10 { b'0' + n } else { b'A' + (n - 10) }
-}
 
 // Stores a byte, where the buffer has the place.
 pub fn put(buf: &mut [u8], at: usize, b: u8)

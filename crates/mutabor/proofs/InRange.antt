@@ -11,7 +11,8 @@ use Rattle.tuning.specs.declared.Operator.the-variants.{Plus, Minus, Times, Div
 use Rattle.tuning.specs.declared.Amount.{Amount}
 use Rattle.tuning.specs.declared.Amount.the-variants.{Kept, Absolute, Relative}
 use Rattle.tables.specs.Layout.{amountCode, amountNumber, minusCode, divideCode}
-use Rattle.validity.specs.Valid.{farthestSum, isSum, mostAmount, isAmount, letterA, letterZ, isLetter, isPart}
+use Rattle.tables.specs.Layout.{farthestSum}
+use Rattle.validity.specs.Valid.{isSum, mostAmount, isAmount, firstLetter, lastLetter, isLetter, isPart}
 use Rattle.program.specs.Allowed.{AnchorAmount, WidthAmount, Letter}
 use Rattle.filling.specs.Tables.{capped}
 
@@ -48,7 +49,7 @@ width-right (Relative Times n) h = rw (leb·zero n, le-leb n mostAmount h)
 width-right (Relative Divide n) h = rw (leb·zero n, le-leb n mostAmount (h .1), le-leb 1 n (h .0))
 
 pub letter-right : (c : ℕ) → Letter c → isLetter (pos c) ≡ true
-letter-right c h = rw (le-leb letterA c (h .least), le-leb c letterZ (h .most))
+letter-right c h = rw (le-leb firstLetter c (h .least), le-leb c lastLetter (h .most))
 
 pub part-right : (least most count from n : ℕ) → least ≤ n → n ≤ most → from + n ≤ count → isPart least most count from (from + n) ≡ true
 part-right least most count from n h k m =

@@ -90,7 +90,7 @@ module _ (p : Program) (a : Allowed p) (v : valued p ≡ Done) where
       → isForm (laid .rows) (counts .rows) low high k ≡ true
   refers-right low high k h w = rw (filled-lists p .rows, lt-ltb k (length p) h, ap (λ (n : Numbers). n .form) (numbers-at k h)) w
 
-  start-right : (s : Option ℕ) → FitStart p s → isStart (laid .rows) (counts .rows) (pos (startCode value s)) ≡ true
+  start-right : (s : Option ℕ) → FitStart p s → isStart (laid .rows) (counts .rows) (pos (startCode s)) ≡ true
   start-right none h = refl
   start-right (some k) h =
       let e : suc k - 1 ≡ k = omega arith in

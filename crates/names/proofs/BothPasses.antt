@@ -7,15 +7,15 @@ use native.Mathlib.Omega.{arith}
 use lib.ListN.{length, take}
 use lib.Seq.{take-length}
 use Rattle.status.specs.Status.{nameTwice}
-use Rattle.symbols.specs.declared.names.Found.{Found}
-use Rattle.symbols.specs.declared.names.Found.the-variants.{Nothing, Row}
+use Rattle.names.specs.declared.Found.{Found}
+use Rattle.names.specs.declared.Found.the-variants.{Nothing, Row}
 use Rattle.grammar.specs.declared.Item.{Item}
 use Rattle.grammar.specs.Items.{holding}
 use Rattle.names.specs.declared.Naming.{Naming}
 use Rattle.names.specs.Names.{declared, twiceFrom, resolved, unlessMissing, meanings}
-use Rattle.names.specs.Inner.{namedOf, packed, Kept, Room, begunWith, rewritten, leftItems, numberIf, placeIf, Declarable, mostDeclarations, FirstPass, SecondPass, BothPasses}
+use Rattle.names.specs.Inner.{namedOf, packed, Kept, begunWith, rewritten, leftItems, numberIf, placeIf, Declarable, mostDeclarations, FirstPass, SecondPass, BothPasses}
 use Rattle.names.proofs.Marks.{kept-names, kept-now}
-use Rattle.names.proofs.FirstPass.{distinct-few, distinct-all}
+use Rattle.names.proofs.FirstPass.{distinct-few, distinct-all, distinct-once}
 
 module _ (text : List ℕ) (is : List Item) where
   -- a name stands twice in a kind
@@ -59,8 +59,10 @@ module _ (text : List ℕ) (is : List Item) where
     pub first-few : Declarable is → r .declarations ≤ mostDeclarations
     first-few h = omega (arith, within, h .few)
 
-    pub first-found : Declarable is → Room names starts → Kept text names′ (r .declarations)
-    first-found h room = kept-now text (declared is) names (r .declarations) within first-kept (omega (arith, first-few h, room .names))
+    pub first-found : Kept text (take (r .declarations) names′)
+    first-found =
+        kept-now text (declared is) names (r .declarations) within first-kept
+        (distinct-once text [] (declared is) (r .declarations) (omega (arith, first .count)))
 
   module _ (items names starts : List ℕ) where
     pub both-stop : items ≡ holding is items → {r : Naming} {names′ starts′ : List ℕ} → FirstPass text is names starts r names′ starts′ → (r .number ≡ 0 → ⊥)
@@ -81,19 +83,20 @@ module _ (text : List ℕ) (is : List Item) where
             }
 
     pub both-done : {r : Naming} {names′ starts′ : List ℕ} → FirstPass text is names starts r names′ starts′ → r .number ≡ 0
-        → {q : Naming} {items′ : List ℕ} → SecondPass text (namedOf (take (r .declarations) names′)) (r .declarations) is items q items′
+        → {q : Naming} {items′ : List ℕ} → SecondPass text (namedOf (take (r .declarations) names′)) is items q items′
         → BothPasses text is items names starts q items′ names′ starts′
     both-done {r} {names′} first z {q} {items′} second =
         let ds = declared is in
         let t = told (r .number) (first .number) z in
-        let n : r .declarations ≡ length ds = first .count ∙ distinct-all text [] ds t in
+        let a = distinct-all text [] ds t in
+        let n = first .count ∙ a in
         let d : namedOf (take (r .declarations) names′) ≡ ds =
         kept-names text ds names (r .declarations) (omega arith) (first-kept first) ∙ ap (λ m. take m ds) n ∙ take-length ds in
-        let s : SecondPass text ds (r .declarations) is items q items′ = subst (λ es. SecondPass text es (r .declarations) is items q items′) d second in
+        let s : SecondPass text ds is items q items′ = subst (λ es. SecondPass text es is items q items′) d second in
         record {
           number = s .number ∙ ap (λ m. m .number) (sym (once t));
           place = s .place ∙ ap (λ m. m .place) (sym (once t));
-          count = s .count ∙ first .count;
+          count = s .count ∙ sym a;
           left = s .left ∙ ap (λ xs. holding xs items) (sym (once-left t));
           kept = first .kept;
           begun = first .begun;

@@ -1,6 +1,6 @@
 -- Laws of the first pass over the items: what is kept of the declarations in front of an item.
 -- Assumes nothing.
-use Prim.Native.Nat.{ℕ, suc, _+_, _≤_, _<_}
+use Prim.Native.Nat.{ℕ, zero, suc, _+_, _≤_, _<_}
 use mathlib.Core.Path.{_≡_, refl, sym, _∙_, ap, subst}
 use mathlib.Core.List.{List, [], _∷_, _++_, map}
 use native.Mathlib.Numerals.{add-one}
@@ -10,8 +10,8 @@ use denote.Enum.Declared.{tagOf}
 use lib.ListN.{length, getD, take, drop, set, length-set, drop-of-length-le}
 use Rattle.status.specs.Status.{done, nameTwice}
 use Rattle.symbols.specs.Names.{nameAt}
-use Rattle.symbols.specs.declared.names.Found.{Found}
-use Rattle.symbols.specs.declared.names.Found.the-variants.{Nothing, Row}
+use Rattle.names.specs.declared.Found.{Found}
+use Rattle.names.specs.declared.Found.the-variants.{Nothing, Row}
 use Rattle.grammar.specs.declared.Kind.{Kind}
 use Rattle.grammar.specs.declared.Item.{Item}
 use Rattle.grammar.specs.Reading.{mostBytes}
@@ -87,6 +87,20 @@ distinct-all text before (d ∷ ds) e = go (numberOf text before (d .kind) (name
     go (Row n) later q = absurd (nothing-no-row (sym q))
     go Nothing later q = ap suc (later q)
 
+-- and among those that are kept none does
+pub distinct-once : (text : List ℕ) (before ds : List Named) (n : ℕ) → n ≤ distinctFrom text before ds → twiceFrom text before (take n ds) ≡ Nothing
+unfolding distinctFrom twiceFrom
+distinct-once text before ds zero h = refl
+distinct-once text before [] (suc n) h = absurd (omega arith)
+distinct-once text before (d ∷ ds) (suc n) h =
+    go (numberOf text before (d .kind) (nameAt text (d .place))) (distinct-once text (before ++ d ∷ []) ds n) h
+  where
+    go : (f : Found) → (n ≤ distinctFrom text (before ++ d ∷ []) ds → twiceFrom text (before ++ d ∷ []) (take n ds) ≡ Nothing)
+        → suc n ≤ elim f [ Row m ↦ 0 | Nothing ↦ suc (distinctFrom text (before ++ d ∷ []) ds) ]
+        → elim f [ Row m ↦ Row (d .place) | Nothing ↦ twiceFrom text (before ++ d ∷ []) (take n ds) ] ≡ Nothing
+    go (Row m) later q = absurd (omega arith)
+    go Nothing later q = later (omega arith)
+
 -- ---- the pass
 
 module _ (text : List ℕ) (is : List Item) (names₀ starts₀ : List ℕ) where
@@ -122,8 +136,8 @@ module _ (text : List ℕ) (is : List Item) (names₀ starts₀ : List ℕ) wher
 
   module _ {l m : List ℕ} {n i : ℕ} (p : Passed l m n i) where
     -- what is kept is found by its marks
-    pub passed-kept : n ≤ length names₀ → Kept text l n
-    passed-kept = kept-now text (declared is) names₀ n (p .few) (p .kept)
+    pub passed-kept : Kept text (take n l)
+    passed-kept = kept-now text (declared is) names₀ n (p .few) (p .kept) (distinct-once text [] (declared is) n (omega (arith, p .distinct)))
 
     -- the pass ends
     pub passed-all : length is ≤ i → FirstPass text is names₀ starts₀ (record { number = done; place = 0; declarations = n }) l m
@@ -200,7 +214,7 @@ module _ (text : List ℕ) (is : List Item) (names₀ starts₀ : List ℕ) wher
               record { number = rw t; place = rw t; count = sym e; kept = rw e (p .kept); begun = rw e (p .begun) }
 
           -- it is kept
-          pub passed-more : f ≡ Nothing → {v : ℕ} → v ≡ packed text (record { kind = k; place = q }) → n < length names₀ → n < length starts₀
+          pub passed-more : f ≡ Nothing → {v : ℕ} → v ≡ packed text (record { kind = k; place = q }) → n < length l → n < length m
               → Passed (set l n v) (set m n i) (n + 1) (i + 1)
           passed-more z {v} w a b =
               let s = distinct-on text (declared is) n names-here found-before z in
@@ -213,8 +227,8 @@ module _ (text : List ℕ) (is : List Item) (names₀ starts₀ : List ℕ) wher
                 names = head-rest (declared is) n names-here;
                 starts = head-rest (beginnings is) n starts-here;
                 near = near-here .1;
-                kept = rw (w, p .kept) (begun-set (map (packed text) (declared is)) names₀ n y a);
-                begun = rw (p .begun) (begun-set (beginnings is) starts₀ n starts-here b);
+                kept = rw (w, p .kept) (begun-set (map (packed text) (declared is)) names₀ n y (omega (arith, p .room)));
+                begun = rw (p .begun) (begun-set (beginnings is) starts₀ n starts-here (omega (arith, p .space)));
                 room = simp length-set (p .room);
                 space = simp length-set (p .space);
                 twice = twice-on text (declared is) n names-here found-before z ∙ p .twice;

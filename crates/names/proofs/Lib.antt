@@ -1,6 +1,7 @@
 pub mod Searching
 pub mod Lists
 pub mod Marks
+pub mod Chains
 pub mod Held
 pub mod FirstPass
 pub mod SecondPass

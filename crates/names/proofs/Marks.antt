@@ -9,17 +9,17 @@ use native.Mathlib.Decide.{ℕ-discrete}
 use borrow.Author.Tests.{eq-eqb, ne-eqb}
 use lib.Dec.{eqb}
 use lib.ListN.{length, getD, take, length-map}
-use lib.Seq.{getD-take, length-take-le}
 use Rattle.symbols.specs.Bytes.{inName, small, same}
 use Rattle.symbols.specs.Names.{nameAt}
 use Rattle.symbols.proofs.Letters.{same-true, name-out, name-stop, name-on}
+use Rattle.names.specs.declared.Found.the-variants.{Nothing}
 use Rattle.grammar.specs.declared.Kind.{Kind}
 use Rattle.grammar.specs.declared.Kind.the-variants.{Interval, Tone, System, Retuning, Logic, Order as AnOrder}
 use Rattle.grammar.specs.Moves.{kindNumber}
-use Rattle.names.specs.Names.{Named}
+use Rattle.names.specs.Names.{Named, twiceFrom}
 use Rattle.names.specs.Inner.{kindRoom, tagRoom, tagFactor, markRoom, tagFrom, tagOf, markOf, packed, unpacked, namedOf, Kept, begunWith}
-use Rattle.names.proofs.Searching.{kind-back}
-use Rattle.names.proofs.Lists.{begun-taken, begun-length, take-map}
+use Rattle.names.proofs.Searching.{kind-back, isNamed}
+use Rattle.names.proofs.Lists.{begun-taken, take-map}
 
 -- ---- the tag of the name at a place
 
@@ -99,10 +99,8 @@ module _ (text : List ℕ) where
     pub kept-names : namedOf (take n l) ≡ take n ds
     kept-names = ap namedOf kept-taken ∙ named-packed (take n ds)
 
-    pub kept-now : n ≤ length before → Kept text l n
-    kept-now w =
-        let s = ap length e ∙ begun-length (map (packed text) ds) before n as-many w in
-        record { within = omega arith; of-text = ap (map (packed text)) kept-names ∙ sym kept-taken }
+    pub kept-now : twiceFrom text [] (take n ds) ≡ Nothing → Kept text (take n l)
+    kept-now o = record { of-text = ap (map (packed text)) kept-names ∙ sym kept-taken; once = ap (twiceFrom text []) kept-names ∙ o }
 
   -- a number that is kept is that of a declaration of the text
   kept-one : (l : List ℕ) (i : ℕ) → map (packed text) (namedOf l) ≡ l → i < length l → packed text (unpacked (getD l i 0)) ≡ getD l i 0
@@ -110,12 +108,9 @@ module _ (text : List ℕ) where
   kept-one (x ∷ l) zero e h = cc
   kept-one (x ∷ l) (suc i) e h = kept-one l i (cc) (omega arith)
 
-  module _ {l : List ℕ} {n : ℕ} (w : Kept text l n) (row : ℕ) (h : row < n) where
+  module _ {l : List ℕ} (w : Kept text l) (row : ℕ) (h : row < length l) where
     kept-at : packed text (unpacked (getD l row 0)) ≡ getD l row 0
-    kept-at =
-        let e = getD-take n l row 0 h in
-        let f = kept-one (take n l) row (w .of-text) (omega (arith, length-take-le n l (w .within))) in
-        ap (λ x. packed text (unpacked x)) (sym e) ∙ f ∙ e
+    kept-at = kept-one l row (w .of-text) h
 
     mark-here : getD l row 0 % markRoom ≡ markOf (unpacked (getD l row 0) .kind) (nameAt text (unpacked (getD l row 0) .place))
     mark-here = ap (λ x. x % markRoom) (sym kept-at) ∙ packed-mark (unpacked (getD l row 0))
@@ -123,5 +118,5 @@ module _ (text : List ℕ) where
     -- the test of a kept number is that of its declaration's kind and name
     pub kept-told : (k : Kind) (name : List ℕ) {m : ℕ} → m ≡ markOf k name
         → {b : Bool} → b ≡ (eqb (getD l row 0 % markRoom) m && same (nameAt text (unpacked (getD l row 0) .place)) name)
-        → b ≡ (eqb (kindNumber (unpacked (getD l row 0) .kind)) (kindNumber k) && same (nameAt text (unpacked (getD l row 0) .place)) name)
+        → b ≡ isNamed text (unpacked (getD l row 0)) k name
     kept-told k name q e = e ∙ rw (q, mark-here) (mark-told (unpacked (getD l row 0) .kind) k _ name)

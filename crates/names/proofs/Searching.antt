@@ -1,25 +1,23 @@
 -- Laws of the search for a declaration, and of the kinds that a use may mean.
 -- Assumes nothing.
-use Prim.Native.Nat.{ℕ, suc, _+_, _≤_, _<_}
+use Prim.Native.Nat.{ℕ, suc, _+_, _<_}
 use mathlib.Core.Path.{_≡_, refl, sym, _∙_, ap}
-use mathlib.Core.List.{List, [], _∷_, _++_, List·Memᴰ, List·Memᴰ·head, List·Memᴰ·tail}
+use mathlib.Core.List.{List, [], _∷_, _++_, append-nil, List·Memᴰ, List·Memᴰ·head, List·Memᴰ·tail}
 use mathlib.Core.Bool.{Bool, true, false, _&&_, and-eq-true-iff}
-use native.Mathlib.Numerals.{add-one}
 use native.Mathlib.Omega.{arith}
 use borrow.Author.Tests.{eqb-true}
 use lib.Dec.{eqb}
 use lib.ListN.{length, getD}
-use lib.Seq.{slice}
+use lib.Seq.{append-snoc}
 use Rattle.symbols.specs.Bytes.{same}
 use Rattle.symbols.specs.Names.{nameAt}
-use Rattle.symbols.specs.declared.names.Found.{Found}
-use Rattle.symbols.specs.declared.names.Found.the-variants.{Nothing, Row}
-use Rattle.symbols.proofs.Parts.{part-empty, part-cons}
+use Rattle.names.specs.declared.Found.{Found}
+use Rattle.names.specs.declared.Found.the-variants.{Nothing, Row}
+use Rattle.symbols.proofs.Letters.{same-true}
 use Rattle.grammar.specs.declared.Kind.{Kind}
 use Rattle.grammar.specs.declared.Kind.the-variants.{Interval, Tone, System, Retuning, Logic, Order as AnOrder}
 use Rattle.grammar.specs.Moves.{kinds, kindNumber}
-use Rattle.names.specs.Names.{Named, numberFrom, numberOf, calledIn}
-use Rattle.names.specs.Inner.{unpacked, namedOf}
+use Rattle.names.specs.Names.{Named, numberFrom, numberOf, twiceFrom, calledIn}
 
 -- kinds are told apart by their numbers
 pub kind-back : (k : Kind) → getD kinds (kindNumber k) AnOrder ≡ k
@@ -36,22 +34,51 @@ kind-told j k e = sym (kind-back j) ∙ ap (λ n. getD kinds n AnOrder) e ∙ ki
 pub nothing-no-row : {n : ℕ} → Nothing ≡ Row n → ⊥
 nothing-no-row e = let z : _≡_ {A = ℕ} 0 1 = cc in omega arith
 
--- the kept declarations, up to the n-th
-module _ (text kept name : List ℕ) (k : Kind) (row n : ℕ) where
-  pub search-end : n ≤ row → Nothing ≡ numberFrom row text (namedOf (slice row n kept)) k name
+-- whether a declaration is of the kind and has the name
+abbrev pub isNamed : List ℕ → Named → Kind → List ℕ → Bool
+isNamed text d k name = eqb (kindNumber (d .kind)) (kindNumber k) && same (nameAt text (d .place)) name
+
+-- a choice that finds nothing
+no-row : {rest : Found} (n : ℕ) (b : Bool) → elim b [ true ↦ Row n | false ↦ rest ] ≡ Nothing → (b ≡ false) × (rest ≡ Nothing)
+no-row n true e = absurd (nothing-no-row (sym e))
+no-row n false e = (refl, e)
+
+none-else : {rest : Found} (p : ℕ) (f : Found) → elim f [ Row n ↦ Row p | Nothing ↦ rest ] ≡ Nothing → (f ≡ Nothing) × (rest ≡ Nothing)
+none-else p (Row n) e = absurd (nothing-no-row (sym e))
+none-else p Nothing e = (refl, e)
+
+-- one declaration more
+module _ (text : List ℕ) (d : Named) (k : Kind) (name : List ℕ) where
+  pub number-past : isNamed text d k name ≡ false → (n : ℕ) (ds : List Named) → numberFrom n text (ds ++ d ∷ []) k name ≡ numberFrom n text ds k name
   unfolding numberFrom
-  search-end h = rw (part-empty kept row n h)
+  number-past e n [] = rw (numberFrom, e)
+  number-past e n (x ∷ ds) = ap (λ f. elim (isNamed text x k name) [ true ↦ Row n | false ↦ f ]) (number-past e (suc n) ds)
 
-  module _ (h : row < n) (l : row < length kept) {b : Bool}
-      (e : b ≡ (eqb (kindNumber (unpacked (getD kept row 0) .kind)) (kindNumber k) && same (nameAt text (unpacked (getD kept row 0) .place)) name)) where
-    pub search-row : b ≡ true → Row row ≡ numberFrom row text (namedOf (slice row n kept)) k name
-    unfolding numberFrom
-    search-row q = rw (part-cons kept row n h l, numberFrom, ← e, q)
+  number-last : isNamed text d k name ≡ true → (n : ℕ) (ds : List Named) → numberFrom n text ds k name ≡ Nothing
+      → numberFrom n text (ds ++ d ∷ []) k name ≡ Row (n + length ds)
+  unfolding numberFrom
+  number-last e n [] q = rw (numberFrom, e) (ap Row (omega arith))
+  number-last e n (x ∷ ds) q =
+      let w = no-row n (isNamed text x k name) q in
+      rw (numberFrom, w .0) (number-last e (suc n) ds (w .1) ∙ ap Row (omega arith))
 
-    pub search-on : b ≡ false
-        → numberFrom (row + 1) text (namedOf (slice (row + 1) n kept)) k name ≡ numberFrom row text (namedOf (slice row n kept)) k name
-    unfolding numberFrom
-    search-on q = rw (part-cons kept row n h l, numberFrom, ← e, q, add-one)
+  -- where no name stands twice, none in front of a declaration is of its kind and name
+  once-before : (before xs ys : List Named) → twiceFrom text before (xs ++ d ∷ ys) ≡ Nothing
+      → numberOf text (before ++ xs) (d .kind) (nameAt text (d .place)) ≡ Nothing
+  unfolding twiceFrom
+  once-before before [] ys e = rw append-nil (none-else (d .place) (numberOf text before (d .kind) (nameAt text (d .place))) e .0)
+  once-before before (x ∷ xs) ys e =
+      rw append-snoc at (once-before (before ++ x ∷ []) xs ys (none-else (x .place) (numberOf text before (x .kind) (nameAt text (x .place))) e .1))
+
+  -- so a declaration of the kind and the name, though it is the last, is the one that is found
+  pub number-once : (xs ys : List Named) → twiceFrom text [] (xs ++ d ∷ ys) ≡ Nothing → isNamed text d k name ≡ true
+      → numberOf text (xs ++ d ∷ []) k name ≡ Row (length xs)
+  number-once xs ys o e =
+      let h = and-eq-true-iff _ _ .0 e in
+      let j = kind-told (d .kind) k (eqb-true _ _ (h .0)) in
+      let s = same-true (nameAt text (d .place)) name (h .1) in
+      let f = once-before [] xs ys o in
+      number-last e 0 xs (cc) ∙ ap Row (omega arith)
 
 -- a name that is looked for in one kind after another
 module _ (text : List ℕ) (ds : List Named) (name : List ℕ) where
@@ -99,7 +126,7 @@ unfolding numberFrom
 number-found n text [] k name e = absurd (nothing-no-row e)
 number-found n text (d ∷ ds) k name {r} e = go _ refl (number-found (suc n) text ds k name) e
   where
-    go : (b : Bool) → (eqb (kindNumber (d .kind)) (kindNumber k) && same (nameAt text (d .place)) name) ≡ b → (numberFrom (suc n) text ds k name ≡ Row r → Numbered (suc n) ds k r)
+    go : (b : Bool) → isNamed text d k name ≡ b → (numberFrom (suc n) text ds k name ≡ Row r → Numbered (suc n) ds k r)
         → elim b [ true ↦ Row n | false ↦ numberFrom (suc n) text ds k name ] ≡ Row r → Numbered n (d ∷ ds) k r
     go true t later q =
         let h = eqb-true _ _ (and-eq-true-iff _ _ .0 t .0) in

@@ -9,8 +9,8 @@ use denote.Enum.Declared.{tagOf}
 use lib.ListN.{length, getD, take, drop, set, length-set, drop-of-length-le, take-append-drop}
 use Rattle.status.specs.Status.{done, nameNotDeclared}
 use Rattle.symbols.specs.Names.{nameAt}
-use Rattle.symbols.specs.declared.names.Found.{Found}
-use Rattle.symbols.specs.declared.names.Found.the-variants.{Nothing, Row}
+use Rattle.names.specs.declared.Found.{Found}
+use Rattle.names.specs.declared.Found.the-variants.{Nothing, Row}
 use Rattle.grammar.specs.declared.Item.{Item}
 use Rattle.grammar.specs.declared.Item.the-variants as item
 use Rattle.grammar.specs.Items.{code, value, place, rowSize, holding, itemAt}
@@ -171,15 +171,15 @@ module _ (text : List ℕ) (ds : List Named) (is : List Item) (items₀ : List �
 
   module _ {l : List ℕ} {i : ℕ} (p : Replacing l i) where
     -- the pass ends
-    pub replacing-all : {n : ℕ} → length is ≤ i → SecondPass text ds n is items₀ (record { number = done; place = 0; declarations = n }) l
+    pub replacing-all : {n : ℕ} → n ≡ length ds → length is ≤ i → SecondPass text ds is items₀ (record { number = done; place = 0; declarations = n }) l
     unfolding missingIn resolved
-    replacing-all h =
+    replacing-all c h =
         let e = length-rewritten text ds is in
         let w = none-missing (resolved text ds is) (sym (p .missed) ∙ ap (λ xs. missingIn (resolved text ds xs)) (drop-of-length-le is h)) in
         record {
           number = w .0;
           place = w .1;
-          count = refl;
+          count = c;
           left = p .held ∙ ap (λ xs. holding xs items₀) (begun-all (rewritten text ds is) is i (omega arith) h);
         }
 
@@ -241,9 +241,10 @@ module _ (text : List ℕ) (ds : List Named) (is : List Item) (items₀ : List �
               ∙ ap (λ b. ifFound (the-use .use′) (the-use .amount) q b (resolved text ds after)) (sym called)
 
           -- which is not declared
-          pub replacing-stop : {n : ℕ} → f ≡ Nothing → SecondPass text ds n is items₀ (record { number = nameNotDeclared; place = q; declarations = n }) l
+          pub replacing-stop : {n : ℕ} → n ≡ length ds → f ≡ Nothing
+              → SecondPass text ds is items₀ (record { number = nameNotDeclared; place = q; declarations = n }) l
           unfolding missingIn
-          replacing-stop z =
+          replacing-stop c z =
               let y : drop i (rewritten text ds is) ≡ drop i is =
               p .rest ∙ rewritten-here
               ∙ ap (λ b. ifCalled (the-use .use′) (the-use .amount) b (getD is i none) after (rewritten text ds after)) z
@@ -254,7 +255,7 @@ module _ (text : List ℕ) (ds : List Named) (is : List Item) (items₀ : List �
               record {
                 number = w .0;
                 place = w .1;
-                count = refl;
+                count = c;
                 left = p .held ∙ ap (λ xs. holding xs items₀) (ap (λ t. take i (rewritten text ds is) ++ t) (sym y) ∙ take-append-drop i (rewritten text ds is));
               }
 

@@ -1,16 +1,18 @@
 -- What the passes over the items keep, and what they leave: for the contracts of functions.
 use mathlib.Core.Path.{_≡_}
+use mathlib.Core.Bool.{true, false}
 use mathlib.Core.List.{List, [], _∷_, _++_, map}
-use Prim.Native.Nat.{ℕ, zero, suc, _+_, _*_, _/_, _%_, _≤_}
+use Prim.Native.Nat.{ℕ, zero, suc, _+_, _*_, _/_, _%_, _≤_, _<_}
+use lib.Dec.{eqb}
 use lib.ListN.{length, getD, take, drop}
 use Rattle.symbols.specs.Names.{nameAt}
-use Rattle.symbols.specs.declared.names.Found.{Found}
-use Rattle.symbols.specs.declared.names.Found.the-variants.{Nothing, Row}
+use Rattle.names.specs.declared.Found.{Found}
+use Rattle.names.specs.declared.Found.the-variants.{Nothing, Row}
 use Rattle.grammar.specs.declared.Kind.{Kind}
-use Rattle.grammar.specs.declared.Kind.the-variants.{Interval, Tone, System, Retuning, Logic, Order as AnOrder}
+use Rattle.grammar.specs.declared.Kind.the-variants.{Order as AnOrder}
 use Rattle.grammar.specs.declared.Item.{Item}
 use Rattle.grammar.specs.Moves.{kinds, kindNumber}
-use Rattle.grammar.specs.Reading.{limit, mostBytes}
+pub use Rattle.limits.specs.Limits.{mostBytes, mostDeclarations}
 use Rattle.grammar.specs.Items.{itemAt, rowSize, holding, itemSlots}
 use Rattle.status.specs.Status.{done, nameTwice}
 use Rattle.names.specs.declared.Naming.{Naming}
@@ -79,10 +81,24 @@ unpacked x = record { kind = getD kinds (x % kindRoom) AnOrder; place = x / mark
 abbrev pub namedOf : List ℕ → List Named
 namedOf xs = map unpacked xs
 
--- a slice begins with n numbers of declarations of this text
-pub record Kept (text l : List ℕ) (n : ℕ) : Type 0 where
-  pub within : n ≤ length l
-  pub of-text : map (packed text) (namedOf (take n l)) ≡ take n l
+-- numbers of declarations of this text, no two of the same kind and name
+pub record Kept (text l : List ℕ) : Type 0 where
+  pub of-text : map (packed text) (namedOf l) ≡ l
+  pub once : twiceFrom text [] (namedOf l) ≡ Nothing
+
+-- ---- buckets of declarations, by which one is found
+
+abbrev pub buckets : ℕ
+buckets = 1024
+
+-- the bucket of a number that is kept, which is that of its mark
+abbrev pub bucketOf : ℕ → ℕ
+bucketOf kept = kept % buckets
+
+-- one more than the last row below n that is in bucket b, or 0
+unfoldable pub lastIn : List ℕ → ℕ → ℕ → ℕ
+lastIn l b zero = 0
+lastIn l b (suc n) = elim (eqb (bucketOf (getD l n 0)) b) [ true ↦ suc n | false ↦ lastIn l b n ]
 
 -- ---- what the first pass leaves
 
@@ -154,9 +170,13 @@ pub record Held (is : List Item) (items : List ℕ) : Type 0 where
   pub rows : items ≡ holding is items
   pub size : length items ≡ itemSlots
 
--- "intervals, tones: 256 each; tone systems, logics: 32 each; retunings: 128"
-abbrev pub mostDeclarations : ℕ
-mostDeclarations = limit Interval + limit Tone + limit System + limit Retuning + limit Logic
+-- chains of the declarations l: where that of each bucket begins, and where it goes on from each row
+pub record Chained (l heads links : List ℕ) : Type 0 where
+  pub heads-size : length heads ≡ buckets
+  pub links-size : length links ≡ mostDeclarations
+  pub few : length l ≤ mostDeclarations
+  pub head : (b : ℕ) → b < buckets → getD heads b 0 ≡ lastIn l b (length l)
+  pub link : (i : ℕ) → i < length l → getD links i 0 ≡ lastIn l (bucketOf (getD l i 0)) i
 
 -- each name stands at a place of a text
 abbrev pub InText : List Named → Type 0
@@ -192,11 +212,11 @@ pub record FirstPass (text : List ℕ) (is : List Item) (names starts : List ℕ
   pub kept : names′ ≡ begunWith (distinct text is) (map (packed text) (declared is)) names
   pub begun : starts′ ≡ begunWith (distinct text is) (beginnings is) starts
 
--- the second pass: names that are not among n declarations; `items` before and after it
-pub record SecondPass (text : List ℕ) (ds : List Named) (n : ℕ) (is : List Item) (items : List ℕ) (r : Naming) (items′ : List ℕ) : Type 0 where
+-- the second pass: names that are not declared; `items` before and after it
+pub record SecondPass (text : List ℕ) (ds : List Named) (is : List Item) (items : List ℕ) (r : Naming) (items′ : List ℕ) : Type 0 where
   pub number : r .number ≡ unlessMissing (resolved text ds is) .number
   pub place : r .place ≡ unlessMissing (resolved text ds is) .place
-  pub count : r .declarations ≡ n
+  pub count : r .declarations ≡ length ds
   pub left : items′ ≡ holding (rewritten text ds is) items
 
 -- both passes

@@ -6,13 +6,12 @@ use status::DONE;
 use status::NAME_NOT_DECLARED;
 use status::NAME_TWICE;
 use symbols::bytes;
-use symbols::names;
-use symbols::names::Found;
+use symbols::spelling;
 ghost use mathlib.Core.Path.{_≡_};
 ghost use mathlib.Core.Bool.{_&&_};
-ghost use mathlib.Core.List.{List};
-ghost use Prim.Native.Nat.{_%_, _≤_};
-ghost use lib.ListN.{take};
+ghost use mathlib.Core.List.{List, []};
+ghost use Prim.Native.Nat.{_+_, _%_, _≤_, _<_};
+ghost use lib.ListN.{length, take};
 ghost use lib.Dec.{eqb};
 ghost use Rattle.symbols.specs.Bytes.{same};
 ghost use Rattle.symbols.specs.Names.{nameAt};
@@ -20,7 +19,7 @@ ghost use Rattle.grammar.specs.Moves.{kindNumber};
 ghost use Rattle.grammar.specs.Reading.{mostBytes};
 ghost use Rattle.names.specs.Parts.{part};
 ghost use Rattle.names.specs.Names.{numberOf, calledIn};
-ghost use Rattle.names.specs.Inner.{roleOf, tagOf, markOf, markRoom, packed, unpacked, namedOf, Kept, kindsIn, itemsIn, Held, Declarable, Room, FirstPass, SecondPass, BothPasses, mostDeclarations};
+ghost use Rattle.names.specs.Inner.{roleOf, tagOf, markOf, markRoom, packed, unpacked, namedOf, Kept, Chained, kindsIn, itemsIn, Held, Declarable, Room, FirstPass, SecondPass, BothPasses, mostDeclarations};
 
 // Room for a kind's number.
 const KIND_ROOM: u32 = 8;
@@ -33,6 +32,19 @@ const TAG_FACTOR: u32 = 31;
 
 // Room for a tag and a kind's number, below a declaration's place.
 const MARK_ROOM: u32 = TAG_ROOM * KIND_ROOM;
+
+// How many buckets the declarations are in, by their marks. The rows of a bucket are chained from the last back to the first:
+// `heads` has one more than each bucket's last row, `links` one more than the row before each row, and both 0 where there is none.
+const BUCKETS: usize = 1024;
+
+// How many declarations a text may have.
+const MOST_DECLARATIONS: usize = 704;
+
+// The row of a declaration that was looked for.
+pub enum Found {
+    Nothing,
+    Row(usize),
+}
 
 // What a used name may mean.
 enum Scope {
@@ -121,79 +133,118 @@ fn declares(text: &[u8], kept: u32, mark: u32, at: usize) -> bool
     if kept % MARK_ROOM != mark {
         return false;
     }
-    names::same_name(text, (kept / MARK_ROOM) as usize, at)
+    spelling::same_name(text, (kept / MARK_ROOM) as usize, at)
 }
 
-// The first of the first `n` declarations that is of the kind and has the name at `at`.
-fn find_declaration(text: &[u8], declared: &[u32], n: usize, kind: Kind, at: usize) -> Found
-    requires { ⌜ Kept (now text) (now declared) n ⌝ }
-    ensures { λ r. ⌜ r ≡ numberOf (now (text .entry)) (namedOf (take n (now (declared .entry)))) kind (nameAt (now (text .entry)) at) ⌝ }
+// The declaration that is of the kind and has the name at `at`: it is in the chain of the bucket of its mark.
+fn find_declaration(
+    text: &[u8],
+    declared: &[u32],
+    heads: &[u16],
+    links: &[u16],
+    kind: Kind,
+    at: usize,
+) -> Found
+    requires { ⌜ Kept (now text) (now declared) ⌝ }
+    requires { ⌜ Chained (now declared) (now heads) (now links) ⌝ }
+    ensures { λ r. ⌜ r ≡ numberOf (now (text .entry)) (namedOf (now (declared .entry))) kind (nameAt (now (text .entry)) at) ⌝ }
 {
     let mark = mark_of(text, kind, at);
-    for row in 0..n {
+    let mut next = heads[mark as usize % BUCKETS];
+    while next != 0 {
+        let row = next as usize - 1;
         if declares(text, declared[row], mark, at) {
             return Found::Row(row);
         }
+        next = links[row];
     }
     Found::Nothing
 }
 
 // The retuning of the name at `at`, else the tone system.
-fn find_start(text: &[u8], declared: &[u32], n: usize, at: usize) -> Found
-    requires { ⌜ Kept (now text) (now declared) n ⌝ }
-    ensures { λ r. ⌜ r ≡ calledIn (now (text .entry)) (namedOf (take n (now (declared .entry)))) (kindsIn Scope.Starts) (nameAt (now (text .entry)) at) ⌝ }
+fn find_start(text: &[u8], declared: &[u32], heads: &[u16], links: &[u16], at: usize) -> Found
+    requires { ⌜ Kept (now text) (now declared) ⌝ }
+    requires { ⌜ Chained (now declared) (now heads) (now links) ⌝ }
+    ensures { λ r. ⌜ r ≡ calledIn (now (text .entry)) (namedOf (now (declared .entry))) (kindsIn Scope.Starts) (nameAt (now (text .entry)) at) ⌝ }
 {
-    let Found::Row(number) = find_declaration(text, declared, n, Kind::Retuning, at) else {
-        return find_declaration(text, declared, n, Kind::System, at);
+    let Found::Row(number) = find_declaration(text, declared, heads, links, Kind::Retuning, at)
+    else {
+        return find_declaration(text, declared, heads, links, Kind::System, at);
     };
     Found::Row(number)
 }
 
 // The retuning or the tone system of the name at `at`, else the logic.
-fn find_order(text: &[u8], declared: &[u32], n: usize, at: usize) -> Found
-    requires { ⌜ Kept (now text) (now declared) n ⌝ }
-    ensures { λ r. ⌜ r ≡ calledIn (now (text .entry)) (namedOf (take n (now (declared .entry)))) (kindsIn Scope.Orders) (nameAt (now (text .entry)) at) ⌝ }
+fn find_order(text: &[u8], declared: &[u32], heads: &[u16], links: &[u16], at: usize) -> Found
+    requires { ⌜ Kept (now text) (now declared) ⌝ }
+    requires { ⌜ Chained (now declared) (now heads) (now links) ⌝ }
+    ensures { λ r. ⌜ r ≡ calledIn (now (text .entry)) (namedOf (now (declared .entry))) (kindsIn Scope.Orders) (nameAt (now (text .entry)) at) ⌝ }
 {
-    let Found::Row(number) = find_start(text, declared, n, at) else {
-        return find_declaration(text, declared, n, Kind::Logic, at);
+    let Found::Row(number) = find_start(text, declared, heads, links, at) else {
+        return find_declaration(text, declared, heads, links, Kind::Logic, at);
     };
     Found::Row(number)
 }
 
 // What the name at `at` means.
-fn find_meaning(text: &[u8], declared: &[u32], n: usize, scope: Scope, at: usize) -> Found
-    requires { ⌜ Kept (now text) (now declared) n ⌝ }
-    ensures { λ r. ⌜ r ≡ calledIn (now (text .entry)) (namedOf (take n (now (declared .entry)))) (kindsIn scope) (nameAt (now (text .entry)) at) ⌝ }
+fn find_meaning(
+    text: &[u8],
+    declared: &[u32],
+    heads: &[u16],
+    links: &[u16],
+    scope: Scope,
+    at: usize,
+) -> Found
+    requires { ⌜ Kept (now text) (now declared) ⌝ }
+    requires { ⌜ Chained (now declared) (now heads) (now links) ⌝ }
+    ensures { λ r. ⌜ r ≡ calledIn (now (text .entry)) (namedOf (now (declared .entry))) (kindsIn scope) (nameAt (now (text .entry)) at) ⌝ }
 {
     match scope {
-        Scope::Intervals => find_declaration(text, declared, n, Kind::Interval, at),
-        Scope::Tones => find_declaration(text, declared, n, Kind::Tone, at),
-        Scope::Starts => find_start(text, declared, n, at),
-        Scope::Orders => find_order(text, declared, n, at),
+        Scope::Intervals => find_declaration(text, declared, heads, links, Kind::Interval, at),
+        Scope::Tones => find_declaration(text, declared, heads, links, Kind::Tone, at),
+        Scope::Starts => find_start(text, declared, heads, links, at),
+        Scope::Orders => find_order(text, declared, heads, links, at),
     }
 }
 
-// Keeps each declared name, and the index of its item, up to the first that stood before in its kind.
+// Puts row `n` in front of its bucket's chain.
+fn chain_row(declared: &[u32], n: usize, heads: &mut [u16], links: &mut [u16])
+    requires { ⌜ n < length (now declared) ⌝ }
+    requires { ⌜ n < mostDeclarations ⌝ }
+    requires { ⌜ Chained (take n (now declared)) (now heads) (now links) ⌝ }
+    ensures { λ _. ⌜ Chained (take (n + 1) (now (declared .entry))) (now (heads .exit)) (now (links .exit)) ⌝ }
+{
+    let bucket = declared[n] as usize % BUCKETS;
+    links[n] = heads[bucket];
+    heads[bucket] = n as u16 + 1;
+}
+
+// Keeps each declared name, in its chain, and the index of its item, up to the first that stood before in its kind.
 fn declare_all(
     text: &[u8],
     items: &[u32],
     count: usize,
     declared: &mut [u32],
     starts: &mut [u32],
+    heads: &mut [u16],
+    links: &mut [u16],
 ) -> Naming
     ghost { List Item }
     requires { λ is. ⌜ itemsIn count (now items) ≡ is ⌝ }
     requires { λ is. ⌜ Held is (now items) ⌝ }
     requires { λ is. ⌜ Declarable is ⌝ }
     requires { λ is. ⌜ Room (now declared) (now starts) ⌝ }
+    requires { λ is. ⌜ Chained [] (now heads) (now links) ⌝ }
     ensures { λ is r. ⌜ FirstPass (now (text .entry)) is (now (declared .entry)) (now (starts .entry)) r (now (declared .exit)) (now (starts .exit)) ⌝ }
+    ensures { λ is r. ⌜ Chained (take (r .declarations) (now (declared .exit))) (now (heads .exit)) (now (links .exit)) ⌝ }
 {
     let mut n = 0;
     for i in 0..count {
         let Role::Declares(kind, place) = role_of(items::item_at(items, i)) else {
             continue;
         };
-        if let Found::Row(_) = find_declaration(text, declared, n, kind, place as usize) {
+        let found = find_declaration(text, &declared[..n], heads, links, kind, place as usize);
+        if let Found::Row(_) = found {
             return Naming {
                 number: NAME_TWICE,
                 place,
@@ -202,6 +253,7 @@ fn declare_all(
         }
         declared[n] = pack(text, kind, place);
         starts[n] = i as u32;
+        chain_row(declared, n, heads, links);
         n += 1;
     }
     Naming {
@@ -212,23 +264,31 @@ fn declare_all(
 }
 
 // Replaces the place of each used name by the number of its declaration, up to the first that is not declared.
-fn resolve_uses(text: &[u8], items: &mut [u32], count: usize, declared: &[u32], n: usize) -> Naming
+fn resolve_uses(
+    text: &[u8],
+    items: &mut [u32],
+    count: usize,
+    declared: &[u32],
+    heads: &[u16],
+    links: &[u16],
+) -> Naming
     ghost { List Item }
     requires { λ is. ⌜ itemsIn count (now items) ≡ is ⌝ }
     requires { λ is. ⌜ Held is (now items) ⌝ }
-    requires { λ is. ⌜ n ≤ mostDeclarations ⌝ }
-    requires { λ is. ⌜ Kept (now text) (now declared) n ⌝ }
-    ensures { λ is r. ⌜ SecondPass (now (text .entry)) (namedOf (take n (now (declared .entry)))) n is (now (items .entry)) r (now (items .exit)) ⌝ }
+    requires { λ is. ⌜ Kept (now text) (now declared) ⌝ }
+    requires { λ is. ⌜ Chained (now declared) (now heads) (now links) ⌝ }
+    ensures { λ is r. ⌜ SecondPass (now (text .entry)) (namedOf (now (declared .entry))) is (now (items .entry)) r (now (items .exit)) ⌝ }
 {
     for i in 0..count {
         let Role::Uses(scope, place) = role_of(items::item_at(items, i)) else {
             continue;
         };
-        let Found::Row(number) = find_meaning(text, declared, n, scope, place as usize) else {
+        let Found::Row(number) = find_meaning(text, declared, heads, links, scope, place as usize)
+        else {
             return Naming {
                 number: NAME_NOT_DECLARED,
                 place,
-                declarations: n,
+                declarations: declared.len(),
             };
         };
         items::set_place(items, i, number as u32);
@@ -236,7 +296,7 @@ fn resolve_uses(text: &[u8], items: &mut [u32], count: usize, declared: &[u32], 
     Naming {
         number: DONE,
         place: 0,
-        declarations: n,
+        declarations: declared.len(),
     }
 }
 
@@ -255,9 +315,12 @@ pub fn resolve_names(
     requires { λ is. ⌜ Room (now declared) (now starts) ⌝ }
     ensures { λ is r. ⌜ BothPasses (now (text .entry)) is (now (items .entry)) (now (declared .entry)) (now (starts .entry)) r (now (items .exit)) (now (declared .exit)) (now (starts .exit)) ⌝ }
 {
-    let first = declare_all(text, items, count, declared, starts);
+    let mut heads = [0u16; BUCKETS];
+    let mut links = [0u16; MOST_DECLARATIONS];
+    let first = declare_all(text, items, count, declared, starts, &mut heads, &mut links);
     if first.number != DONE {
         return first;
     }
-    resolve_uses(text, items, count, declared, first.declarations)
+    let n = first.declarations;
+    resolve_uses(text, items, count, &declared[..n], &heads, &links)
 }

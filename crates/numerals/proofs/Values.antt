@@ -12,7 +12,8 @@ use borrow.Author.Tests.{lt-leb, le-leb, lt-ltb, le-ltb, eq-eqb, ne-eqb}
 use lib.ListN.{length, getD, take, drop, drop-of-length-le}
 use lib.Seq.{take-all}
 use lib.Dec.{ltb, eqb}
-use Rattle.symbols.specs.Bytes.{byte, isDigit, isHexDigit, small, hash, point}
+use Rattle.ascii.specs.Ascii.{byte}
+use Rattle.symbols.specs.Bytes.{isDigit, isHexDigit, small, hash, point}
 use Rattle.symbols.proofs.Scan.{drop-here, while-front}
 use Rattle.symbols.proofs.Parts.{rest-whole}
 use Rattle.numerals.specs.declared.Amount.the-variants.{Outside, Value}

@@ -6,7 +6,9 @@ use lib.ListN.{length, drop}
 use lib.Dec.{ltb, leb, eqb}
 use Rattle.numerals.specs.declared.Amount.{Amount}
 use Rattle.numerals.specs.declared.Amount.the-variants.{Outside, Value}
-use Rattle.symbols.specs.Bytes.{byte, hash, point, isDigit, isHexDigit, small, takeWhile}
+use Rattle.ascii.specs.Ascii.{byte}
+use Rattle.limits.specs.Limits.{leastPart, mostPart, mostPlaces}
+use Rattle.symbols.specs.Bytes.{hash, point, isDigit, isHexDigit, small, takeWhile}
 
 -- the value of a digit: 0 to 9, and a to f as 10 to 15 (0 of any other byte, which no number has)
 unfoldable pub digitOf : ℕ → ℕ
@@ -34,19 +36,19 @@ ranged low high x = cond (leb low x && leb x high) (Value x) Outside
 
 -- "ratio parts, radicand, frequency: 0.0001 to 429496.7295", in ten-thousandths
 unfoldable pub tenThousandths : ℕ → Amount
-tenThousandths x = ranged 1 429496_7295 x
+tenThousandths x = ranged leastPart mostPart x
 
 -- "at most four places"
 unfoldable pub pointOf : List ℕ → List ℕ → Amount
 pointOf whole part =
-    cond (ltb 4 (length part)) Outside
-    (tenThousandths (numeral 10 whole * 10 ^ 4 + numeral 10 part * 10 ^ (4 - length part)))
+    cond (ltb mostPlaces (length part)) Outside
+    (tenThousandths (numeral 10 whole * 10 ^ mostPlaces + numeral 10 part * 10 ^ (mostPlaces - length part)))
 
 -- the number of these bytes as a ratio part, a radicand or a frequency
 unfoldable pub decimalOf : List ℕ → Amount
 decimalOf [] = Outside
 decimalOf (b ∷ rest) =
-    cond (eqb b hash) (tenThousandths (numeral 16 rest * 10 ^ 4)) (pointOf (beforePoint (b ∷ rest)) (places (b ∷ rest)))
+    cond (eqb b hash) (tenThousandths (numeral 16 rest * 10 ^ mostPlaces)) (pointOf (beforePoint (b ∷ rest)) (places (b ∷ rest)))
 
 -- the number of these bytes as a whole number from `low` to `high`: "a point where whole is asked" is outside
 unfoldable pub wholeOf : ℕ → ℕ → List ℕ → Amount

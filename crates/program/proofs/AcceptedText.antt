@@ -14,7 +14,7 @@ use Rattle.tuning.specs.Desk.{isPeriod, isTone}
 use Rattle.values.specs.declared.Value.the-variants.{Exactly}
 use Rattle.values.specs.declared.Outcome.{Outcome}
 use Rattle.values.specs.declared.Outcome.the-variants.{Done, Circular, OutOfRange}
-use Rattle.values.specs.Values.{Term, toneLimit, within, weight, valueAt, outcome}
+use Rattle.values.specs.Values.{Term, farthestTone, within, weight, valueAt, outcome}
 use Rattle.values.specs.Inner.{Uses, here, there}
 use Rattle.values.proofs.Cases.{impossible}
 use Rattle.values.proofs.Plain.{sumOf, done-exact, done-small, done-sums}
@@ -127,9 +127,9 @@ few-declarations {p} w = omega (arith, counts-add p, w .few Interval, w .few Ton
 
 -- ---- the values
 
-tone-in : (z : ℤ) → natAbs z ≤ toneLimit → isTone z ≡ true
-tone-in (pos n) h = le-leb n toneLimit h
-tone-in (negsuc n) h = rw (le-leb n (toneLimit - 1) (omega arith))
+tone-in : (z : ℤ) → natAbs z ≤ farthestTone → isTone z ≡ true
+tone-in (pos n) h = le-leb n farthestTone h
+tone-in (negsuc n) h = rw (le-leb n (farthestTone - 1) (omega arith))
 
 -- a sum with a start value is that plus the plain sum, which any g is that adds value times weight term by term
 pub sum-apart : (f : ℕ → ℤ) (g : List Term → ℤ) → g [] ≡ pos 0 → ((t : Term) (ts : List Term) → g (t ∷ ts) ≡ f (t .of) *ℤ weight t +ℤ g ts)
@@ -157,7 +157,7 @@ module _ (p : Program) (e : valued p ≡ Done) where
   pub value-exact : (i : ℕ) → i < length p → valueAt (own p) (terms p) (length p) i ≡ Exactly (valueOf p i)
   value-exact i h = value-within i h .0
 
-  pub value-small : (i : ℕ) → i < length p → natAbs (valueOf p i) ≤ toneLimit
+  pub value-small : (i : ℕ) → i < length p → natAbs (valueOf p i) ≤ farthestTone
   value-small i h = done-small (own p) (terms p) (length p) outcome-done i h (value-exact i h)
 
   pub value-tone : (i : ℕ) → i < length p → isTone (valueOf p i) ≡ true

@@ -4,8 +4,8 @@ use mathlib.Core.List.{List, [], _∷_, map, map-append}
 use Prim.Native.Nat.{ℕ}
 use Rattle.status.specs.Status.{done}
 use Rattle.symbols.specs.Names.{nameAt}
-use Rattle.symbols.specs.declared.names.Found.{Found}
-use Rattle.symbols.specs.declared.names.Found.the-variants.{Nothing, Row}
+use Rattle.names.specs.declared.Found.{Found}
+use Rattle.names.specs.declared.Found.the-variants.{Nothing, Row}
 use Rattle.grammar.specs.declared.Kind.{Kind}
 use Rattle.grammar.specs.declared.Item.{Item}
 use Rattle.names.specs.Parts.{Part, declares, gives, uses, says, part, Use, add, subtract, base, position, start, order}

@@ -15,9 +15,10 @@ use Rattle.symbols.specs.declared.MarkKind.{MarkKind}
 use Rattle.symbols.specs.declared.MarkKind.the-variants as mark
 use Rattle.symbols.specs.declared.words.Word.{Word}
 use Rattle.symbols.specs.declared.words.Word.the-variants as word
-use Rattle.symbols.specs.declared.names.Letter.{Letter as Spelled}
-use Rattle.symbols.specs.declared.names.Letter.the-variants.{Missing, Capital}
-use Rattle.symbols.specs.Bytes.{byte, between, hash, small}
+use Rattle.symbols.specs.declared.spelling.Letter.{Letter as Spelled}
+use Rattle.symbols.specs.declared.spelling.Letter.the-variants.{Missing, Capital}
+use Rattle.ascii.specs.Ascii.{byte}
+use Rattle.symbols.specs.Bytes.{between, hash, small}
 use Rattle.symbols.specs.Names.{spelled, letterOf}
 use Rattle.symbols.specs.Words.{wordOf}
 use Rattle.numerals.specs.declared.Amount.{Amount}

@@ -16,6 +16,7 @@ use Rattle.names.specs.Names.{meant}
 use Rattle.tuning.specs.declared.Operator.the-variants.{Plus, Minus, Times, Divide}
 use Rattle.tuning.specs.declared.Amount.{Amount}
 use Rattle.tuning.specs.declared.Amount.the-variants.{Kept, Absolute, Relative}
+use Rattle.limits.specs.Limits.{mostPart, mostDegree, mostFactor, mostAnchor, leastDivisor, mostAmount, firstLetter, lastLetter}
 use Rattle.values.specs.Values.{Term}
 use Rattle.program.specs.Program.{Declaration, ratio, root, sequence, frequency, from, system, anchor, width, freshPeriod, onwardPeriod, tones, logic, Placed, Program, Position, mute, same, named, Order}
 use Rattle.program.specs.Meaning.{declarationAt}
@@ -25,34 +26,34 @@ use Rattle.program.specs.Meaning.{declarationAt}
 -- "ratio parts, radicand, frequency: 0.0001 to 429496.7295", in ten-thousandths
 pub record Decimal (n : ℕ) : Type 0 where
   pub least : 0 < n
-  pub most : n < 2 ^ 32
+  pub most : n < mostPart + 1
 
 -- "root degree: whole, 1 to 65,535"
 pub record Degree (n : ℕ) : Type 0 where
   pub least : 0 < n
-  pub most : n < 65536
+  pub most : n < mostDegree + 1
 
 -- "A letter is a one-letter name from a to z", as its capital
 pub record Letter (c : ℕ) : Type 0 where
-  pub least : 0x41 ≤ c
-  pub most : c ≤ 0x5A
+  pub least : firstLetter ≤ c
+  pub most : c ≤ lastLetter
 
 -- "n in anchor and width retunings: whole, 0 to 9,999; after `/` from 1"; an anchor knows only `+` and `-`
 abbrev pub AnchorAmount : Amount → Type 0
 AnchorAmount Kept = Unit
-AnchorAmount (Absolute n) = n ≤ 9999
-AnchorAmount (Relative Plus n) = n ≤ 9999
-AnchorAmount (Relative Minus n) = n ≤ 9999
+AnchorAmount (Absolute n) = n ≤ mostAmount
+AnchorAmount (Relative Plus n) = n ≤ mostAmount
+AnchorAmount (Relative Minus n) = n ≤ mostAmount
 AnchorAmount (Relative Times n) = ⊥
 AnchorAmount (Relative Divide n) = ⊥
 
 abbrev pub WidthAmount : Amount → Type 0
 WidthAmount Kept = Unit
-WidthAmount (Absolute n) = n ≤ 9999
-WidthAmount (Relative Plus n) = n ≤ 9999
-WidthAmount (Relative Minus n) = n ≤ 9999
-WidthAmount (Relative Times n) = n ≤ 9999
-WidthAmount (Relative Divide n) = (1 ≤ n) × (n ≤ 9999)
+WidthAmount (Absolute n) = n ≤ mostAmount
+WidthAmount (Relative Plus n) = n ≤ mostAmount
+WidthAmount (Relative Minus n) = n ≤ mostAmount
+WidthAmount (Relative Times n) = n ≤ mostAmount
+WidthAmount (Relative Divide n) = (leastDivisor ≤ n) × (n ≤ mostAmount)
 
 -- ---- references
 
@@ -88,7 +89,7 @@ Each P (x ∷ xs) = P x × Each P xs
 
 -- "factor: whole, 0 to 999"
 pub record FitTerm (p : Program) (t : Term) : Type 0 where
-  pub factor : t .factor ≤ 999
+  pub factor : t .factor ≤ mostFactor
   pub of : Refers p (meant parts.add) (t .of)
 
 -- "terms in one sequence, tone or expression: 16"
@@ -120,7 +121,7 @@ pub record FitOrder (p : Program) (o : Order) : Type 0 where
 
 -- "anchor in a tone system: whole, 0 to 127"
 pub record FitSystem (p : Program) (a : ℕ) (l : List (Option ℕ)) (ts : List Term) : Type 0 where
-  pub anchor : a ≤ 127
+  pub anchor : a ≤ mostAnchor
   pub positions : Positions (length l)
   pub each : Each (FitPlace p) l
   pub period : Terms p ts

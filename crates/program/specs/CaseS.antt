@@ -3,7 +3,7 @@ use mathlib.Core.Bool.{false}
 use mathlib.Core.List.{List, [], _∷_}
 use mathlib.Core.Option.{some}
 use Prim.Native.Nat.{ℕ}
-use Rattle.symbols.specs.Bytes.{bytes}
+use Rattle.ascii.specs.Ascii.{byte, bytes}
 use Rattle.tuning.specs.declared.Operator.the-variants.{Plus}
 use Rattle.tuning.specs.declared.Amount.the-variants.{Relative}
 use Rattle.program.specs.Program.{Declaration, ratio, frequency, from, system, anchor, logic, Placed, Program}
@@ -23,5 +23,5 @@ program =
     ∷ placed 51 (from 2 (record { minus = false; factor = 1; of = 1 } ∷ []))
     ∷ placed 76 (system 69 (some 2 ∷ some 3 ∷ []) (record { minus = false; factor = 1; of = 0 } ∷ []))
     ∷ placed 110 (anchor (Relative Plus 1))
-    ∷ placed 131 (logic 77 (some 4) (record { letter = 85; calls = 5 } ∷ []))
+    ∷ placed 131 (logic (byte "M") (some 4) (record { letter = byte "U"; calls = 5 } ∷ []))
     ∷ []

@@ -16,7 +16,6 @@ use Rattle.values.specs.Values.{Term}
 
 -- ---- declarations
 
--- a position of a tone system: "a tone name or nothing"
 -- a position of a tones retuning: "nothing, or `@` or a tone name, with signed terms"
 pub data Position : Type 0 where
   mute : Position
@@ -35,7 +34,7 @@ pub data Declaration : Type 0 where
   -- a tone: "a frequency in hertz, or a tone name followed by any number of signed terms"
   frequency : ℕ → Declaration
   from : ℕ → List Term → Declaration
-  -- a tone system: "anchor key, positions, period as a sequence"
+  -- a tone system: "anchor key, positions, each a tone name or nothing, period as a sequence"
   system : ℕ → List (Option ℕ) → List Term → Declaration
   -- a retuning of one of the four kinds
   anchor width : Amount → Declaration
@@ -164,6 +163,7 @@ byNumber parts.widthTimes a b rest = width (Relative Times a)
 byNumber parts.widthOver a b rest = width (Relative Divide a)
 byNumber parts.letter a b rest = logic a (startOf rest) (ordersOf rest)
 
+-- (no text gives a start or an order without its logic, nor a declaration without a part: any value serves there)
 abbrev pub byUse : Use → ℕ → ℕ → Item → List Item → Declaration
 byUse parts.add f n i rest = sequence (termsOf (i ∷ rest))
 byUse parts.subtract f n i rest = sequence (termsOf (i ∷ rest))

@@ -2,7 +2,7 @@
 use mathlib.Core.List.{List, [], _∷_}
 use Rattle.status.specs.Status.{noSymbol, symbolNotAllowed, numberOutOfRange, nameTwice, nameNotDeclared, dependsOnItself, valueOutOfRange}
 use Rattle.cents.specs.Sums.{Row, _gives_}
-use Rattle.symbols.specs.Bytes.{bytes}
+use Rattle.ascii.specs.Ascii.{bytes}
 use Rattle.program.specs.Text.{refused, accepted, readText}
 
 unfoldable pub verdicts : List Row

@@ -21,7 +21,8 @@ use Rattle.tables.specs.Layout.{Tables, rowCount, rowAt, tonesFrom, changesFrom
 use Rattle.tables.specs.Values as values
 use Rattle.tables.proofs.Lists.{part-length}
 use Rattle.validity.specs.Valid.{validTables}
-use Rattle.validity.proofs.Laws.{ValidSystem, ValidRow, row-valid, fields-fit}
+use Rattle.validity.specs.Inner.{ValidSystem}
+use Rattle.validity.proofs.Laws.{ValidRow, row-valid, fields-fit}
 use Rattle.protocol.specs.declared.Found.{Found}
 use Rattle.protocol.specs.declared.Found.the-variants.{Nothing, Row}
 use Rattle.protocol.specs.Letters.{actionBy, actionAt}

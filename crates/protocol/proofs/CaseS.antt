@@ -17,9 +17,13 @@ use Rattle.tables.specs.declared.Row.{Row}
 use Rattle.tables.specs.declared.Row.the-variants.{Interval, Tone, System, Retuning, Logic}
 use Rattle.tables.specs.Layout.{Tables, rowWidth, mostRows, mostTones, mostChanges, mostOrders, rowOf, writtenAll, soundingOf, pitchOf, joined, full}
 use Rattle.validity.specs.Valid.{rowRight, rowsRight, ordersRight, eachRight, allZero, allNought, validTables}
-use Rattle.frames.specs.Frames.{byte, digitOf, byteOf, bytesOf, framed, frameOf}
-use Rattle.frames.specs.Cases.{bytes, caseLines}
-use Rattle.hexadecimal.specs.Hexadecimal.{hexOf, hexes, twos, fourOf}
+use Rattle.ascii.specs.Ascii.{byte}
+use Rattle.hexadecimal.specs.Digits.{digitOf, byteOf, bytesOf}
+use Rattle.frames.specs.Frames.{framed, frameOf}
+use Rattle.ascii.specs.Ascii.{bytes}
+use Rattle.frames.specs.Cases.{caseLines}
+use Rattle.hexadecimal.specs.Digits.{hexOf, hexes}
+use Rattle.hexadecimal.specs.Numbers.{twos, fourOf}
 use Rattle.answers.specs.Answer.{smallestBuffer}
 use Rattle.protocol.specs.Letters.{firstLogic, firstOrder, pressed}
 use Rattle.protocol.specs.Answers.{startDesk, callOn, tuningFrom, madeFrom, letterOutcome, keyOutcome, frameOutcome, answerOf}

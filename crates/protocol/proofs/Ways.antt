@@ -19,15 +19,15 @@ use Rattle.validity.specs.Valid.{validTables}
 use Rattle.frames.specs.Frames.{frameOf, inside, isHouse, isKey, lastKey}
 use Rattle.frames.specs.declared.Frame.{Frame}
 use Rattle.frames.specs.declared.Frame.the-variants.{Bad, Letter, Key, Dump}
-use Rattle.hexadecimal.specs.Hexadecimal.{lineOf}
+use Rattle.hexadecimal.specs.Lines.{lineOf}
 use Rattle.answers.specs.Answer.{letterBytes, keyBytes, smallestBuffer}
 use Rattle.protocol.specs.declared.Desk.{Desk}
 use Rattle.protocol.specs.declared.Answered.{Answered}
 use Rattle.protocol.specs.declared.letters.Press.{Press}
 use Rattle.protocol.specs.Letters.{Pressed, pressed}
-use Rattle.protocol.specs.Answers.{tuningFrom, madeFrom, lastNumber, Outcome, letterOutcome, soundAt, keyNumber, keyOutcome, frameOutcome}
+use Rattle.protocol.specs.Answers.{badOutcome, dumpOutcome, tuningFrom, madeFrom, lastNumber, Outcome, letterOutcome, soundAt, keyNumber, keyOutcome, frameOutcome}
 use Rattle.protocol.specs.Answers.{activeRight, validDesk, unchanged, answerOf, Gives}
-use Rattle.protocol.specs.Inner.{callsOf, pressedBy, badOutcome, dumpOutcome, Ready}
+use Rattle.protocol.specs.Inner.{callsOf, pressedBy, Ready}
 
 -- what gives an outcome gives an equal one
 pub gives : {r : Answered} {before after : List ℕ} {o q : Outcome} → o ≡ q → Gives o r before after → Gives q r before after
@@ -36,7 +36,7 @@ gives {r} {before} {after} e g = subst (λ (x : Outcome). Gives x r before after
 -- a refusal leaves the buffer
 pub refusal : {r : Answered} {d : Desk} {n : ℕ} (buffer : List ℕ) → (r .desk ≡ d) × (r .number ≡ n) × (r .length ≡ 0)
     → Gives (unchanged d n) r buffer buffer
-refusal buffer e = record { desk = e .0; number = e .1; length = e .2; buffer = refl }
+refusal buffer e = record { desk = e .0; number = e .1; size = e .2; buffer = refl }
 
 -- ---- the test of the tables and the desk
 

@@ -1,12 +1,12 @@
 -- What a frame does: the desk after it, the number, the calls that were made, and the answer's line. Document 01, "Frames", and "Numbers returned".
 use mathlib.Core.Path.{_≡_}
 use mathlib.Core.Bool.{Bool, true, false, cond, _&&_}
-use mathlib.Core.List.{List, [], _∷_, _++_}
+use mathlib.Core.List.{List, [], _∷_}
 use mathlib.Core.Option.{Option, some, none}
 use Prim.Native.Nat.{ℕ}
 use lib.Dec.{ltb}
 use lib.IntN.{ℤ}
-use lib.ListN.{length, drop}
+use lib.ListN.{length}
 use Rattle.status.specs.Status.{done, bufferTooSmall, keySilent, letterUnbound, badFrame, tableDamaged}
 use Rattle.tuning.specs.Scale.{Sound, muted, sounds}
 use Rattle.tuning.specs.Tuning.{Action, soundOf, start}
@@ -19,7 +19,7 @@ use Rattle.validity.specs.Valid.{isForm, validTables}
 use Rattle.frames.specs.Frames.{frameOf}
 use Rattle.frames.specs.declared.Frame.{Frame}
 use Rattle.frames.specs.declared.Frame.the-variants.{Bad, Letter, Key, Dump}
-use Rattle.hexadecimal.specs.Hexadecimal.{lineOf}
+use Rattle.hexadecimal.specs.Lines.{lineOf, begunWith}
 use Rattle.answers.specs.Answer.{letterBytes, keyBytes, dumpBytes, badBytes, smallestBuffer}
 use Rattle.protocol.specs.declared.Active.{Active}
 use Rattle.protocol.specs.declared.Active.the-variants as active
@@ -91,11 +91,19 @@ keyOutcome d house key =
     let t = soundAt d key in
     record { desk = d; number = keyNumber t; made = []; line = lineOf (keyBytes house key (keyNumber t) t) }
 
+-- "03: anchor, width, period, each tone"
+abbrev pub dumpOutcome : Desk → ℕ → Outcome
+dumpOutcome d house = record { desk = d; number = done; made = []; line = lineOf (dumpBytes house (held (d .tuning))) }
+
+-- "Anything else is a bad frame, answered `FF16`."
+abbrev pub badOutcome : Desk → Outcome
+badOutcome d = record { desk = d; number = badFrame; made = []; line = lineOf badBytes }
+
 unfoldable pub frameOutcome : Tables → Desk → Frame → Outcome
-frameOutcome t d Bad = record { desk = d; number = badFrame; made = []; line = lineOf badBytes }
 frameOutcome t d (Letter house letter) = letterOutcome t d house letter
 frameOutcome t d (Key house key) = keyOutcome d house key
-frameOutcome t d (Dump house) = record { desk = d; number = done; made = []; line = lineOf (dumpBytes house (held (d .tuning))) }
+frameOutcome t d (Dump house) = dumpOutcome d house
+frameOutcome t d Bad = badOutcome d
 
 -- ---- the whole answer
 
@@ -117,13 +125,9 @@ answerOf t d frame room =
     cond (ltb room smallestBuffer) (unchanged d bufferTooSmall)
     (cond (validDesk t d) (frameOutcome t d (frameOf frame)) (unchanged d tableDamaged))
 
--- a buffer that begins with the line: "Bytes after the answer's line feed keep what they held."
-abbrev pub begunWith : List ℕ → List ℕ → List ℕ
-begunWith line buffer = line ++ drop (length line) buffer
-
--- the whole result of a call, with the lent buffer before it and after it
+-- the whole result of a call, with the lent buffer before it and after it: "Bytes after the answer's line feed keep what they held."
 pub record Gives (o : Outcome) (r : Answered) (before after : List ℕ) : Type 0 where
   pub desk : r .desk ≡ o .desk
   pub number : r .number ≡ o .number
-  pub length : r .length ≡ length (o .line)
+  pub size : r .length ≡ length (o .line)
   pub buffer : after ≡ begunWith (o .line) before

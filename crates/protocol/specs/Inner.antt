@@ -8,18 +8,16 @@ use lib.Dec.{eqb}
 use lib.IntN.{ℤ}
 use lib.ListN.{length}
 use lib.Seq.{slice}
-use Rattle.status.specs.Status.{done, badFrame}
 use Rattle.orders.specs.declared.Order.{Order}
 use Rattle.orders.specs.Orders.{noOrder}
-use Rattle.tuning.specs.State.{held, validState}
+use Rattle.tuning.specs.State.{validState}
 use Rattle.tables.specs.declared.Row.{Row as TableRow}
 use Rattle.tables.specs.declared.Row.the-variants.{Unused, Interval, Tone, System, Retuning, Logic}
 use Rattle.tables.specs.Layout.{Tables, mostOrders, readAt, rowOf, rowAt, full}
 use Rattle.tables.specs.Values.{FieldsFit}
 use Rattle.validity.specs.Valid.{validTables}
-use Rattle.validity.proofs.Laws.{ValidSystem, ValidRetuning}
-use Rattle.hexadecimal.specs.Hexadecimal.{lineOf}
-use Rattle.answers.specs.Answer.{dumpBytes, badBytes, smallestBuffer}
+use Rattle.validity.specs.Inner.{ValidSystem, ValidRetuning}
+use Rattle.answers.specs.Answer.{smallestBuffer}
 use Rattle.protocol.specs.declared.Active.{Active}
 use Rattle.protocol.specs.declared.Active.the-variants as active
 use Rattle.protocol.specs.declared.Found.{Found}
@@ -29,7 +27,7 @@ use Rattle.protocol.specs.declared.letters.Press.{Press}
 use Rattle.protocol.specs.declared.letters.Called.{Called}
 use Rattle.protocol.specs.declared.letters.Called.the-variants as called
 use Rattle.protocol.specs.Letters.{Pressed}
-use Rattle.protocol.specs.Answers.{Outcome, activeRight}
+use Rattle.protocol.specs.Answers.{activeRight}
 
 -- ---- the code's values
 
@@ -145,13 +143,6 @@ CallableFound t Nothing = Unit
 CallableFound t (Row k) = Callable t k
 
 -- ---- of frames
-
--- a bad frame, and the frame of kind 03, as `frameOutcome` has them
-abbrev pub badOutcome : Desk → Outcome
-badOutcome d = record { desk = d; number = badFrame; made = []; line = lineOf badBytes }
-
-abbrev pub dumpOutcome : Desk → ℕ → Outcome
-dumpOutcome d house = record { desk = d; number = done; made = []; line = lineOf (dumpBytes house (held (d .tuning))) }
 
 -- what is known once 19 and 23 are excluded
 pub record Ready (t : Tables) (d : Desk) (buffer : List ℕ) : Type 0 where

@@ -20,7 +20,7 @@ unfoldable pub madeIn : Tables → Desk → List Lent → List Made
 madeIn t d [] = []
 madeIn t d (l ∷ ls) = let o = answerOf t d (l .frame) (l .room) in o .made ++ madeIn t (o .desk) ls
 
--- the numbers and the lines of the answers
+-- the lines of the answers, each with its number in it
 unfoldable pub linesOf : Tables → Desk → List Lent → List (List ℕ)
 linesOf t d [] = []
 linesOf t d (l ∷ ls) = let o = answerOf t d (l .frame) (l .room) in o .line ∷ linesOf t (o .desk) ls

@@ -26,8 +26,8 @@ ghost use Rattle.tables.specs.Layout.{Tables, logicForm};
 ghost use Rattle.validity.specs.Valid.{isForm};
 ghost use Rattle.frames.specs.Frames.{frameOf, lastKey};
 ghost use Rattle.answers.specs.Answer.{smallestBuffer};
-ghost use Rattle.protocol.specs.Answers.{startDesk, letterOutcome, keyNumber, keyOutcome, frameOutcome, validDesk, answerOf, Gives};
-ghost use Rattle.protocol.specs.Inner.{lent, Ready, badOutcome, dumpOutcome};
+ghost use Rattle.protocol.specs.Answers.{badOutcome, dumpOutcome, startDesk, letterOutcome, keyNumber, keyOutcome, frameOutcome, validDesk, answerOf, Gives};
+ghost use Rattle.protocol.specs.Inner.{lent, Ready};
 
 // The active logic, by the number of its declaration.
 pub enum Active {

@@ -6,7 +6,7 @@ use Prim.Native.Nat.{ℕ, _≤_}
 use native.Mathlib.Omega.{arith}
 use lib.Dec.{eqb}
 use lib.ListN.{length, take, drop, set, drop-of-length-le}
-use Rattle.hexadecimal.specs.Hexadecimal.{lineFeed}
+use Rattle.hexadecimal.specs.Lines.{lineFeed}
 use Rattle.tables.specs.Layout.{Tables}
 use Rattle.protocol.specs.declared.Desk.{Desk}
 use Rattle.stream.specs.Feed.{Fed, feed, lineEnded, fedByte, fed, finished, streamed, SameStream}

@@ -22,6 +22,10 @@ symbolNotAllowed = 3
 abbrev pub numberOutOfRange : ℕ
 numberOutOfRange = 4
 
+-- "one more item than allowed"
+abbrev pub itemTooMany : ℕ
+itemTooMany = 9
+
 -- "name used twice in a kind"
 abbrev pub nameTwice : ℕ
 nameTwice = 5
@@ -37,10 +41,6 @@ dependsOnItself = 7
 -- "interval, tone or tone system's period out of range"
 abbrev pub valueOutOfRange : ℕ
 valueOutOfRange = 8
-
--- "one more item than allowed"
-abbrev pub itemTooMany : ℕ
-itemTooMany = 9
 
 -- ---- of a retuning
 

@@ -10,6 +10,8 @@ pub const SYMBOL_NOT_ALLOWED: u8 = 3;
 
 pub const NUMBER_OUT_OF_RANGE: u8 = 4;
 
+pub const ITEM_TOO_MANY: u8 = 9;
+
 pub const NAME_TWICE: u8 = 5;
 
 pub const NAME_NOT_DECLARED: u8 = 6;
@@ -17,8 +19,6 @@ pub const NAME_NOT_DECLARED: u8 = 6;
 pub const DEPENDS_ON_ITSELF: u8 = 7;
 
 pub const VALUE_OUT_OF_RANGE: u8 = 8;
-
-pub const ITEM_TOO_MANY: u8 = 9;
 
 // Of a retuning.
 pub const ANCHOR_OUT_OF_RANGE: u8 = 10;

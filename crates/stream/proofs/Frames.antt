@@ -4,7 +4,7 @@ use mathlib.Core.Bool.{Bool, true, false, cond}
 use mathlib.Core.List.{List, [], _∷_, _++_, map, append-assoc, append-nil}
 use Prim.Native.Nat.{ℕ}
 use lib.Dec.{eqb}
-use Rattle.hexadecimal.specs.Hexadecimal.{lineFeed}
+use Rattle.hexadecimal.specs.Lines.{lineFeed}
 use Rattle.tables.specs.Layout.{Tables}
 use Rattle.protocol.specs.declared.Desk.{Desk}
 use Rattle.protocol.specs.Streams.{Lent, deskAfter, linesOf}

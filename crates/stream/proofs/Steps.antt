@@ -7,7 +7,7 @@ use native.Mathlib.Omega.{arith}
 use borrow.Author.Tests.{le-ltb, eq-eqb, ne-eqb}
 use lib.ListN.{length, getD, take, drop, set, take-append-drop, length-append, length-take, length-drop}
 use lib.Seq.{drop-cons, take-suc-set, take-all, take-at, drop-at, drop-drop, drop-append-le, length-take-le}
-use Rattle.hexadecimal.specs.Hexadecimal.{lineFeed}
+use Rattle.hexadecimal.specs.Lines.{lineFeed}
 use Rattle.frames.specs.Frames.{enough}
 use Rattle.answers.specs.Answer.{smallestBuffer}
 use Rattle.tables.specs.Layout.{Tables}
@@ -59,7 +59,7 @@ pub answer-fits : {o : Outcome} {r : Answered} {before after : List ℕ} → Giv
     → r .length ≤ length before
 answer-fits {o} {r} {before} {after} g e =
     let n = o .line in
-    omega (arith, e, g .length, ap length (g .buffer), length-append n (drop (length n) before), length-drop (length n) before)
+    omega (arith, e, g .size, ap length (g .buffer), length-append n (drop (length n) before), length-drop (length n) before)
 
 -- lists that are the same from a place on are the same from a later place on
 pub drop-more : (n m : ℕ) (xs ys : List ℕ) → drop m xs ≡ drop m ys → drop (m + n) xs ≡ drop (m + n) ys
@@ -73,11 +73,11 @@ rest-kept {o} {r} {after} out used k h g e =
     let n = r .length in
     let rest = drop used out in
     let fits = answer-fits g e in
-    let line = drop-at (o .line) (drop (length (o .line)) (take k rest)) n (sym (g .length)) in
+    let line = drop-at (o .line) (drop (length (o .line)) (take k rest)) n (sym (g .size)) in
     sym (drop-drop n used (take used out ++ (after ++ drop k rest)))
     ∙ ap (drop n) (drop-at (take used out) (after ++ drop k rest) used (length-take-le used out h))
     ∙ drop-append-le n after (drop k rest) (omega arith)
-    ∙ ap (λ (w : List ℕ). w ++ drop k rest) (ap (drop n) (g .buffer) ∙ line ∙ ap (λ (m : ℕ). drop m (take k rest)) (sym (g .length)))
+    ∙ ap (λ (w : List ℕ). w ++ drop k rest) (ap (drop n) (g .buffer) ∙ line ∙ ap (λ (m : ℕ). drop m (take k rest)) (sym (g .size)))
     ∙ sym (drop-append-le n (take k rest) (drop k rest) fits)
     ∙ ap (drop n) (take-append-drop k rest)
     ∙ drop-drop n used out
@@ -109,6 +109,6 @@ module _ (chunk : List ℕ) (i : ℕ) (k : i < length chunk) where
       let o = answerOf t d l room in
       let rest = drop (i + 1) chunk ++ more in
       ap (λ (f : Fed). streamed t f rest)
-      (λ x. feed (g .desk x) [] (out-law out after (o .line) (drop (length (o .line)) before) post used (r .length) u (g .buffer) (g .length) x))
+      (λ x. feed (g .desk x) [] (out-law out after (o .line) (drop (length (o .line)) before) post used (r .length) u (g .buffer) (g .size) x))
       ∙ ap (λ (q : Outcome). streamed t (feed (q .desk) [] (take used out ++ q .line)) rest) (room-law t d l room m)
       ∙ sym (ap (finished t) (fed-on t (feed d l (take used out)) more ∙ rw (eq-eqb (getD chunk i 0) lineFeed b)))

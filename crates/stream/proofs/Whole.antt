@@ -8,7 +8,7 @@ use native.Mathlib.Decide.{decLe}
 use lib.Dec.{eqb}
 use lib.ListN.{length, take}
 use lib.Seq.{take-all, take-at, take-append-le, length-take-le}
-use Rattle.hexadecimal.specs.Hexadecimal.{lineFeed}
+use Rattle.hexadecimal.specs.Lines.{lineFeed}
 use Rattle.frames.specs.Frames.{enough}
 use Rattle.frames.proofs.Lines.{long-line}
 use Rattle.answers.specs.Answer.{smallestBuffer}

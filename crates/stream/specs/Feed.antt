@@ -5,7 +5,7 @@ use mathlib.Core.Bool.{cond}
 use mathlib.Core.List.{List, [], _∷_, _++_}
 use Prim.Native.Nat.{ℕ}
 use lib.Dec.{eqb}
-use Rattle.hexadecimal.specs.Hexadecimal.{lineFeed}
+use Rattle.hexadecimal.specs.Lines.{lineFeed}
 use Rattle.answers.specs.Answer.{smallestBuffer}
 use Rattle.tables.specs.Layout.{Tables}
 use Rattle.protocol.specs.declared.Desk.{Desk}

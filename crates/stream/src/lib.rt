@@ -8,7 +8,7 @@ ghost use mathlib.Core.Path.{_≡_};
 ghost use mathlib.Core.List.{[], _∷_, _++_};
 ghost use Prim.Native.Nat.{_≤_, _<_};
 ghost use lib.ListN.{length, getD, take, drop};
-ghost use Rattle.hexadecimal.specs.Hexadecimal.{lineFeed};
+ghost use Rattle.hexadecimal.specs.Lines.{lineFeed};
 ghost use Rattle.frames.specs.Frames.{enough};
 ghost use Rattle.answers.specs.Answer.{smallestBuffer};
 ghost use Rattle.stream.specs.Feed.{feed, SameStream};

@@ -7,7 +7,8 @@ use mathlib.Core.Bool.{Bool, true, false, _||_, and-eq-true-iff}
 use native.Mathlib.Omega.{arith}
 use borrow.Author.Tests.{leb-true, lt-leb, le-leb}
 use lib.Dec.{leb}
-use Rattle.symbols.specs.Bytes.{byte, between, isDigit, isHexDigit, isCapital, small}
+use Rattle.ascii.specs.Ascii.{byte}
+use Rattle.symbols.specs.Bytes.{between, isDigit, isHexDigit, isCapital, small}
 
 between-bounds : (low high : Char) (b : ℕ) → between low high b ≡ true → (byte low ≤ b) × (b ≤ byte high)
 between-bounds low high b e =

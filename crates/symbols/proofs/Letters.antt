@@ -11,13 +11,13 @@ use borrow.Author.Tests.{le-leb, lt-leb, leb-true, eqb-true, eq-eqb, ne-eqb}
 use lib.ListN.{length, getD, drop, drop-of-length-le}
 use lib.Seq.{slice}
 use lib.Dec.{leb, eqb}
-use Rattle.symbols.specs.declared.names.Found.the-variants.{Nothing, Row}
-use Rattle.symbols.specs.declared.names.Letter.the-variants.{Missing, Capital}
-use Rattle.symbols.specs.Bytes.{byte, isDigit, isCapital, isLetter, inName, small, same, takeWhile}
-use Rattle.symbols.specs.Names.{spelled, nameAt, findFrom, letterOf}
+use Rattle.symbols.specs.declared.spelling.Letter.the-variants.{Missing, Capital}
+use Rattle.ascii.specs.Ascii.{byte}
+use Rattle.symbols.specs.Bytes.{isDigit, isCapital, isLetter, inName, small, same, takeWhile}
+use Rattle.symbols.specs.Names.{spelled, nameAt, letterOf}
 use Rattle.symbols.specs.Inner.{first}
 use Rattle.symbols.proofs.Scan.{drop-here}
-use Rattle.symbols.proofs.Parts.{part-empty, part-out, part-cons, part-none, part-some}
+use Rattle.symbols.proofs.Parts.{part-empty, part-cons, part-none, part-some}
 
 -- no byte of a name is 0, nor is its small letter
 zero-outside : (b : ℕ) → inName b ≡ true → b ≡ 0 → ⊥
@@ -112,25 +112,6 @@ module _ (text : List ℕ) (i j : ℕ) {a b : ℕ} (e : a ≡ first (nameAt text
       go : Dec (b ≡ 0) → eqb b 0 ≡ same [] (nameAt text j)
       go (yes q) = rw (first-none text j f q, eq-eqb b 0 q)
       go (no q) = rw (first-some text j f q .1, ne-eqb b 0 q)
-
--- the rows of a table of places, up to row `n`
-module _ (text places name : List ℕ) (row n : ℕ) where
-  pub find-end : n ≤ row → Nothing ≡ findFrom row text (slice row n places) name
-  unfolding findFrom
-  find-end h = rw (part-empty places row n h)
-
-  pub find-out : length places ≤ row → Nothing ≡ findFrom row text (slice row n places) name
-  unfolding findFrom
-  find-out h = rw (part-out places row n h)
-
-  module _ (h : row < n) (l : row < length places) {b : Bool} (e : b ≡ same (nameAt text (getD places row 0)) name) where
-    pub find-row : b ≡ true → Row row ≡ findFrom row text (slice row n places) name
-    unfolding findFrom
-    find-row q = rw (part-cons places row n h l, findFrom, ← e, q)
-
-    pub find-on : b ≡ false → findFrom (row + 1) text (slice (row + 1) n places) name ≡ findFrom row text (slice row n places) name
-    unfolding findFrom
-    find-on q = rw (part-cons places row n h l, findFrom, ← e, q)
 
 -- a part of the text as a letter
 module _ (text : List ℕ) (start end : ℕ) {e : ℕ} (w : e ≡ min end (length text)) where

@@ -5,3 +5,4 @@ pub mod Parts
 pub mod Letters
 pub mod Reserved
 pub mod Progress
+pub mod Examples

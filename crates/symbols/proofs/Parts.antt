@@ -15,11 +15,6 @@ part-empty text start end h =
     let l : length (take end text) ≤ start = simp length-take (omega arith) in
     drop-of-length-le (take end text) l
 
-pub part-out : (text : List ℕ) (start end : ℕ) → length text ≤ start → slice start end text ≡ []
-part-out text start end h =
-    let l : length (take end text) ≤ start = simp length-take (omega arith) in
-    drop-of-length-le (take end text) l
-
 pub part-cons : (text : List ℕ) (start end : ℕ) → start < end → start < length text
     → slice start end text ≡ getD text start 0 ∷ slice (start + 1) end text
 part-cons text start end h l =

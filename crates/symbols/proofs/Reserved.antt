@@ -11,7 +11,8 @@ use lib.ListN.{length, getD, take, drop, replicate, drop-of-length-le, length-ma
 use lib.Dec.{leb, ltb, eqb}
 use Rattle.symbols.specs.declared.words.Word.{Word}
 use Rattle.symbols.specs.declared.words.Word.the-variants.{Plain}
-use Rattle.symbols.specs.Bytes.{bytes, isCapital, small, same}
+use Rattle.ascii.specs.Ascii.{bytes}
+use Rattle.symbols.specs.Bytes.{isCapital, small, same}
 use Rattle.symbols.specs.Names.{spelled}
 use Rattle.symbols.specs.Words.{words, wordIn, wordOf}
 use Rattle.symbols.specs.Inner.{rowWord, rowKind, rows, rowOf}

@@ -19,7 +19,8 @@ use Rattle.symbols.specs.declared.Sign.the-variants.{Missing, Kind}
 use Rattle.symbols.specs.declared.Symbol.{Symbol}
 use Rattle.symbols.specs.declared.Symbol.the-variants.{Bad, End, Name, Number, Mark}
 use Rattle.symbols.specs.declared.runs.Run.the-variants.{Comment}
-use Rattle.symbols.specs.Bytes.{byte, same, quote, point, hash, isBlank, isDigit, isHexDigit, isLetter, inName, takeWhile}
+use Rattle.ascii.specs.Ascii.{byte}
+use Rattle.symbols.specs.Bytes.{same, quote, point, hash, isBlank, isDigit, isHexDigit, isLetter, inName, takeWhile}
 use Rattle.symbols.specs.Symbols.{marks, markIn, markOr, markAt, runEnd, digitsTo, pointed, decimalAt, hexAt, symbolAt, symbolFrom, afterComment, nextSymbol}
 use Rattle.symbols.specs.Inner.{inRun, asSign}
 

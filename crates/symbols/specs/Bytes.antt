@@ -1,18 +1,10 @@
 -- The bytes of a text, named by the characters that they are.
 use Prim.Native.Nat.{ℕ, _+_, _-_}
-use Prim.Native.Char.{Char, code}
-use Prim.Native.String.{String, [] as []ˢ, _∷_ as _∷ˢ_}
+use Prim.Native.Char.{Char}
 use mathlib.Core.List.{List, [], _∷_}
 use mathlib.Core.Bool.{Bool, true, false, cond, _&&_, _||_}
 use lib.Dec.{leb, eqb}
-
--- the byte that a character is
-abbrev pub byte : Char → ℕ
-byte c = code c
-
-abbrev pub bytes : String → List ℕ
-bytes []ˢ = []
-bytes (c ∷ˢ s) = byte c ∷ bytes s
+use Rattle.ascii.specs.Ascii.{byte}
 
 abbrev pub between : Char → Char → ℕ → Bool
 between low high b = leb (byte low) b && leb b (byte high)

@@ -12,7 +12,8 @@ use Rattle.symbols.specs.declared.runs.Run.{Run}
 use Rattle.symbols.specs.declared.runs.Run.the-variants.{Digits, HexDigits, Name, Comment}
 use Rattle.symbols.specs.declared.words.Word.{Word}
 use Rattle.symbols.specs.declared.words.Word.the-variants.{Plain}
-use Rattle.symbols.specs.Bytes.{bytes, quote, isDigit, isHexDigit, inName}
+use Rattle.ascii.specs.Ascii.{bytes}
+use Rattle.symbols.specs.Bytes.{quote, isDigit, isHexDigit, inName}
 use Rattle.symbols.specs.Names.{spelled}
 use Rattle.symbols.specs.Words.{words}
 

@@ -3,4 +3,3 @@ pub mod Symbols
 pub mod Names
 pub mod Words
 pub mod Inner
-pub mod Examples

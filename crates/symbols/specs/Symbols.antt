@@ -10,7 +10,8 @@ use Rattle.symbols.specs.declared.MarkKind.{MarkKind}
 use Rattle.symbols.specs.declared.MarkKind.the-variants.{Equals, Colon, Plus, Minus, Times, Divide, Open, Close, Comma, At, WidthOpen, WidthClose, Arrow}
 use Rattle.symbols.specs.declared.Symbol.{Symbol}
 use Rattle.symbols.specs.declared.Symbol.the-variants.{Bad, End, Name, Number, Mark}
-use Rattle.symbols.specs.Bytes.{bytes, same, quote, point, hash, isBlank, isDigit, isHexDigit, isLetter, inName, takeWhile}
+use Rattle.ascii.specs.Ascii.{bytes}
+use Rattle.symbols.specs.Bytes.{same, quote, point, hash, isBlank, isDigit, isHexDigit, isLetter, inName, takeWhile}
 
 -- "Marks: `= : + - * / [ ] , @ << >> ->`"
 unfoldable pub marks : List (String × MarkKind)

@@ -5,7 +5,8 @@ use mathlib.Core.List.{List, [], _∷_}
 use mathlib.Core.Bool.{cond}
 use Rattle.symbols.specs.declared.words.Word.{Word}
 use Rattle.symbols.specs.declared.words.Word.the-variants.{Plain, Interval, Tone, ToneSystem, Retuning, Logic, Key, Root, Unused}
-use Rattle.symbols.specs.Bytes.{bytes, same}
+use Rattle.ascii.specs.Ascii.{bytes}
+use Rattle.symbols.specs.Bytes.{same}
 use Rattle.symbols.specs.Names.{spelled}
 
 -- "The ones used here", and then those of no use here

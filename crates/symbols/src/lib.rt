@@ -1,7 +1,7 @@
 // The symbols of a text: names, numbers and marks, each with its place.
 pub mod bytes;
-pub mod names;
 mod runs;
+pub mod spelling;
 pub mod words;
 
 use runs::Run;

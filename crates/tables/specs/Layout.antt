@@ -21,6 +21,8 @@ use Rattle.tuning.specs.declared.Tone.the-variants.{Muted, At}
 use Rattle.tuning.specs.declared.Retuning.{Retuning as RetuningForm}
 use Rattle.tuning.specs.declared.Retuning.the-variants.{Anchor, Width, Period, Tones}
 use Rattle.tables.specs.declared.Counts.{Counts}
+use Rattle.limits.specs.Limits.{mostSystems, mostRetunings, mostPositions, mostDeclarations, farthestTone}
+pub use Rattle.limits.specs.Limits.{mostOrders}
 use Rattle.tables.specs.declared.Numbers.{Numbers}
 use Rattle.tables.specs.declared.Row.{Row}
 use Rattle.tables.specs.declared.Row.the-variants.{Unused, Interval, Tone, System, Retuning, Logic}
@@ -37,23 +39,23 @@ pub record Tables : Type 0 where
   pub calls : List ℕ
   pub counts : List ℕ
 
--- ---- full sizes: "intervals, tones: 256 each", "tone systems, logics: 32 each", "retunings: 128", "orders in all logics together: 512",
--- "positions in one list: 60"
+-- ---- full sizes: so many declarations, positions of tone systems and of tones retunings, and orders as a text may have
 
 abbrev pub mostRows : ℕ
-mostRows = 256 + 256 + 32 + 32 + 128
+mostRows = mostDeclarations
 
 abbrev pub rowWidth : ℕ
 rowWidth = 5
 
 abbrev pub mostTones : ℕ
-mostTones = 32 * places
+mostTones = mostSystems * mostPositions
 
 abbrev pub mostChanges : ℕ
-mostChanges = 128 * places
+mostChanges = mostRetunings * mostPositions
 
-abbrev pub mostOrders : ℕ
-mostOrders = 512
+-- a sum of terms in a retuning is kept within this: what is beyond it is out of every range that the sum could lead to
+abbrev pub farthestSum : ℕ
+farthestSum = 2 * farthestTone + 1
 
 -- the number of rows, of tones, of changes and of orders
 abbrev pub countsSize : ℕ

@@ -20,7 +20,7 @@ use Rattle.tuning.specs.declared.Place.{Place}
 use Rattle.tuning.specs.declared.Position.{Position}
 use Rattle.tuning.specs.declared.Tone.{Tone}
 use Rattle.tuning.specs.declared.Tone.the-variants.{Muted, At}
-use Rattle.tuning.proofs.Valid.{Valid, none, period-size}
+use Rattle.tuning.proofs.Valid.{Valid, none, period-size, tone-size}
 
 -- the width is the number of tones
 pub held-width : (s : State) → length (s .tones) ≡ 60 → s .width ≤ 60 → width cents (held s) ≡ s .width
@@ -65,3 +65,9 @@ module _ (s : State) (v : Valid s) (x : ℕ) (h : x ≤ s .anchor .0 + 127) wher
       ap (raised cents (place .periods *ℤ s .period .0)) (sym (heard-at (s .tones) (s .width) (place .position) place-position))
       ∙ ap (λ (w : ℕ). raised cents (floorDiv (subℕ x (s .anchor .0)) w *ℤ s .period .0) (getD (held s .tones) (floorMod (subℕ x (s .anchor .0)) w) muted))
       (sym (held-width s n (v .most)))
+
+  -- and how far it can be
+  pub sound-size : length (s .tones) ≡ 60 → size (toneOf (soundOf cents (held s) x)) ≤ 1_624_000_000
+  sound-size n =
+      let t = getD (s .tones) (place .position) none .tone in
+      rw (← place-sound n) (omega (arith, raised-size t (place .periods *ℤ s .period .0), tone-size s v (place .position), place-shift))

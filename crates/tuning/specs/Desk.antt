@@ -2,9 +2,10 @@
 use mathlib.Core.Bool.{Bool, true, false, not, _&&_, _||_}
 use mathlib.Core.List.{List, [], _∷_}
 use Prim.Native.Nat.{ℕ, zero, suc, _+_}
-use lib.IntN.{ℤ, pos, negsuc, _+ℤ_, _-ℤ_, _*ℤ_}
+use lib.IntN.{ℤ, pos, negℤ, _+ℤ_, _-ℤ_, _*ℤ_}
 use lib.Signed.{leZ}
 use Rattle.integers.specs.Parts.{up}
+use Rattle.limits.specs.Limits.{mostAnchor, mostPositions, farthestTone, longestPeriod}
 use Rattle.cents.specs.Measure.{pitch440}
 use Rattle.status.specs.Status.{anchorOutOfRange, widthOutOfRange, periodOutOfRange, endSilent, toneOutOfRange}
 use Rattle.tuning.specs.Scale.{Scale, Sound, muted, sounds}
@@ -31,18 +32,18 @@ between low high z = leZ low z && leZ z high
 
 -- "anchor .. 0 to 127", "width not 1 to 60"
 abbrev pub isAnchor : ℤ → Bool
-isAnchor b = between (pos 0) (pos 127) b
+isAnchor b = between (pos 0) (pos mostAnchor) b
 
 abbrev pub isWidth : ℤ → Bool
-isWidth v = between (pos 1) (pos 60) v
+isWidth v = between (pos 1) (pos mostPositions) v
 
 -- "period: 0 to 12,000,000"
 abbrev pub isPeriod : ℤ → Bool
-isPeriod P = between (pos 0) (pos 12000000) P
+isPeriod P = between (pos 0) (pos longestPeriod) P
 
 -- "tones of a state: -100,000,000 to 100,000,000"
 abbrev pub isTone : ℤ → Bool
-isTone t = between (negsuc 99999999) (pos 100000000) t
+isTone t = between (negℤ (pos farthestTone)) (pos farthestTone) t
 
 -- ---- the checks, each with the number that is given where it fails
 
@@ -98,7 +99,7 @@ checks s (system y) = []
 
 -- ---- a call: its number, and the state that it leaves
 
--- "A call with number 0 does what its line above says. Any other number changes nothing."
+-- "A retuning that is not taken leaves anchor, width, tones and period unchanged": the new where the number is 0, else the old
 abbrev pub ifTaken : {A : Type 0} → ℕ → A → A → A
 ifTaken zero new old = new
 ifTaken (suc n) new old = old

@@ -17,13 +17,14 @@ use Rattle.tuning.specs.declared.PositionChange.{PositionChange}
 use Rattle.tuning.specs.declared.ToneChanges.{ToneChanges}
 use Rattle.tuning.specs.declared.Retuning.{Retuning}
 use Rattle.tuning.specs.declared.Retuning.the-variants.{Anchor, Width, Period, Tones}
+use Rattle.limits.specs.Limits.{mostPositions}
 use Rattle.tuning.specs.Scale.{Sound, muted, sounds}
 use Rattle.tuning.specs.Tuning.{Tuning, PeriodTo, fresh, onward, PositionTo, mute, move, setTo, Action, anchorTo, widthTo, periodTo, tonesTo}
 use Rattle.tuning.specs.Desk.{cents, isAnchor, isWidth, isPeriod, isMuted, anyBeyond, Called, called}
 
--- "positions in one list: 60"
+-- the places of a state: "width not 1 to 60"
 abbrev pub places : ℕ
-places = 60
+places = mostPositions
 
 -- ---- what the code's values stand for
 

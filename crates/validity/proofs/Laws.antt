@@ -26,7 +26,8 @@ use Rattle.tables.specs.declared.Row.the-variants.{Unused, Interval, Tone, Syst
 use Rattle.tables.specs.Layout.{Tables, fullSize, used, rowCount, toneCount, changeCount, orderCount, rowWidth, mostOrders, numbers, readAt, rowOf, rowAt, tonesFrom, changesFrom, toneOf, intervalForm, toneForm, systemForm, anchorForm, widthForm, periodForm, tonesForm, logicForm, soundsCode, setCode, keptCode, freshCode, onwardCode, minusCode, divideCode}
 use Rattle.tables.specs.Values.{system, listed, Part, FieldsFit}
 use Rattle.tables.proofs.Lists.{part-length}
-use Rattle.validity.specs.Valid.{isLetter, isStart, isForm, isPart, noPart, isZero, isSum, isAmount, mostAmount, letterA, letterZ, hasNaturals, rowRight, rowsRight, ordersRight, eachRight, allZero, allNought, poolRight, countsRight, validTables}
+use Rattle.validity.specs.Valid.{isLetter, isStart, isForm, isPart, noPart, isZero, isSum, isAmount, mostAmount, firstLetter, lastLetter, hasNaturals, rowRight, rowsRight, ordersRight, eachRight, allZero, allNought, poolRight, countsRight, validTables}
+use Rattle.validity.specs.Inner.{ValidSystem, ValidRetuning}
 use Rattle.validity.proofs.Runs.{form-right, start-some}
 use Rattle.validity.proofs.Sizes.{Sizes, sizes-of, Room, room-of}
 use Rattle.validity.proofs.Pools.{each-slice, tones-right, sum-modest, listed-modest}
@@ -107,15 +108,6 @@ pub record Refers (t : Tables) (low high i : ℕ) : Type 0 where
   pub within : i < rowCount t
   pub least : low ≤ readAt (t .rows) i .form
   pub most : readAt (t .rows) i .form ≤ high
-
-pub record ValidSystem (t : Tables) (anchor : ℕ) (period : ℤ) (from to : ℕ) : Type 0 where
-  pub part : Part (t .sounding) (t .tones) from to
-  pub state : validState (coded (system anchor (tonesFrom t from to) period)) ≡ true
-
-pub record ValidRetuning (t : Tables) (r : RetuningForm) (from to : ℕ) : Type 0 where
-  pub modest : modestRetuning r ≡ true
-  pub part : Part (t .kinds) (t .changes) from to
-  pub list : allModest (listed (changesFrom t from to)) ≡ true
 
 pub record ValidLogic (t : Tables) (key number from to : ℕ) : Type 0 where
   pub letter : isLetter (pos key) ≡ true
@@ -206,7 +198,7 @@ fields rows c r h =
       widthBy = λ e. omega (arith, amount-small divideCode a b (both (isAmount divideCode a b) none (form-right rows c r widthForm e ∙ h) .0));
       letter = λ e.
           let g = both (isLetter a && isStart rows (c .rows) b) (isPart 0 mostOrders (c .orders) (r .from) (r .to)) (form-right rows c r logicForm e ∙ h) in
-          omega (arith, up-small a letterZ (both (leZ (pos letterA) a) (leZ a (pos letterZ)) (both (isLetter a) (isStart rows (c .rows) b) (g .0) .0) .1));
+          omega (arith, up-small a lastLetter (both (leZ (pos firstLetter) a) (leZ a (pos lastLetter)) (both (isLetter a) (isStart rows (c .rows) b) (g .0) .0) .1));
     }
 
 module _ (t : Tables) (v : Valid t) where
@@ -250,7 +242,7 @@ module _ (t : Tables) (v : Valid t) where
       → ValidLogic t (up a) (up b) m n
   logic-valid a b m n h k p =
       record {
-        letter = subst (λ (z : ℤ). isLetter z ≡ true) (sym (natural-is letterA a (both (leZ (pos letterA) a) (leZ a (pos letterZ)) h .0))) h;
+        letter = subst (λ (z : ℤ). isLetter z ≡ true) (sym (natural-is firstLetter a (both (leZ (pos firstLetter) a) (leZ a (pos lastLetter)) h .0))) h;
         start = λ l. refers t systemForm tonesForm (up b - 1) (start-some b _ (above b l) ∙ k);
         order = omega (arith, p);
         within = p .within;

@@ -17,9 +17,9 @@ use Rattle.tuning.specs.declared.ToneChange.the-variants.{Mute, Move, Set}
 use Rattle.tuning.specs.declared.PositionChange.{PositionChange}
 use Rattle.tuning.specs.declared.Tone.the-variants.{Muted, At}
 use Rattle.tuning.proofs.Lists.{both}
-use Rattle.tables.specs.Layout.{joined, toneOf, changeOf, soundsCode, setCode, mutedCode, muteCode, moveCode}
+use Rattle.tables.specs.Layout.{farthestSum, joined, toneOf, changeOf, soundsCode, setCode, mutedCode, muteCode, moveCode}
 use Rattle.tables.specs.Values.{changeAt, listed}
-use Rattle.validity.specs.Valid.{isSum, isZero, farthestSum, eachRight}
+use Rattle.validity.specs.Valid.{isSum, isZero, eachRight}
 
 -- ---- a part of what is right
 

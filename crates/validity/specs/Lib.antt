@@ -1,2 +1,3 @@
 -- Which tables are valid.
 pub mod Valid
+pub mod Inner

@@ -8,20 +8,17 @@ use lib.Signed.{leZ}
 use lib.ListN.{getD, take, drop}
 use Rattle.integers.specs.Parts.{up}
 use Rattle.tuning.specs.Desk.{between, isAnchor, isPeriod, isTone}
+pub use Rattle.limits.specs.Limits.{leastDivisor, mostAmount, firstLetter, lastLetter}
 use Rattle.tuning.specs.State.{places}
 use Rattle.tables.specs.declared.Numbers.{Numbers}
 use Rattle.tables.specs.declared.Counts.{Counts}
-use Rattle.tables.specs.Layout.{Tables, numberAt, mostRows, rowWidth, mostTones, mostChanges, mostOrders, fullSize, used, readAt, intervalForm, toneForm, systemForm, anchorForm, widthForm, periodForm, tonesForm, logicForm, keptCode, minusCode, divideCode, freshCode, onwardCode, soundsCode, setCode}
+use Rattle.tables.specs.Layout.{Tables, numberAt, mostRows, rowWidth, mostTones, mostChanges, mostOrders, farthestSum, fullSize, used, readAt, intervalForm, toneForm, systemForm, anchorForm, widthForm, periodForm, tonesForm, logicForm, keptCode, minusCode, divideCode, freshCode, onwardCode, soundsCode, setCode}
 
 -- there is room for so many
 abbrev pub countsRight : Counts → Bool
 countsRight c = leb (c .rows) mostRows && leb (c .tones) mostTones && leb (c .changes) mostChanges && leb (c .orders) mostOrders
 
 -- ---- numbers
-
--- a sum of terms in a retuning is kept within this: what is beyond it is out of every range that the sum could lead to
-abbrev pub farthestSum : ℕ
-farthestSum = 200_000_001
 
 abbrev pub isSum : ℤ → Bool
 isSum z = between (negℤ (pos farthestSum)) (pos farthestSum) z
@@ -30,23 +27,14 @@ abbrev pub isZero : ℤ → Bool
 isZero z = between (pos 0) (pos 0) z
 
 -- "n in anchor and width retunings: whole, 0 to 9,999; after `/` from 1"; a bare `@` has no n
-abbrev pub mostAmount : ℕ
-mostAmount = 9999
-
 abbrev pub isAmount : ℕ → ℤ → ℤ → Bool
 isAmount last code n =
     between (pos keptCode) (pos last) code && between (pos 0) (pos mostAmount) n
-    && (not (leZ code (pos keptCode)) || leZ n (pos 0)) && (not (leZ (pos divideCode) code) || leZ (pos 1) n)
+    && (not (leZ code (pos keptCode)) || leZ n (pos 0)) && (not (leZ (pos divideCode) code) || leZ (pos leastDivisor) n)
 
 -- A to Z, as a frame names a letter: "a letter 41 to 5A"
-abbrev pub letterA : ℕ
-letterA = 0x41
-
-abbrev pub letterZ : ℕ
-letterZ = 0x5A
-
 abbrev pub isLetter : ℤ → Bool
-isLetter c = between (pos letterA) (pos letterZ) c
+isLetter c = between (pos firstLetter) (pos lastLetter) c
 
 -- what belongs to a row: from one place to another, from `least` to `most` of them, within `count`
 abbrev pub isPart : ℕ → ℕ → ℕ → ℕ → ℕ → Bool

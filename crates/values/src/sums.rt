@@ -7,7 +7,7 @@ ghost use mathlib.Core.Path.{_≡_};
 ghost use Prim.Native.Nat.{_+_, _≤_, _<_};
 ghost use lib.IntN.{pos, natAbs, _+ℤ_, _*ℤ_};
 ghost use lib.ListN.{length, getD};
-ghost use Rattle.values.specs.Values.{Range, toneLimit, within, ranged, plus, weight};
+ghost use Rattle.values.specs.Values.{Range, farthestTone, within, ranged, plus, weight};
 ghost use Rattle.values.specs.Rows.{perDeclaration, termOf, rangeOf};
 ghost use Rattle.values.specs.Inner.{size, greatestFactor, largestMeasure, largestTerm, largestSum};
 
@@ -35,7 +35,7 @@ pub fn fits_range(range: u8, z: i64) -> bool
 }
 
 pub fn limit_tone(v: Value) -> Value
-    ensures { λ r. ⌜ (r ≡ ranged Range.tone v) × (size r ≤ toneLimit) ⌝ }
+    ensures { λ r. ⌜ (r ≡ ranged Range.tone v) × (size r ≤ farthestTone) ⌝ }
 {
     let Value::Exactly(z) = v else {
         return Value::Beyond;
@@ -76,7 +76,7 @@ fn weigh(term: u32) -> i64
 }
 
 fn add_product(s: i64, z: i64, w: i64) -> i64
-    requires { ⌜ (natAbs s ≤ largestSum) × (natAbs z ≤ toneLimit) × (natAbs w ≤ greatestFactor) ⌝ }
+    requires { ⌜ (natAbs s ≤ largestSum) × (natAbs z ≤ farthestTone) × (natAbs w ≤ greatestFactor) ⌝ }
     ensures { λ r. ⌜ (r ≡ s +ℤ z *ℤ w) × (natAbs r ≤ natAbs s + largestTerm) ⌝ }
 {
     s + z * w
@@ -84,7 +84,7 @@ fn add_product(s: i64, z: i64, w: i64) -> i64
 
 // The sum with one term more, whose declaration has the value v.
 pub fn add_term(sum: Value, term: u32, v: Value) -> Value
-    requires { ⌜ (size sum ≤ largestSum) × (size v ≤ toneLimit) ⌝ }
+    requires { ⌜ (size sum ≤ largestSum) × (size v ≤ farthestTone) ⌝ }
     ensures { λ r. ⌜ (r ≡ plus sum (termOf term) v) × (size r ≤ size sum + largestTerm) ⌝ }
 {
     let Value::Exactly(s) = sum else {

@@ -7,7 +7,7 @@ use Rattle.tuning.specs.State.{places, held}
 use Rattle.tuning.proofs.Lists.{length-mapped}
 use Rattle.tuning.proofs.Valid.{valid-of}
 use Rattle.tuning.proofs.Held.{held-width}
-use Rattle.hexadecimal.specs.Hexadecimal.{fourOf}
+use Rattle.hexadecimal.specs.Numbers.{fourOf}
 use Rattle.hexadecimal.proofs.Written.{written-then}
 use Rattle.answers.proofs.Lines.{length-tones, ended}
 use borrow.Author.Needs.{needs}

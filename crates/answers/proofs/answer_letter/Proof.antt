@@ -1,7 +1,7 @@
 -- The head and the state, and the end of the line.
 use mathlib.Core.Path.{refl}
 use native.Mathlib.Omega.{arith}
-use Rattle.hexadecimal.specs.Hexadecimal.{fourOf}
+use Rattle.hexadecimal.specs.Numbers.{fourOf}
 use Rattle.hexadecimal.proofs.Written.{written-then}
 use Rattle.answers.proofs.Lines.{ended}
 use borrow.Author.Needs.{needs}

@@ -9,7 +9,8 @@ use Rattle.tuning.specs.Desk.{cents}
 use Rattle.tuning.specs.State.{places, held}
 use Rattle.tuning.proofs.Lists.{length-mapped}
 use Rattle.tuning.proofs.Held.{held-width}
-use Rattle.hexadecimal.specs.Hexadecimal.{twos, fourOf, written}
+use Rattle.hexadecimal.specs.Numbers.{twos, fourOf}
+use Rattle.hexadecimal.specs.Lines.{written}
 use Rattle.hexadecimal.proofs.Written.{written-then}
 use borrow.Author.Needs.{needs}
 use Rattle.answers.proofs.put_state.Statement.{statement}

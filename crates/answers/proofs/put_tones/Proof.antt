@@ -11,7 +11,7 @@ use Rattle.tuning.proofs.Lists.{length-mapped}
 use Rattle.tuning.proofs.Valid.{valid-of}
 use Rattle.tuning.proofs.Tones.{heard-at}
 use Rattle.tuning.proofs.Held.{held-width}
-use Rattle.hexadecimal.specs.Hexadecimal.{written}
+use Rattle.hexadecimal.specs.Lines.{written}
 use Rattle.hexadecimal.proofs.Written.{written-none}
 use Rattle.answers.specs.Answer.{bitsOf, tonesBytes}
 use Rattle.answers.proofs.Lines.{tones-none, tones-written}

@@ -6,8 +6,9 @@ use mathlib.Core.List.{List}
 use mathlib.Core.Option.{Option·elim}
 use native.Mathlib.Omega.{arith}
 use Rattle.frames.specs.declared.Frame.{Frame}
-use Rattle.frames.specs.Frames.{byteOf, frameOf, inside}
-use Rattle.frames.proofs.Digits.{found, lacking}
+use Rattle.hexadecimal.specs.Digits.{byteOf}
+use Rattle.frames.specs.Frames.{frameOf, inside}
+use Rattle.hexadecimal.proofs.Values.{found, lacking}
 use Rattle.frames.proofs.Lines.{six, six-digits}
 use Rattle.frames.proofs.Ranges.{frame-inside}
 use borrow.Author.Needs.{needs}

@@ -1,6 +1,6 @@
 -- Four bytes after each other are all four; past the end nothing is written.
 use mathlib.Core.Path.{refl, sym}
-use Rattle.hexadecimal.specs.Hexadecimal.{fourOf}
+use Rattle.hexadecimal.specs.Numbers.{fourOf}
 use Rattle.hexadecimal.proofs.Written.{written-then, written-out}
 use borrow.Author.Needs.{needs}
 use Rattle.hexadecimal.proofs.put_four.Statement.{statement}

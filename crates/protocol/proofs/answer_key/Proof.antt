@@ -25,7 +25,7 @@ returns c =
     let a = sounded .before .before .before .args in
     let r = written .answer-key .ensures in
     gives (key-gives (a .desk) (a .house) (a .key) _ _ (sounded .sound-of .ensures .0) (numbered .key-number .ensures))
-    (record { desk = refl; number = refl; length = r .0; buffer = r .1 })
+    (record { desk = refl; number = refl; size = r .0; buffer = r .1 })
 
 pub answer-key-spec : {M : Type 1} → statement M
 answer-key-spec =

@@ -96,7 +96,7 @@ returns c =
     gives
     (letter-gives (lentTo a) (a .args .desk) (a .args .house) (a .args .letter) (p .press-letter .result) _ _
     (pressed-here p) (state-here made) (number-here made) (numbered .letter-number .ensures))
-    (record { desk = refl; number = refl; length = r .0; buffer = r .1 })
+    (record { desk = refl; number = refl; size = r .0; buffer = r .1 })
 
 pub answer-letter-spec : {M : Type 1} → statement M
 answer-letter-spec =

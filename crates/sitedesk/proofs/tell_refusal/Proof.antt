@@ -3,7 +3,9 @@ use Prim.Native.Nat.{ℕ, _≤_}
 use native.Mathlib.Omega.{arith}
 use lib.ListN.{length}
 use lib.Seq.{length-take-le}
-use Rattle.hexadecimal.specs.Hexadecimal.{hexes, fourOf, lineOf}
+use Rattle.hexadecimal.specs.Digits.{hexes}
+use Rattle.hexadecimal.specs.Numbers.{fourOf}
+use Rattle.hexadecimal.specs.Lines.{lineOf}
 use Rattle.answers.specs.Answer.{refusalBytes}
 use borrow.Author.Needs.{needs}
 use Rattle.sitedesk.proofs.tell_refusal.Statement.{statement}

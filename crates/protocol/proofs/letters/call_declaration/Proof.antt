@@ -9,7 +9,7 @@ use Rattle.tuning.specs.declared.ToneChanges.{ToneChanges}
 use Rattle.tuning.proofs.Held.{held-coded}
 use Rattle.tables.specs.declared.Row.{Row}
 use Rattle.tables.specs.Layout.{Tables}
-use Rattle.validity.proofs.Laws.{ValidSystem, ValidRetuning}
+use Rattle.validity.specs.Inner.{ValidSystem, ValidRetuning}
 use Rattle.protocol.specs.Inner.{forCalls, CallableRow}
 use Rattle.protocol.proofs.Calls.{call-none, call-row}
 use Rattle.protocol.proofs.letters.call_declaration.Statement.{statement}

@@ -17,7 +17,7 @@ use Rattle.tuning.specs.declared.State.{State}
 use Rattle.tuning.specs.declared.Place.{Place}
 use Rattle.tuning.proofs.Lists.{length-mapped}
 use Rattle.tuning.proofs.Valid.{Valid, none, valid-of, tone-size}
-use Rattle.tuning.proofs.Tones.{place, place-position, place-periods, place-shift, place-sound, raised-size}
+use Rattle.tuning.proofs.Tones.{place, place-position, place-periods, place-shift, place-sound, sound-size}
 use Rattle.tuning.proofs.State.sound_of.Statement.{statement}
 use Rattle.tuning.proofs.State.sound_of.Tie as tie
 
@@ -88,14 +88,12 @@ returns : tie.Need-returns
 returns c =
     let l = c .before .before .before .before .before in
     let t = getD (s l .tones) (l .locate .result .position) none .tone in
-    let d = c .before .times .result .0 in (
-      c .raise .ensures
-          ∙ ap (λ (z : ℤ). toneOf (raised cents z (heard t))) (shift (c .before))
-          ∙ ap (λ (p : Place). toneOf (raised cents (here l .periods *ℤ s l .period .0) (heard (getD (s l .tones) (p .position) none .tone)))) (located l)
-          ∙ ap toneOf (place-sound (s l) (v l) (x l) (near l) (long (l .before .before .before))),
-      rw (c .raise .ensures)
-          (omega (arith, raised-size t d, tone-size (s l) (v l) (l .locate .result .position), place-shift (s l) (v l) (x l) (near l), ap natAbs (shift (c .before)))),
-    )
+    let full = long (l .before .before .before) in
+    let sound = c .raise .ensures
+    ∙ ap (λ (z : ℤ). toneOf (raised cents z (heard t))) (shift (c .before))
+    ∙ ap (λ (p : Place). toneOf (raised cents (here l .periods *ℤ s l .period .0) (heard (getD (s l .tones) (p .position) none .tone)))) (located l)
+    ∙ ap toneOf (place-sound (s l) (v l) (x l) (near l) full) in
+    (sound, rw sound (sound-size (s l) (v l) (x l) (near l) full))
 
 pub sound-of-spec : {M : Type 1} → statement M
 sound-of-spec =

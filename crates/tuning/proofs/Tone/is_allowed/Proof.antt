@@ -1,8 +1,9 @@
 -- The two tests are the two of the range; a muted tone is in it.
-use mathlib.Core.Path.{_≡_}
+use mathlib.Core.Path.{_≡_, sym}
 use mathlib.Core.Bool.{true, false, Bool·not-not}
 use borrow.Author.Needs.{needs}
-use lib.IntN.{negsuc}
+use lib.IntN.{pos, negℤ}
+use Rattle.limits.specs.Limits.{farthestTone}
 use lib.Signed.{leZ}
 use mir.Facts.{toZ-ofZ}
 use mir.Syntax.{w32}
@@ -26,14 +27,14 @@ returns-2 : tie.Need-returns-2
 returns-2 c =
     let z = c .before .before .before .before .before .before .self .given .0 .0 .0 in
     let f : SFits w32 z = search needs in
-    let low : leZ (negsuc 99999999) z ≡ true = simp toZ-ofZ at (c .before .before .if1 .taken) in
-    simp (c .before .before .before .before .before .before .self .given .1, toZ-ofZ, low, Bool·not-not)
+    let low : leZ (negℤ (pos farthestTone)) z ≡ true = simp toZ-ofZ at (c .before .before .if1 .taken) in
+    simp (c .before .before .before .before .before .before .self .given .1, toZ-ofZ, low) (sym (Bool·not-not (leZ z (pos farthestTone))))
 
 returns-3 : tie.Need-returns-3
 returns-3 c =
     let z = c .before .before .before .before .self .given .0 .0 .0 in
     let f : SFits w32 z = search needs in
-    let low : leZ (negsuc 99999999) z ≡ false = simp toZ-ofZ at (c .if1 .left) in
+    let low : leZ (negℤ (pos farthestTone)) z ≡ false = simp toZ-ofZ at (c .if1 .left) in
     simp (c .before .before .before .before .self .given .1, toZ-ofZ, Bool·not-not, low)
 
 pub is-allowed-spec : {M : Type 1} → statement M

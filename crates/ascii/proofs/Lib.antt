@@ -1,0 +1,2 @@
+-- Laws of ranges of bytes.
+pub mod Between

@@ -1,0 +1,2 @@
+-- Characters as bytes, and ranges of bytes.
+pub mod Ascii

@@ -1,0 +1,85 @@
+// A damaged desk, and damage beside a small buffer or a bad frame.
+use crate::lent::LOGIC;
+use crate::lent::USED_ROWS;
+use crate::limits::ABOVE_KEYS;
+use crate::limits::ABOVE_PERIODS;
+use crate::limits::ABOVE_TONES;
+use crate::limits::BELOW_TONES;
+use crate::report::report;
+use crate::tally::Tally;
+use cents::Interval;
+use cents::KeyNumber;
+use cents::Pitch;
+use tuning::PLACES;
+use tuning::State;
+use tuning::Tone;
+
+const WIDTH_AT_START: u8 = 12;
+
+fn start_at(key: u8) -> State {
+    let mut s = State::start();
+    let anchor = KeyNumber(key);
+    s.anchor = anchor;
+    s
+}
+
+fn start_of_width(width: u8) -> State {
+    let mut s = State::start();
+    s.width = width;
+    s
+}
+
+fn start_of_period(thousandths: i32) -> State {
+    let mut s = State::start();
+    let period = Interval(thousandths);
+    s.period = period;
+    s
+}
+
+// At width 11 the last tone of the start is one past the width.
+pub fn report_state() {
+    let anchors = Tally::new()
+        .try_tuning(start_at(ABOVE_KEYS as u8))
+        .try_tuning(start_at(u8::MAX));
+    let widths = Tally::new()
+        .try_tuning(start_of_width(0))
+        .try_tuning(start_of_width(WIDTH_AT_START - 1))
+        .try_tuning(start_of_width(PLACES as u8 + 1))
+        .try_tuning(start_of_width(u8::MAX));
+    let periods = Tally::new()
+        .try_tuning(start_of_period(-1))
+        .try_tuning(start_of_period(ABOVE_PERIODS))
+        .try_tuning(start_of_period(i32::MIN))
+        .try_tuning(start_of_period(i32::MAX));
+    let used = WIDTH_AT_START as usize;
+    let tones = Tally::new()
+        .try_tones(0, used, Tone::At(Pitch(BELOW_TONES)))
+        .try_tones(0, used, Tone::At(Pitch(ABOVE_TONES)));
+    let past = Tally::new().try_tones(used, PLACES, Tone::At(Pitch(0)));
+    report(b"state, anchor out of range", anchors);
+    report(b"state, width out of range", widths);
+    report(b"state, period out of range", periods);
+    report(b"state, tone out of range", tones);
+    report(b"state, tone past the width", past);
+}
+
+// A row that is no logic, the first one past the count, and the greatest number.
+pub fn report_active() {
+    let active = Tally::new()
+        .try_first_active(LOGIC as u32)
+        .try_active(USED_ROWS as u32)
+        .try_active(u32::MAX);
+    report(b"active logic", active);
+}
+
+// "For a frame: 19, 23, 22, then the rest."
+pub fn report_order_of_checks() {
+    report(
+        b"damaged tables, buffer under 512 bytes",
+        Tally::new().try_buffers(),
+    );
+    report(
+        b"damaged tables, bad frame",
+        Tally::new().try_beginnings(b"010245"),
+    );
+}

@@ -1,0 +1,2 @@
+-- Document 01's table "Numbers allowed".
+pub mod Limits

@@ -1,0 +1,1 @@
+// The ranges of document 01's table "Numbers allowed", for definitions; no code.
