@@ -37,6 +37,9 @@ const USAGE: &str = "usage: reference SUBCOMMAND
                                writes one text and its frames
   stream-pairs SEED COUNT DIR  writes texts and frames, each pair in a folder
   desk [--validate]            answers frames as sitedesk does
+  join DIR                     writes a folder's text and frames as one input
+  joined                       answers one input
+  split FILE DIR               writes an input's text and frames into a folder
   book SEED COUNT              follows streams with the exact book";
 
 const USAGE_STATUS: u8 = 2;
@@ -83,6 +86,9 @@ fn run(words: &[&str]) -> Option<Outcome> {
         }
         ["desk"] => streams::run_desk(false),
         ["desk", "--validate"] => streams::run_desk(true),
+        ["join", folder] => streams::join(folder),
+        ["joined"] => streams::run_joined(),
+        ["split", input, folder] => streams::split(input, folder),
         ["book", seed, count] => books::check(seed.parse().ok()?, count.parse().ok()?),
         _ => return None,
     })

@@ -1,5 +1,6 @@
 pub mod Arms
 pub mod Table
+pub mod Numbered
 pub mod ActionNumbers
 pub mod Diagrams
 pub mod Rows

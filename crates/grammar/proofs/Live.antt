@@ -21,6 +21,7 @@ use Rattle.grammar.specs.Terminals.{terminalNumber, nodeNumber, nodes, n
 use Rattle.grammar.specs.Reading.{acted, thenAt, notAllowed, byRule, stepped, begun}
 use Rattle.grammar.specs.Live.{walked, Whole, NoContinuation, reached, ThreeExactly}
 use Rattle.grammar.proofs.Table.{each, read-of}
+use Rattle.grammar.proofs.Numbered.{node-back}
 use Rattle.grammar.proofs.Turns.{refusal, Grown, acted-grown}
 
 -- ---- a continuation from every node, by one test
@@ -100,76 +101,6 @@ finishes (some n) = eqb (nodeNumber n) (nodeNumber Finish)
 
 test : Node → Bool
 test n = finishes (walked n (continuation n))
-
--- a node comes back from its number
-node-back : (n : Node) → nodeAt (nodeNumber n) ≡ n
-node-back Begin = refl
-node-back Finish = refl
-node-back IntervalName = refl
-node-back IntervalEquals = refl
-node-back IntervalBody = refl
-node-back FirstNumber = refl
-node-back RatioColon = refl
-node-back RootWord = refl
-node-back IntervalTerm = refl
-node-back IntervalSign = refl
-node-back IntervalFactor = refl
-node-back IntervalDone = refl
-node-back ToneName = refl
-node-back ToneEquals = refl
-node-back ToneBody = refl
-node-back ToneTerm = refl
-node-back ToneSign = refl
-node-back ToneFactor = refl
-node-back ToneDone = refl
-node-back SystemName = refl
-node-back SystemEquals = refl
-node-back SystemAnchor = refl
-node-back SystemOpen = refl
-node-back SystemFirst = refl
-node-back SystemComma = refl
-node-back SystemTone = refl
-node-back SystemPeriod = refl
-node-back SystemTerm = refl
-node-back SystemSign = refl
-node-back SystemFactor = refl
-node-back RetuningName = refl
-node-back RetuningEquals = refl
-node-back RetuningBody = refl
-node-back RetuningOpen = refl
-node-back RetuningDone = refl
-node-back AnchorAt = refl
-node-back AnchorPlus = refl
-node-back AnchorMinus = refl
-node-back AnchorOpen = refl
-node-back AnchorClose = refl
-node-back WidthBody = refl
-node-back WidthAt = refl
-node-back WidthPlus = refl
-node-back WidthMinus = refl
-node-back WidthAsterisk = refl
-node-back WidthSlash = refl
-node-back WidthClose = refl
-node-back WidthEnd = refl
-node-back PeriodBody = refl
-node-back PeriodTerm = refl
-node-back PeriodSign = refl
-node-back PeriodFactor = refl
-node-back TonesTerm = refl
-node-back TonesSign = refl
-node-back TonesFactor = refl
-node-back TonesComma = refl
-node-back LogicName = refl
-node-back LogicKey = refl
-node-back LogicLetter = refl
-node-back LogicEquals = refl
-node-back LogicStart = refl
-node-back LogicOpen = refl
-node-back OrdersOpen = refl
-node-back OrderKey = refl
-node-back OrderLetter = refl
-node-back OrderArrow = refl
-node-back LogicDone = refl
 
 finished : (o : Option Node) → T (finishes o) → o ≡ some Finish
 unfolding finishes

@@ -17,90 +17,51 @@ declaredCode Retuning = 4
 declaredCode Logic = 5
 declaredCode AnOrder = 6
 
-abbrev pub code : Item → ℕ
-code (Declared k p) = declaredCode k
-code (Ratio p q) = 7
-code (Root a b) = 8
-code (Add f p) = 9
-code (Subtract f p) = 10
-code (Frequency f) = 11
-code (Base p) = 12
-code (AnchorKey n) = 13
-code MutedPosition = 14
-code KeptPosition = 15
-code (TonePosition p) = 16
-code AnchorKept = 17
-code (AnchorTo n) = 18
-code (AnchorUp n) = 19
-code (AnchorDown n) = 20
-code WidthKept = 21
-code (WidthTo n) = 22
-code (WidthUp n) = 23
-code (WidthDown n) = 24
-code (WidthTimes n) = 25
-code (WidthOver n) = 26
-code Period = 27
-code Onward = 28
-code (Letter c) = 29
-code (Start p) = 30
-code (Order c p) = 31
+-- an item in three numbers: that of its variant, its number if it has one, and a name's place or a second number
+pub record Cells : Type 0 where
+  pub code : ℕ
+  pub value : ℕ
+  pub place : ℕ
 
--- its number, if it has one, and a name's place or a second number
+abbrev pub cellsOf : ℕ → ℕ → ℕ → Cells
+cellsOf c v p = record { code = c; value = v; place = p }
+
+abbrev pub cells : Item → Cells
+cells (Declared k p) = cellsOf (declaredCode k) 0 p
+cells (Ratio p q) = cellsOf 7 p q
+cells (Root a b) = cellsOf 8 a b
+cells (Add f p) = cellsOf 9 f p
+cells (Subtract f p) = cellsOf 10 f p
+cells (Frequency f) = cellsOf 11 f 0
+cells (Base p) = cellsOf 12 0 p
+cells (AnchorKey n) = cellsOf 13 n 0
+cells MutedPosition = cellsOf 14 0 0
+cells KeptPosition = cellsOf 15 0 0
+cells (TonePosition p) = cellsOf 16 0 p
+cells AnchorKept = cellsOf 17 0 0
+cells (AnchorTo n) = cellsOf 18 n 0
+cells (AnchorUp n) = cellsOf 19 n 0
+cells (AnchorDown n) = cellsOf 20 n 0
+cells WidthKept = cellsOf 21 0 0
+cells (WidthTo n) = cellsOf 22 n 0
+cells (WidthUp n) = cellsOf 23 n 0
+cells (WidthDown n) = cellsOf 24 n 0
+cells (WidthTimes n) = cellsOf 25 n 0
+cells (WidthOver n) = cellsOf 26 n 0
+cells Period = cellsOf 27 0 0
+cells Onward = cellsOf 28 0 0
+cells (Letter c) = cellsOf 29 c 0
+cells (Start p) = cellsOf 30 0 p
+cells (Order c p) = cellsOf 31 c p
+
+abbrev pub code : Item → ℕ
+code i = cells i .code
+
 abbrev pub value : Item → ℕ
-value (Declared k p) = 0
-value (Ratio p q) = p
-value (Root a b) = a
-value (Add f p) = f
-value (Subtract f p) = f
-value (Frequency f) = f
-value (Base p) = 0
-value (AnchorKey n) = n
-value MutedPosition = 0
-value KeptPosition = 0
-value (TonePosition p) = 0
-value AnchorKept = 0
-value (AnchorTo n) = n
-value (AnchorUp n) = n
-value (AnchorDown n) = n
-value WidthKept = 0
-value (WidthTo n) = n
-value (WidthUp n) = n
-value (WidthDown n) = n
-value (WidthTimes n) = n
-value (WidthOver n) = n
-value Period = 0
-value Onward = 0
-value (Letter c) = c
-value (Start p) = 0
-value (Order c p) = c
+value i = cells i .value
 
 abbrev pub place : Item → ℕ
-place (Declared k p) = p
-place (Ratio p q) = q
-place (Root a b) = b
-place (Add f p) = p
-place (Subtract f p) = p
-place (Frequency f) = 0
-place (Base p) = p
-place (AnchorKey n) = 0
-place MutedPosition = 0
-place KeptPosition = 0
-place (TonePosition p) = p
-place AnchorKept = 0
-place (AnchorTo n) = 0
-place (AnchorUp n) = 0
-place (AnchorDown n) = 0
-place WidthKept = 0
-place (WidthTo n) = 0
-place (WidthUp n) = 0
-place (WidthDown n) = 0
-place (WidthTimes n) = 0
-place (WidthOver n) = 0
-place Period = 0
-place Onward = 0
-place (Letter c) = 0
-place (Start p) = p
-place (Order c p) = p
+place i = cells i .place
 
 -- the row of an item
 abbrev pub row : Item → List ℕ

@@ -1,4 +1,5 @@
--- The numbers by which the code knows terminals, nodes and actions; a symbol of the text as a terminal with its place.
+-- The numbers of terminals and nodes, by which reading keeps them (`terminal-back`, `node-back` of proofs/Numbered.antt: no two share one); a symbol of
+-- the text as a terminal with its place.
 use mathlib.Core.Bool.{Bool, true, false, cond}
 use mathlib.Core.List.{List, [], _∷_}
 use mathlib.Core.Option.{Option, some, none}

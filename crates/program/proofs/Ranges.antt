@@ -18,7 +18,7 @@ use Rattle.symbols.specs.declared.words.Word.the-variants as word
 use Rattle.symbols.specs.declared.spelling.Letter.{Letter as Spelled}
 use Rattle.symbols.specs.declared.spelling.Letter.the-variants.{Missing, Capital}
 use Rattle.ascii.specs.Ascii.{byte}
-use Rattle.symbols.specs.Bytes.{between, hash, small}
+use Rattle.symbols.specs.Bytes.{among, hash, small}
 use Rattle.symbols.specs.Names.{spelled, letterOf}
 use Rattle.symbols.specs.Words.{wordOf}
 use Rattle.numerals.specs.declared.Amount.{Amount}
@@ -104,9 +104,9 @@ LetterFits (Capital c) = Letter c
 letter-fits : (bytes : List ℕ) → LetterFits (letterOf bytes)
 unfolding letterOf
 letter-fits [] = tt
-letter-fits (b ∷ []) = go (between "a" "z" (small b)) refl
+letter-fits (b ∷ []) = go (among "a" "z" (small b)) refl
   where
-    go : (t : Bool) → between "a" "z" (small b) ≡ t → LetterFits (cond t (Capital (small b - (byte "a" - byte "A"))) Missing)
+    go : (t : Bool) → among "a" "z" (small b) ≡ t → LetterFits (cond t (Capital (small b - (byte "a" - byte "A"))) Missing)
     go true e = let h = both (byte "a") (byte "z") (small b) e in record { least = omega arith; most = omega arith }
     go false e = tt
 letter-fits (b ∷ c ∷ more) = tt

@@ -8,9 +8,9 @@ use native.Mathlib.Omega.{arith}
 use borrow.Author.Tests.{leb-true, lt-leb, le-leb}
 use lib.Dec.{leb}
 use Rattle.ascii.specs.Ascii.{byte}
-use Rattle.symbols.specs.Bytes.{between, isDigit, isHexDigit, isCapital, small}
+use Rattle.symbols.specs.Bytes.{among, isDigit, isHexDigit, isCapital, small}
 
-between-bounds : (low high : Char) (b : ℕ) → between low high b ≡ true → (byte low ≤ b) × (b ≤ byte high)
+between-bounds : (low high : Char) (b : ℕ) → among low high b ≡ true → (byte low ≤ b) × (b ≤ byte high)
 between-bounds low high b e =
     let h = and-eq-true-iff (leb (byte low) b) (leb b (byte high)) .0 e in
     (leb-true _ _ (h .0), leb-true _ _ (h .1))
@@ -33,9 +33,9 @@ small-capital b h k = rw (le-leb (byte "A") b h, le-leb b (byte "Z") k)
 
 pub hex-bounds : (b : ℕ) → isDigit b ≡ false → isHexDigit b ≡ true → (byte "a" ≤ small b) × (small b ≤ byte "f")
 unfolding isHexDigit
-hex-bounds b d x = go (between "a" "f" b) refl (rw d at x)
+hex-bounds b d x = go (among "a" "f" b) refl (rw d at x)
   where
-    go : (t : Bool) → between "a" "f" b ≡ t → (t || between "A" "F" b) ≡ true → (byte "a" ≤ small b) × (small b ≤ byte "f")
+    go : (t : Bool) → among "a" "f" b ≡ t → (t || among "A" "F" b) ≡ true → (byte "a" ≤ small b) × (small b ≤ byte "f")
     go true e y =
         let k = between-bounds "a" "f" b e in
         let s = small-letter b (omega arith) in

@@ -3,11 +3,12 @@ use Prim.Native.Nat.{ℕ, _+_, _-_}
 use Prim.Native.Char.{Char}
 use mathlib.Core.List.{List, [], _∷_}
 use mathlib.Core.Bool.{Bool, true, false, cond, _&&_, _||_}
-use lib.Dec.{leb, eqb}
-use Rattle.ascii.specs.Ascii.{byte}
+use lib.Dec.{eqb}
+use Rattle.ascii.specs.Ascii.{byte, between}
 
-abbrev pub between : Char → Char → ℕ → Bool
-between low high b = leb (byte low) b && leb b (byte high)
+-- from one character to another
+abbrev pub among : Char → Char → ℕ → Bool
+among low high b = between (byte low) (byte high) b
 
 abbrev pub quote : ℕ
 quote = byte "\""
@@ -30,18 +31,18 @@ isBlank b =
 
 -- "decimal digits"
 unfoldable pub isDigit : ℕ → Bool
-isDigit b = between "0" "9" b
+isDigit b = among "0" "9" b
 
 -- "hexadecimal digit"
 unfoldable pub isHexDigit : ℕ → Bool
-isHexDigit b = isDigit b || between "a" "f" b || between "A" "F" b
+isHexDigit b = isDigit b || among "a" "f" b || among "A" "F" b
 
 unfoldable pub isCapital : ℕ → Bool
-isCapital b = between "A" "Z" b
+isCapital b = among "A" "Z" b
 
 -- "`_` and `'` are letters"
 unfoldable pub isLetter : ℕ → Bool
-isLetter b = between "a" "z" b || isCapital b || eqb b (byte "_") || eqb b (byte "'")
+isLetter b = among "a" "z" b || isCapital b || eqb b (byte "_") || eqb b (byte "'")
 
 -- "A name is letters and digits"
 unfoldable pub inName : ℕ → Bool

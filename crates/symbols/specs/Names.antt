@@ -6,7 +6,7 @@ use lib.ListN.{drop}
 use Rattle.symbols.specs.declared.spelling.Letter.{Letter}
 use Rattle.symbols.specs.declared.spelling.Letter.the-variants.{Missing, Capital}
 use Rattle.ascii.specs.Ascii.{byte}
-use Rattle.symbols.specs.Bytes.{between, inName, small, takeWhile}
+use Rattle.symbols.specs.Bytes.{among, inName, small, takeWhile}
 
 -- "capitals count as small"
 unfoldable pub spelled : List ℕ → List ℕ
@@ -19,5 +19,5 @@ nameAt text at = spelled (takeWhile inName (drop at text))
 -- "A letter is a one-letter name from a to z": its capital, as frames have it
 unfoldable pub letterOf : List ℕ → Letter
 letterOf [] = Missing
-letterOf (b ∷ []) = cond (between "a" "z" (small b)) (Capital (small b - (byte "a" - byte "A"))) Missing
+letterOf (b ∷ []) = cond (among "a" "z" (small b)) (Capital (small b - (byte "a" - byte "A"))) Missing
 letterOf (b ∷ c ∷ more) = Missing

@@ -1,6 +1,7 @@
 // The retunings: each call takes the state and hands it back with its number, unchanged where the number is not 0.
 use crate::Amount;
 use crate::Operator;
+use crate::PLACES;
 use crate::PeriodChange;
 use crate::Position;
 use crate::Reach;
@@ -105,7 +106,7 @@ impl State {
     {
         let mut s = self;
         let mut i: usize = 0;
-        while i < 60 {
+        while i < PLACES {
             let p = s.tones[i];
             let old = p.tone;
             let tone = old.raise(by);
@@ -126,7 +127,7 @@ impl State {
         let mut s = State {
             anchor: KeyNumber(a),
             width: v,
-            tones: [Position { tone: Tone::Muted }; 60],
+            tones: [Position { tone: Tone::Muted }; PLACES],
             period,
         };
         let mut i: u8 = 0;

@@ -16,14 +16,29 @@ ghost use Rattle.tuning.specs.Desk.{cents, isPeriod, isMuted, beyond, an
 ghost use Rattle.tuning.specs.State.{heard, heardAt, held, toneOf, coded, validState, allMuted};
 ghost use Rattle.tuning.specs.Inner.{placeOf, size};
 
-// How many positions a state has room for.
+// How many positions a state has room for, and the width that takes them all.
 pub const PLACES: usize = 60;
+
+const WIDEST: u8 = 60;
 
 const HIGHEST_KEY: u8 = 127;
 
 const LONGEST_PERIOD: i32 = 12_000_000;
 
 const FARTHEST_TONE: i32 = 100_000_000;
+
+// The start: its anchor, its width, so many tones, the pitch of the first, an octave and its twelfth part.
+const START_KEY: u8 = 60;
+
+const START_WIDTH: u8 = 12;
+
+const START_TONES: usize = START_WIDTH as usize;
+
+const START_PITCH: i32 = 6_000_000;
+
+const OCTAVE: i32 = 1_200_000;
+
+const SEMITONE: i32 = 100_000;
 
 // A tone of a state: a pitch, or muted.
 pub enum Tone {
@@ -39,7 +54,7 @@ pub struct Position {
 pub struct State {
     pub anchor: KeyNumber,
     pub width: u8,
-    pub tones: [Position; 60],
+    pub tones: [Position; PLACES],
     pub period: Interval,
 }
 
@@ -89,7 +104,7 @@ pub struct PositionChange {
 // The positions of a tones retuning.
 pub struct ToneChanges {
     pub count: u8,
-    pub positions: [PositionChange; 60],
+    pub positions: [PositionChange; PLACES],
 }
 
 // The four kinds. (An enum holds no array: the positions of a tones retuning are beside it.)
@@ -222,7 +237,7 @@ impl State {
         if self.width < 1 {
             return false;
         }
-        if 60 < self.width {
+        if WIDEST < self.width {
             return false;
         }
         let period = self.period;
@@ -240,18 +255,18 @@ impl State {
         ensures { λ r. ⌜ r ≡ coded (start cents) ⌝ }
     {
         let mut s = State {
-            anchor: KeyNumber(60),
-            width: 12,
-            tones: [Position { tone: Tone::Muted }; 60],
-            period: Interval(1_200_000),
+            anchor: KeyNumber(START_KEY),
+            width: START_WIDTH,
+            tones: [Position { tone: Tone::Muted }; PLACES],
+            period: Interval(OCTAVE),
         };
         let mut i: usize = 0;
-        let mut t: i32 = 6_000_000;
-        while i < 12 {
+        let mut t: i32 = START_PITCH;
+        while i < START_TONES {
             let tone = Tone::At(Pitch(t));
             s.tones[i] = Position { tone };
             i += 1;
-            t += 100_000;
+            t += SEMITONE;
         }
         s
     }
