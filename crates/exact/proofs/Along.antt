@@ -13,16 +13,16 @@ use Rattle.integers.proofs.Signed.{signed, one, _⊕_, _⊖_, lin}
 use Rattle.integers.proofs.Difference.{is-self, is-diff, is-mul, equal, add-mulℤ, mul-addℤ, mul-assocℤ, swap-addℤ, one-mulℤ}
 use Rattle.exact.specs.Entry.{Number}
 use Rattle.exact.specs.Book.{Declared, number, start440, startRoot, Name, the440, theRoot, declared, Powers, sameName, once, Named, numbered, numbersOf, written}
-use Rattle.exact.proofs.EntryNear.{pitch, hertzOf}
+use Rattle.exact.proofs.EntryNear.{sizeOf, pitch, hertzOf}
 
 unfoldable pub along : (Number → ℤ) → List Named → Powers → ℤ
 along f [] e = pos 0
 along f (n ∷ ns) e = e (n .name) *ℤ f (n .number) +ℤ along f ns e
 
-pub pitch-along : (ns : List Named) (e : Powers) → pitch (written ns e) ≡ along (λ n. n .size) ns e
+pub pitch-along : (ns : List Named) (e : Powers) → pitch (written ns e) ≡ along sizeOf ns e
 unfolding pitch written along
 pitch-along [] e = refl
-pitch-along (n ∷ ns) e = ap (λ (x : ℤ). e (n .name) *ℤ n .number .size +ℤ x) (pitch-along ns e)
+pitch-along (n ∷ ns) e = ap (λ (x : ℤ). e (n .name) *ℤ sizeOf (n .number) +ℤ x) (pitch-along ns e)
 
 pub hertz-along : (ns : List Named) (e : Powers) → hertzOf (written ns e) ≡ along (λ n. pos (n .hertz)) ns e
 unfolding hertzOf written along

@@ -29,7 +29,7 @@ use Rattle.hexadecimal.specs.Digits.{hexOf, hexes}
 use Rattle.hexadecimal.specs.Numbers.{twos, fourOf}
 use Rattle.answers.specs.Answer.{tonesBytes}
 use Rattle.protocol.specs.Streams.{Lent, deskAfter, madeIn, linesOf}
-use Rattle.exact.specs.Entry.{Factor, Entry, degreeOf, degrees, weight, part, aboveBy, belowBy, above, below, u, v, Within}
+use Rattle.exact.specs.Entry.{Factor, Entry, degreeOf, degrees, weight, part, above, below, u, v, Within}
 use Rattle.exact.specs.Book.{Powers, entries, number, start440, startRoot, once, numbered, numbersOf, written, bookFrom}
 use Rattle.exact.specs.Agreement.{KeyAgrees, both-silent, near}
 use Rattle.exact.specs.Actions.{declaredIn, entryWithin}
@@ -67,7 +67,7 @@ fed-71 = ap (λ (ms : List Made). entryIn (soundOf entries (bookFrom (start entr
 pub book-71 : (map (λ (f : Factor). f .power) entry71 ≡ pos 0 ∷ pos 0 ∷ pos 0 ∷ pos 2 ∷ pos 1 ∷ []) × (degrees entry71 ≡ 1) × (weight entry71 ≡ 3)
     × (u entry71 ≡ 30000 ^ 2 * 4400000) × (v entry71 ≡ 20000 ^ 2 * 10000 * 440)
 unfolding entryWithin once fedBy bookFrom numbersOf numbered written number start440 startRoot degrees degreeOf weight above
-    below aboveBy belowBy part
+    below part
 book-71 = rw fed-71 (refl, refl, refl, refl, refl)
 
 sounding-within : {x : Sound Powers} {y : Sound ℤ} {z : ℤ} → KeyAgrees (declaredIn program) x y → y ≡ sounds z → Within (entryIn x) (z -ℤ pitch440)

@@ -9,13 +9,22 @@ use lib.Pow.{pow-add}
 use Rattle.integers.proofs.Powers.{Under, under-less, under-root, mul-pow, pow-mul, pow-swap}
 use Rattle.integers.specs.Parts.{up, dn}
 use Rattle.integers.proofs.Difference.{Is, is-self, is-add, is-pos, is-scale, is-flip, is-mul}
+use Rattle.cents.specs.Measure.{measure}
 use Rattle.cents.proofs.Near.{Close, close-one, close-inverse, close-same, close-times, close-power, close-lift}
-use Rattle.exact.specs.Entry.{Number, Factor, Entry, degreeOf, degrees, weight, part, aboveBy, belowBy, above, below}
+use Rattle.exact.specs.Entry.{Number, Factor, Entry, degreeOf, degrees, weight, part, above, below}
+
+-- What a number measures, from 440 hertz on where it is in hertz.
+abbrev pub sizeBy : ℕ → Number → ℤ
+sizeBy zero n = measure (n .degree) (n .over) (n .under)
+sizeBy (suc h) n = measure (n .degree) (n .over) (n .under * 440)
+
+unfoldable pub sizeOf : Number → ℤ
+sizeOf n = sizeBy (n .hertz) n
 
 -- The measure of an entry, and its power of hertz: 1 for a tone, 0 for an interval.
 unfoldable pub pitch : Entry → ℤ
 pitch [] = pos 0
-pitch (f ∷ l) = f .power *ℤ f .of .size +ℤ pitch l
+pitch (f ∷ l) = f .power *ℤ sizeOf (f .of) +ℤ pitch l
 
 unfoldable pub hertzOf : Entry → ℤ
 hertzOf [] = pos 0
@@ -25,8 +34,27 @@ hertzOf (f ∷ l) = f .power *ℤ pos (f .of .hertz) +ℤ hertzOf l
 unfoldable pub scaled : Number → ℕ
 scaled n = n .under * 440 ^ (n .hertz * n .degree)
 
+-- The value of an entry as a fraction, with another lower part for each number.
+unfoldable pub aboveBy : (Number → ℕ) → Entry → ℕ
+aboveBy lower [] = 1
+aboveBy lower (f ∷ l) = part (f .power) (f .of .over) (lower (f .of)) ^ degrees l * aboveBy lower l ^ degreeOf (f .power) (f .of .degree)
+
+unfoldable pub belowBy : (Number → ℕ) → Entry → ℕ
+belowBy lower [] = 1
+belowBy lower (f ∷ l) = part (f .power) (lower (f .of)) (f .of .over) ^ degrees l * belowBy lower l ^ degreeOf (f .power) (f .of .degree)
+
+above-by : (l : Entry) → above l ≡ aboveBy (λ n. n .under) l
+unfolding above aboveBy
+above-by [] = refl
+above-by (f ∷ l) = rw (above-by l)
+
+below-by : (l : Entry) → below l ≡ belowBy (λ n. n .under) l
+unfolding below belowBy
+below-by [] = refl
+below-by (f ∷ l) = rw (below-by l)
+
 pub record Good (n : Number) : Type 0 where
-  pub near : Close (n .degree) (n .counts) (up (n .size)) (dn (n .size)) (n .over) (scaled n)
+  pub near : Close (n .degree) (n .counts) (up (sizeOf n)) (dn (sizeOf n)) (n .over) (scaled n)
   pub over-pos : zero < n .over
   pub scaled-pos : zero < scaled n
 
@@ -37,21 +65,21 @@ pub data AllGood : Entry → Type 0 where
 -- ---- the product theorem, for values divided by 440 hertz
 
 factor : (e : ℤ) (n : Number) → Good n
-    → Close (degreeOf e (n .degree)) (natAbs e * n .counts) (up (e *ℤ n .size)) (dn (e *ℤ n .size)) (part e (n .over) (scaled n)) (part e (scaled n) (n .over))
+    → Close (degreeOf e (n .degree)) (natAbs e * n .counts) (up (e *ℤ sizeOf n)) (dn (e *ℤ sizeOf n)) (part e (n .over) (scaled n)) (part e (scaled n) (n .over))
 unfolding degreeOf part
 factor (pos zero) n h =
-    rw (pow-zero (n .over), pow-zero (scaled n), zero-mul (n .counts)) (close-same _ _ (omega (arith, is-scale 0 (n .size) (is-self (n .size)) .eq)) (close-one 1))
+    rw (pow-zero (n .over), pow-zero (scaled n), zero-mul (n .counts)) (close-same _ _ (omega (arith, is-scale 0 (sizeOf n) (is-self (sizeOf n)) .eq)) (close-one 1))
 factor (pos (suc k)) n h =
-    close-same _ _ (omega (arith, is-scale (suc k) (n .size) (is-self (n .size)) .eq)) (close-power (suc k) (h .near))
+    close-same _ _ (omega (arith, is-scale (suc k) (sizeOf n) (is-self (sizeOf n)) .eq)) (close-power (suc k) (h .near))
 factor (negsuc k) n h =
-    close-same _ _ (omega (arith, is-flip k (n .size) (is-self (n .size)) .eq)) (close-inverse (close-power (suc k) (h .near)))
+    close-same _ _ (omega (arith, is-flip k (sizeOf n) (is-self (sizeOf n)) .eq)) (close-inverse (close-power (suc k) (h .near)))
 
 product : (l : Entry) → AllGood l → Close (degrees l) (weight l) (up (pitch l)) (dn (pitch l)) (aboveBy scaled l) (belowBy scaled l)
 unfolding degrees weight pitch aboveBy belowBy
 product l none = close-one 1
 product l' (also {f} {l} g h) =
     let e : ℤ = f .power in
-    let x : ℤ = e *ℤ f .of .size in
+    let x : ℤ = e *ℤ sizeOf (f .of) in
     let A : ℕ = degreeOf e (f .of .degree) in
     let head = close-lift (degrees l) (factor e (f .of) g) in
     let tail : Close (A * degrees l) (weight l) (up (pitch l)) (dn (pitch l)) (aboveBy scaled l ^ A) (belowBy scaled l ^ A) = rw (mul-comm A (degrees l)) (close-lift A (product l h)) in
@@ -175,7 +203,6 @@ positive l' (also {f} {l} g h) =
 -- The exact frequency, divided by 440 hertz and raised to `degrees l`, is above l / (below l · 440^degrees l).
 pub entry-near : (l : Entry) → AllGood l → hertzOf l ≡ pos 1
     → Close (degrees l) (weight l) (up (pitch l)) (dn (pitch l)) (above l) (below l * 440 ^ degrees l)
-unfolding above below
 entry-near l h e =
     let D : ℕ = degrees l in
     let H : ℕ = 440 ^ (D * hm l) in
@@ -191,4 +218,4 @@ entry-near l h e =
     let c : aS * (bL * 440 ^ D) ≡ aL * bS =
     eq-of-mul-eq-mul-right H (one-le-pow (D * hm l) 440 (omega arith)) (aS * (bL * 440 ^ D)) (aL * bS) (omega arith) in
     let o = positive l h in
-    near-ratio aL (bL * 440 ^ D) (o .0) (o .1) c (product l h)
+    rw (above-by l, below-by l) (near-ratio aL (bL * 440 ^ D) (o .0) (o .1) c (product l h))

@@ -1,6 +1,7 @@
 -- Theorems on the exact book, in the order in which they build on each other.
 pub mod Ranges
 pub mod EntryNear
+pub mod Sizes
 pub mod Follows
 pub mod Along
 pub mod Measured

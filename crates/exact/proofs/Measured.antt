@@ -10,7 +10,8 @@ use Rattle.cents.specs.Measure as measures
 use Rattle.tuning.specs.Desk.{cents}
 use Rattle.exact.specs.Entry.{Number}
 use Rattle.exact.specs.Book.{Declared, frequency, ratio, root, number, start440, startRoot, the440, theRoot, declared, Powers, once, entries, numbersOf, written}
-use Rattle.exact.proofs.EntryNear.{pitch, hertzOf}
+use Rattle.exact.proofs.EntryNear.{sizeOf, pitch, hertzOf}
+use Rattle.exact.proofs.Sizes.{size-440, size-root}
 use Rattle.exact.proofs.Along.{along, pitch-along, hertz-along, along-plus, along-minus, along-times, along-none, once-440, once-root, once-declared}
 use Rattle.exact.proofs.Follows.{Follows}
 
@@ -28,7 +29,7 @@ MeasuredStep p = Measured p 0 0
 -- ---- the same with sums along the numbers
 
 record Sums (p : List (Option Declared)) (base : ℕ) (hertz : ℕ) (e : Powers) (z : ℤ) : Type 0 where
-  value : z ≡ pos base +ℤ along (λ n. n .size) (numbersOf p) e
+  value : z ≡ pos base +ℤ along sizeOf (numbersOf p) e
   power : along (λ n. pos (n .hertz)) (numbersOf p) e ≡ pos hertz
 
 module _ (p : List (Option Declared)) where
@@ -45,14 +46,14 @@ module _ (p : List (Option Declared)) where
   plus {b} {h} {d} {e} {y} {z} j k =
       let s = sums j in
       let t = sums k in
-      let x : ℤ = along (λ n. n .size) (numbersOf p) d in
-      let w : ℤ = along (λ n. n .size) (numbersOf p) e in
+      let x : ℤ = along sizeOf (numbersOf p) d in
+      let w : ℤ = along sizeOf (numbersOf p) e in
       let sv : y ≡ pos b +ℤ x = s .value in
       let tv : z ≡ pos 0 +ℤ w = t .value in
       let g : y +ℤ z ≡ pos b +ℤ (x +ℤ w) =
       ap₂ (λ (u v : ℤ). u +ℤ v) sv tv ∙ omega (signed, lin (one (pos b) ⊕ one x ⊕ (one (pos 0) ⊕ one w)), lin (one (pos b) ⊕ (one x ⊕ one w))) in
       measured (record {
-        value = g ∙ ap (λ (u : ℤ). pos b +ℤ u) (sym (along-plus (λ n. n .size) (numbersOf p) d e));
+        value = g ∙ ap (λ (u : ℤ). pos b +ℤ u) (sym (along-plus sizeOf (numbersOf p) d e));
         power = along-plus (λ n. pos (n .hertz)) (numbersOf p) d e ∙ ap₂ (λ (u v : ℤ). u +ℤ v) (s .power) (t .power) ∙ +ℤ-idr (pos h);
       })
 
@@ -61,14 +62,14 @@ module _ (p : List (Option Declared)) where
   minus {b} {h} {d} {e} {y} {z} j k =
       let s = sums j in
       let t = sums k in
-      let x : ℤ = along (λ n. n .size) (numbersOf p) d in
-      let w : ℤ = along (λ n. n .size) (numbersOf p) e in
+      let x : ℤ = along sizeOf (numbersOf p) d in
+      let w : ℤ = along sizeOf (numbersOf p) e in
       let sv : y ≡ pos b +ℤ x = s .value in
       let tv : z ≡ pos b +ℤ w = t .value in
       let g : z -ℤ y ≡ pos 0 +ℤ (w -ℤ x) =
       ap₂ (λ (u v : ℤ). u -ℤ v) tv sv ∙ omega (signed, lin (one (pos b) ⊕ one w ⊖ (one (pos b) ⊕ one x)), lin (one (pos 0) ⊕ (one w ⊖ one x))) in
       measured (record {
-        value = g ∙ ap (λ (u : ℤ). pos 0 +ℤ u) (sym (along-minus (λ n. n .size) (numbersOf p) e d));
+        value = g ∙ ap (λ (u : ℤ). pos 0 +ℤ u) (sym (along-minus sizeOf (numbersOf p) e d));
         power = along-minus (λ n. pos (n .hertz)) (numbersOf p) e d ∙ ap₂ (λ (u v : ℤ). u -ℤ v) (t .power) (s .power) ∙ self h;
       })
     where
@@ -81,39 +82,39 @@ module _ (p : List (Option Declared)) where
   pub many : (k : ℤ) {e : Powers} {z : ℤ} → Measured p 0 0 e z → Measured p 0 0 (λ n. k *ℤ e n) (k *ℤ z)
   many k {e} {z} j =
       let s = sums j in
-      let x : ℤ = along (λ n. n .size) (numbersOf p) e in
+      let x : ℤ = along sizeOf (numbersOf p) e in
       let sv : z ≡ x = s .value ∙ zero-plus x in
       measured (record {
-        value = ap (λ (u : ℤ). k *ℤ u) sv ∙ sym (along-times (λ n. n .size) (numbersOf p) k e) ∙ sym (zero-plus _);
+        value = ap (λ (u : ℤ). k *ℤ u) sv ∙ sym (along-times sizeOf (numbersOf p) k e) ∙ sym (zero-plus _);
         power = along-times (λ n. pos (n .hertz)) (numbersOf p) k e ∙ ap (λ (u : ℤ). k *ℤ u) (s .power) ∙ *ℤ-zero k;
       })
 
   -- a number that stands alone
-  single : (b h : ℕ) (e : Powers) (x : Number) → ((f : Number → ℤ) → along f (numbersOf p) e ≡ f x) → x .hertz ≡ h → Measured p b h e (pos b +ℤ x .size)
-  single b h e x k q = measured (record { value = ap (λ (u : ℤ). pos b +ℤ u) (sym (k (λ n. n .size))); power = k (λ n. pos (n .hertz)) ∙ ap pos q })
+  single : (b h : ℕ) (e : Powers) (x : Number) → ((f : Number → ℤ) → along f (numbersOf p) e ≡ f x) → x .hertz ≡ h → Measured p b h e (pos b +ℤ sizeOf x)
+  single b h e x k q = measured (record { value = ap (λ (u : ℤ). pos b +ℤ u) (sym (k sizeOf)); power = k (λ n. pos (n .hertz)) ∙ ap pos q })
 
   pub nothing : Measured p 0 0 (λ n. pos 0) (pos 0)
-  nothing = measured (record { value = sym (zero-plus _ ∙ along-none (λ n. n .size) (numbersOf p)); power = along-none (λ n. pos (n .hertz)) (numbersOf p) })
+  nothing = measured (record { value = sym (zero-plus _ ∙ along-none sizeOf (numbersOf p)); power = along-none (λ n. pos (n .hertz)) (numbersOf p) })
 
   pub own-ratio : (i a b : ℕ) → getD p i none ≡ some (ratio a b) → MeasuredStep p (once (declared i)) (measures.ratio a b)
-  unfolding number
+  unfolding number sizeOf
   own-ratio i a b h = rw (← (zero-plus (measures.ratio a b))) (single 0 0 (once (declared i)) (number (ratio a b)) (λ f. once-declared f p i (ratio a b) h) refl)
 
   pub own-root : (i a b : ℕ) → getD p i none ≡ some (root a b) → MeasuredStep p (once (declared i)) (measures.root a b)
-  unfolding number
+  unfolding number sizeOf
   own-root i a b h = rw (← (zero-plus (measures.root a b))) (single 0 0 (once (declared i)) (number (root a b)) (λ f. once-declared f p i (root a b) h) refl)
 
   pub own-frequency : (j f : ℕ) → getD p j none ≡ some (frequency f) → MeasuredTone p (once (declared j)) (measures.frequency f)
-  unfolding number
+  unfolding number sizeOf
   own-frequency j f h = single 6900000 1 (once (declared j)) (number (frequency f)) (λ g. once-declared g p j (frequency f) h) refl
 
   pub own-440 : MeasuredTone p (once the440) (pos 6900000)
   unfolding start440
-  own-440 = single 6900000 1 (once the440) start440 (λ f. once-440 f p) refl
+  own-440 = rw (size-440) at (single 6900000 1 (once the440) start440 (λ f. once-440 f p) refl)
 
   pub own-start-root : MeasuredStep p (once theRoot) (pos 100000)
   unfolding startRoot
-  own-start-root = single 0 0 (once theRoot) startRoot (λ f. once-root f p) refl
+  own-start-root = rw (size-root) at (single 0 0 (once theRoot) startRoot (λ f. once-root f p) refl)
 
   abbrev pub measure-follows : Follows entries cents
   measure-follows = record {

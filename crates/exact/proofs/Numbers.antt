@@ -9,7 +9,8 @@ use Rattle.integers.proofs.Powers.{Under, one-pow}
 use Rattle.cents.proofs.Near.{Close, measure-close}
 use Rattle.exact.specs.Book.{Declared, frequency, ratio, root, number, start440, startRoot, Powers, numbered, numbersOf, written}
 use Rattle.exact.proofs.Ranges.{InRange, AllInRange, no-more, number-and, passing}
-use Rattle.exact.proofs.EntryNear.{scaled, Good, AllGood, none as no-factor, also}
+use Rattle.exact.proofs.Sizes.{size-440, size-root}
+use Rattle.exact.proofs.EntryNear.{sizeOf, scaled, Good, AllGood, none as no-factor, also}
 
 -- a bare ratio is divided by nothing
 bare : (q A : ℕ) → q * 440 ^ (0 * A) ≡ q
@@ -18,7 +19,7 @@ bare q A =
     rw e (mul-one q)
 
 pub number-good : (d : Declared) → InRange d → Good (number d)
-unfolding number scaled
+unfolding number scaled sizeOf
 number-good (frequency f) h =
     record { near = measure-close 1 f 4400000 (omega arith) (h .least) (h .most) (omega arith) (omega arith); over-pos = h .least; scaled-pos = omega arith }
 number-good (ratio p q) h =
@@ -43,8 +44,8 @@ pub start-good : Good start440 × Good startRoot
 unfolding start440 startRoot scaled
 start-good =
     let r = exact-root 1200000 12 100000 refl in (
-      record { near = self 1 440; over-pos = omega arith; scaled-pos = omega arith },
-      record { near = record { low = r .0; high = r .1 }; over-pos = omega arith; scaled-pos = omega arith },
+      record { near = rw size-440 (self 1 440); over-pos = omega arith; scaled-pos = omega arith },
+      record { near = rw size-root (record { low = r .0; high = r .1 }); over-pos = omega arith; scaled-pos = omega arith },
     )
 
 numbered-good : (i : ℕ) (e : Powers) {l : List (Option Declared)} → AllInRange l → AllGood (written (numbered i l) e)

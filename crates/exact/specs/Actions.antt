@@ -8,10 +8,9 @@ use lib.ListN.{length}
 use Rattle.values.specs.Values.{Term, weight}
 use Rattle.tuning.specs.Scale.{Scale, Sound, muted, sounds}
 use Rattle.tuning.specs.Tuning.{Tuning, PeriodTo, fresh, onward, PositionTo, mute, move, setTo, Action, anchorTo, widthTo, periodTo, tonesTo, system}
-use Rattle.tuning.specs.Desk.{cents}
 use Rattle.program.specs.Program as text
 use Rattle.program.specs.Program.{Declaration, Placed, Program, Position}
-use Rattle.program.specs.Meaning.{declarationAt, valueOf}
+use Rattle.program.specs.Meaning.{declarationAt}
 use Rattle.exact.specs.Book as book
 use Rattle.exact.specs.Book.{Declared, frequency, ratio, root, Powers, declared, once, entries, Made}
 
@@ -47,12 +46,7 @@ module _ (S : Scale) (step : ℕ → S .Step) (tone : ℕ → S .Tone) where
   actionOf (text.tones l) = some (tonesTo (map positionOf l))
   actionOf (text.logic c s os) = none
 
--- ---- the desk's: with the values of the declarations
-
-abbrev pub deskAction : Program → ℕ → Option (Action cents)
-deskAction p k = actionOf cents (valueOf p) (valueOf p) (declarationAt p k)
-
--- ---- the book's: with their entries
+-- ---- the book's: with the entries of the declarations
 
 -- "A declared number is one declaration's frequency, `p : q` or `A ROOT B`."
 abbrev pub numberOf : Declaration → Option Declared

@@ -5,8 +5,7 @@ use mathlib.Core.Option.{Option, some, none}
 use Prim.Native.Nat.{ℕ, suc}
 use lib.IntN.{ℤ, pos, _+ℤ_, _-ℤ_, _*ℤ_}
 use lib.Dec.{eqb}
-use Rattle.cents.specs.Measure as measures
-use Rattle.cents.specs.Measure.{one, hertz440}
+use Rattle.cents.specs.Measure.{one}
 use Rattle.tuning.specs.Scale.{Scale}
 use Rattle.tuning.specs.Tuning.{Tuning, Action, done}
 use Rattle.tuning.specs.Desk.{ifTaken}
@@ -19,16 +18,16 @@ pub data Declared : Type 0 where
   ratio root : ℕ → ℕ → Declared
 
 unfoldable pub number : Declared → Number
-number (frequency f) = record { degree = 1; over = f; under = one; hertz = 1; size = measures.measure 1 f hertz440; counts = 1 }
-number (ratio p q) = record { degree = 1; over = p; under = q; hertz = 0; size = measures.ratio p q; counts = 1 }
-number (root A B) = record { degree = A; over = B; under = one; hertz = 0; size = measures.root A B; counts = 1 }
+number (frequency f) = record { degree = 1; over = f; under = one; hertz = 1; counts = 1 }
+number (ratio p q) = record { degree = 1; over = p; under = q; hertz = 0; counts = 1 }
+number (root A B) = record { degree = A; over = B; under = one; hertz = 0; counts = 1 }
 
 -- "the start's 440" and "the twelfth root of 2", which are not declared
 unfoldable pub start440 : Number
-start440 = record { degree = 1; over = 440; under = 1; hertz = 1; size = pos 0; counts = 0 }
+start440 = record { degree = 1; over = 440; under = 1; hertz = 1; counts = 0 }
 
 unfoldable pub startRoot : Number
-startRoot = record { degree = 12; over = 2; under = 1; hertz = 0; size = pos 100000; counts = 0 }
+startRoot = record { degree = 12; over = 2; under = 1; hertz = 0; counts = 0 }
 
 -- ---- "An entry gives a whole power to each of these, to the start's 440 and to the twelfth root of 2"
 

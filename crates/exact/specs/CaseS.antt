@@ -2,9 +2,11 @@
 use mathlib.Core.Path.{_≡_}
 use mathlib.Core.List.{List, [], _∷_, map}
 use Prim.Native.Nat.{ℕ}
+use Prim.Native.String.{String}
 use Rattle.ascii.specs.Ascii.{bytes}
 use Rattle.tuning.specs.Scale.{Sound, muted, sounds}
 use Rattle.tuning.specs.Tuning.{soundOf}
+use Rattle.frames.specs.Cases.{caseLines}
 use Rattle.answers.specs.Answer.{smallestBuffer}
 use Rattle.program.specs.CaseS.{text, program}
 use Rattle.program.specs.Text.{accepted, readText}
@@ -16,12 +18,12 @@ use Rattle.exact.specs.Book.{Powers, entries, numbersOf, written}
 use Rattle.exact.specs.Actions.{declaredIn}
 use Rattle.exact.specs.Claim.{bookAfter}
 
--- a line, with the smallest buffer that serves for its answer
-abbrev pub lent : List ℕ → Lent
-lent line = record { frame = line; room = smallestBuffer }
+-- the column "In", each line with the smallest buffer that serves for its answer
+abbrev pub lent : String → Lent
+lent line = record { frame = bytes line; room = smallestBuffer }
 
 abbrev pub frames : List Lent
-frames = map lent (bytes "01014D" ∷ bytes "010245" ∷ bytes "010155" ∷ bytes "020155" ∷ bytes "020247" ∷ bytes "010158" ∷ bytes "0201" ∷ [])
+frames = map lent caseLines
 
 -- the column "Out", each line with its line feed
 abbrev pub lines : List (List ℕ)

@@ -4,14 +4,13 @@ use Prim.Native.Nat.{ℕ, zero, suc, _+_, _-_, _*_, _^_}
 use lib.IntN.{ℤ, pos, negsuc, natAbs, _+ℤ_, _*ℤ_}
 use Rattle.cents.specs.Distance.{Compared, Sharply}
 
--- A number: the degree-th root of over / under, in hertz where `hertz` is 1, and a bare ratio where it is 0. It measures `size`, from 440 hertz on.
--- `counts` is 1 for a declared number, and 0 for the start's own.
+-- A number: the degree-th root of over / under, in hertz where `hertz` is 1, and a bare ratio where it is 0. `counts` is 1 for a declared number, and 0
+-- for the start's own.
 pub record Number : Type 0 where
   pub degree : ℕ
   pub over : ℕ
   pub under : ℕ
   pub hertz : ℕ
-  pub size : ℤ
   pub counts : ℕ
 
 pub record Factor : Type 0 where
@@ -41,21 +40,14 @@ unfoldable pub part : ℤ → ℕ → ℕ → ℕ
 part (pos k) p q = p ^ k
 part (negsuc k) p q = q ^ suc k
 
--- The exact value to the power `degrees l`, as a fraction: of x^e·r, with x^A and r^D whole fractions, the power A·D is ((x^A)^e)^D·(r^D)^A.
--- `u` gives each number's lower part.
-unfoldable pub aboveBy : (Number → ℕ) → Entry → ℕ
-aboveBy u [] = 1
-aboveBy u (f ∷ l) = part (f .power) (f .of .over) (u (f .of)) ^ degrees l * aboveBy u l ^ degreeOf (f .power) (f .of .degree)
-
-unfoldable pub belowBy : (Number → ℕ) → Entry → ℕ
-belowBy u [] = 1
-belowBy u (f ∷ l) = part (f .power) (u (f .of)) (f .of .over) ^ degrees l * belowBy u l ^ degreeOf (f .power) (f .of .degree)
-
+-- the exact value to the power `degrees l`, as a fraction: of x^e·r, with x^A and r^D whole fractions, the power A·D is ((x^A)^e)^D·(r^D)^A
 unfoldable pub above : Entry → ℕ
-above l = aboveBy (λ n. n .under) l
+above [] = 1
+above (f ∷ l) = part (f .power) (f .of .over) (f .of .under) ^ degrees l * above l ^ degreeOf (f .power) (f .of .degree)
 
 unfoldable pub below : Entry → ℕ
-below l = belowBy (λ n. n .under) l
+below [] = 1
+below (f ∷ l) = part (f .power) (f .of .under) (f .of .over) ^ degrees l * below l ^ degreeOf (f .power) (f .of .degree)
 
 -- "divide a key's exact frequency by 440 and raise that to N ..; this is a fraction u/v"
 abbrev pub u : Entry → ℕ
