@@ -4,13 +4,21 @@ use cents::KeyNumber;
 use cents::Pitch;
 use hexadecimal::bits_of;
 use tables::CHANGES;
+use tables::CHANGES_AT;
+use tables::CODES;
 use tables::COUNTS;
 use tables::Counts;
+use tables::KINDS_AT;
+use tables::NUMBERS;
+use tables::ORDER_WIDTH;
 use tables::ORDERS;
+use tables::ORDERS_AT;
 use tables::ROW_WIDTH;
 use tables::ROWS;
 use tables::Row;
+use tables::SOUNDING_AT;
 use tables::TONES;
+use tables::TONES_AT;
 use tables::encode;
 use tuning::Amount;
 use tuning::Operator;
@@ -18,6 +26,9 @@ use tuning::PeriodChange;
 use tuning::Retuning;
 use tuning::Tone;
 use tuning::ToneChange;
+ghost use mathlib.Core.Path.{_≡_};
+ghost use Prim.Native.Nat.{_≤_};
+ghost use lib.ListN.{length};
 
 pub const ROW_NUMBERS: usize = ROW_WIDTH * ROWS;
 
@@ -59,7 +70,7 @@ const FIFTH: i32 = 701_955;
 
 const A: i32 = 6_900_000;
 
-// The tables, in the order in which they are lent.
+// The tables that the two slices hold.
 pub enum Table {
     Rows,
     Sounding,
@@ -71,52 +82,22 @@ pub enum Table {
     Counts,
 }
 
-pub const TABLES: usize = 8;
+pub const SLICES: usize = 2;
 
-const FULL_SIZES: [usize; TABLES] = [
-    ROW_NUMBERS,
-    TONES,
-    TONES,
-    CHANGES,
-    CHANGES,
-    ORDERS,
-    ORDERS,
-    COUNTS,
-];
+const FULL_SIZES: [usize; SLICES] = [NUMBERS, CODES];
 
-pub const TOO_SHORT: [usize; TABLES] = [
-    ROW_NUMBERS - 1,
-    TONES - 1,
-    TONES - 1,
-    CHANGES - 1,
-    CHANGES - 1,
-    ORDERS - 1,
-    ORDERS - 1,
-    COUNTS - 1,
-];
+pub const TOO_SHORT: [usize; SLICES] = [NUMBERS - 1, CODES - 1];
 
-pub const TOO_LONG: [usize; TABLES] = [
-    ROW_NUMBERS + 1,
-    TONES + 1,
-    TONES + 1,
-    CHANGES + 1,
-    CHANGES + 1,
-    ORDERS + 1,
-    ORDERS + 1,
-    COUNTS + 1,
-];
+pub const TOO_LONG: [usize; SLICES] = [NUMBERS + 1, CODES + 1];
 
-// Each table has a place more than its full size, so that it can be lent too long: `sizes` says how much of each is lent.
+// A place past both slices.
+const NOWHERE: usize = 20_000;
+
+// Each slice has a place more than its full size, so that it can be lent too long: `sizes` says how much of each is lent.
 pub struct Lent {
-    pub rows: [i32; ROW_NUMBERS + 1],
-    pub sounding: [u8; TONES + 1],
-    pub tones: [i32; TONES + 1],
-    pub kinds: [u8; CHANGES + 1],
-    pub changes: [i32; CHANGES + 1],
-    pub letters: [u8; ORDERS + 1],
-    pub calls: [u16; ORDERS + 1],
-    pub counts: [u32; COUNTS + 1],
-    pub sizes: [usize; TABLES],
+    pub numbers: [i32; NUMBERS + 1],
+    pub codes: [u16; CODES + 1],
+    pub sizes: [usize; SLICES],
 }
 
 // An interval, a tone, and the two tone systems.
@@ -184,7 +165,7 @@ fn store_lists(rows: &mut [i32]) {
     encode::store_row(rows, LOGIC, logic);
 }
 
-fn store_tones(sounding: &mut [u8], tones: &mut [i32]) {
+fn store_tones(sounding: &mut [u16], tones: &mut [i32]) {
     let mut i: usize = 0;
     while i < MUTED {
         encode::store_tone(sounding, tones, i, Tone::At(Pitch(A)));
@@ -192,7 +173,7 @@ fn store_tones(sounding: &mut [u8], tones: &mut [i32]) {
     }
 }
 
-fn store_changes(kinds: &mut [u8], changes: &mut [i32]) {
+fn store_changes(kinds: &mut [u16], changes: &mut [i32]) {
     encode::store_change(kinds, changes, 0, ToneChange::Set(Pitch(A)));
     let mut i: usize = 1;
     while i < MUTED {
@@ -201,129 +182,123 @@ fn store_changes(kinds: &mut [u8], changes: &mut [i32]) {
     }
 }
 
-fn store_orders(letters: &mut [u8], calls: &mut [u16]) {
-    encode::store_order(letters, calls, 0, b'U', ANCHOR as u16);
-    encode::store_order(letters, calls, 1, b'W', WIDTH as u16);
+fn store_orders(orders: &mut [u16]) {
+    encode::store_order(orders, 0, b'U', ANCHOR as u16);
+    encode::store_order(orders, 1, b'W', WIDTH as u16);
 }
 
-fn used_counts() -> [u32; COUNTS + 1] {
-    let mut counts = [0u32; COUNTS + 1];
+fn store_used(counts: &mut [u16])
+    requires { ⌜ length (now counts) ≡ 4 ⌝ }
+{
     let used = Counts {
         rows: USED_ROWS as u32,
         tones: POSITIONS as u32,
         changes: POSITIONS as u32,
         orders: USED_ORDERS as u32,
     };
-    encode::store_counts(&mut counts[..COUNTS], used);
-    counts
+    encode::store_counts(counts, used);
+}
+
+// Each lends its tables' sections.
+fn lend_tones(numbers: &mut [i32], codes: &mut [u16])
+    requires { ⌜ (length (now numbers) ≡ 13_121) × (length (now codes) ≡ 10_629) ⌝ }
+{
+    let sounding = &mut codes[SOUNDING_AT..KINDS_AT];
+    store_tones(sounding, &mut numbers[TONES_AT..CHANGES_AT]);
+}
+
+fn lend_changes(numbers: &mut [i32], codes: &mut [u16])
+    requires { ⌜ (length (now numbers) ≡ 13_121) × (length (now codes) ≡ 10_629) ⌝ }
+{
+    let kinds = &mut codes[KINDS_AT..ORDERS_AT];
+    store_changes(kinds, &mut numbers[CHANGES_AT..NUMBERS]);
+}
+
+fn lend_orders(codes: &mut [u16])
+    requires { ⌜ length (now codes) ≡ 10_629 ⌝ }
+{
+    store_orders(&mut codes[ORDERS_AT..CODES]);
+}
+
+fn lend_counts(codes: &mut [u16])
+    requires { ⌜ length (now codes) ≡ 10_629 ⌝ }
+{
+    store_used(&mut codes[0..SOUNDING_AT]);
+}
+
+// Where number `at` of a table stands, whose section begins at `base`.
+fn place_in(base: usize, size: usize, at: usize) -> usize
+    requires { ⌜ (base ≤ 20_000) × (size ≤ 20_000) ⌝ }
+{
+    if at < size {
+        return base + at;
+    }
+    NOWHERE
+}
+
+// Where code k of order `at` stands.
+fn place_of_order(k: usize, at: usize) -> usize
+    requires { ⌜ k ≤ 1 ⌝ }
+{
+    if at < ORDERS {
+        return ORDERS_AT + ORDER_WIDTH * at + k;
+    }
+    NOWHERE
 }
 
 impl Lent {
     // Valid tables, of full size.
     pub fn sample() -> Lent {
-        let mut rows = [0i32; ROW_NUMBERS + 1];
-        let mut sounding = [0u8; TONES + 1];
-        let mut tones = [0i32; TONES + 1];
-        let mut kinds = [0u8; CHANGES + 1];
-        let mut changes = [0i32; CHANGES + 1];
-        let mut letters = [0u8; ORDERS + 1];
-        let mut calls = [0u16; ORDERS + 1];
-        store_scales(&mut rows);
-        store_retunings(&mut rows);
-        store_lists(&mut rows);
-        store_tones(&mut sounding, &mut tones);
-        store_changes(&mut kinds, &mut changes);
-        store_orders(&mut letters, &mut calls);
+        let mut numbers = [0i32; NUMBERS + 1];
+        let mut codes = [0u16; CODES + 1];
+        store_scales(&mut numbers);
+        store_retunings(&mut numbers);
+        store_lists(&mut numbers);
+        lend_tones(&mut numbers, &mut codes);
+        lend_changes(&mut numbers, &mut codes);
+        lend_orders(&mut codes);
+        lend_counts(&mut codes);
         Lent {
-            rows,
-            sounding,
-            tones,
-            kinds,
-            changes,
-            letters,
-            calls,
-            counts: used_counts(),
+            numbers,
+            codes,
             sizes: FULL_SIZES,
         }
     }
 
-    fn with_row_number(mut self, at: usize, wrong: i32) -> Lent {
-        if at < ROW_NUMBERS {
-            self.rows[at] = wrong;
+    fn with_number_at(mut self, at: usize, wrong: i32) -> Lent {
+        if at < NUMBERS {
+            self.numbers[at] = wrong;
         }
         self
     }
 
-    fn with_sounding(mut self, at: usize, wrong: u8) -> Lent {
-        if at < TONES {
-            self.sounding[at] = wrong;
+    fn with_code_at(mut self, at: usize, wrong: u16) -> Lent {
+        if at < CODES {
+            self.codes[at] = wrong;
         }
         self
     }
 
-    fn with_tone(mut self, at: usize, wrong: i32) -> Lent {
-        if at < TONES {
-            self.tones[at] = wrong;
-        }
-        self
-    }
-
-    fn with_kind(mut self, at: usize, wrong: u8) -> Lent {
-        if at < CHANGES {
-            self.kinds[at] = wrong;
-        }
-        self
-    }
-
-    fn with_change(mut self, at: usize, wrong: i32) -> Lent {
-        if at < CHANGES {
-            self.changes[at] = wrong;
-        }
-        self
-    }
-
-    fn with_letter(mut self, at: usize, wrong: u8) -> Lent {
-        if at < ORDERS {
-            self.letters[at] = wrong;
-        }
-        self
-    }
-
-    fn with_call(mut self, at: usize, wrong: u16) -> Lent {
-        if at < ORDERS {
-            self.calls[at] = wrong;
-        }
-        self
-    }
-
-    fn with_count(mut self, at: usize, wrong: u32) -> Lent {
-        if at < COUNTS {
-            self.counts[at] = wrong;
-        }
-        self
-    }
-
-    // A table of another size.
+    // A slice of another size.
     pub fn with_size(mut self, at: usize, wrong: usize) -> Lent {
-        if at < TABLES {
+        if at < SLICES {
             self.sizes[at] = wrong;
         }
         self
     }
 
-    // One number of a table replaced, by the lowest bits of `wrong` in two's complement where the table has fewer.
+    // One number of a table replaced, a code by the lowest bits of `wrong` in two's complement.
     pub fn with_number(self, table: Table, at: usize, wrong: i32) -> Lent {
-        let bits = bits_of(wrong);
-        let byte = (bits % 0x100) as u8;
+        let code = (bits_of(wrong) % 0x1_0000) as u16;
         match table {
-            Table::Rows => self.with_row_number(at, wrong),
-            Table::Sounding => self.with_sounding(at, byte),
-            Table::Tones => self.with_tone(at, wrong),
-            Table::Kinds => self.with_kind(at, byte),
-            Table::Changes => self.with_change(at, wrong),
-            Table::Letters => self.with_letter(at, byte),
-            Table::Calls => self.with_call(at, (bits % 0x1_0000) as u16),
-            Table::Counts => self.with_count(at, bits),
+            Table::Rows => self.with_number_at(place_in(0, ROW_NUMBERS, at), wrong),
+            Table::Sounding => self.with_code_at(place_in(SOUNDING_AT, TONES, at), code),
+            Table::Tones => self.with_number_at(place_in(TONES_AT, TONES, at), wrong),
+            Table::Kinds => self.with_code_at(place_in(KINDS_AT, CHANGES, at), code),
+            Table::Changes => self.with_number_at(place_in(CHANGES_AT, CHANGES, at), wrong),
+            Table::Letters => self.with_code_at(place_of_order(0, at), code),
+            Table::Calls => self.with_code_at(place_of_order(1, at), code),
+            Table::Counts => self.with_code_at(place_in(0, COUNTS, at), code),
         }
     }
 

@@ -102,5 +102,5 @@ pub fn report_counts() {
         .try_number(Table::Counts, ORDER_COUNT, USED_ORDERS as i32 + 1)
         .try_places(Table::Counts, 0, COUNTS, -1);
     report(b"counts", counts);
-    report(b"tables too short or too long", Tally::new().try_sizes());
+    report(b"slices too short or too long", Tally::new().try_sizes());
 }

@@ -10,7 +10,7 @@
 //   unused places;
 // - changes: the same, and (128 · 60 - 62) · 2 unused places;
 // - orders: 2 · 2 letters; 2 · 4 calls; (512 - 2) · 2 unused places;
-// - counts: 4 too great, 4 too small for what is referred to, 4 the greatest of 32 bits, and a row and an order too many; 8 tables, 2 sizes each;
+// - counts: 4 too great, 4 too small for what is referred to, 4 the greatest of 16 bits, and a row and an order too many; 2 slices, 2 sizes each;
 // - state: 2 anchors, 4 widths, 4 periods, 12 · 2 tones, 60 - 12 tones past the width;
 // - active logic: 9 rows that are no logic, the first one past the count, the greatest number of 32 bits;
 // - buffers of 0 to 511 bytes, which get 19; the 6 beginnings of a frame of 6 digits.

@@ -1,6 +1,6 @@
 // Damages tried, and how many of them were answered as they must be. Each is made in the sample, one number at a time.
 use crate::lent::Lent;
-use crate::lent::TABLES;
+use crate::lent::SLICES;
 use crate::lent::TOO_LONG;
 use crate::lent::TOO_SHORT;
 use crate::lent::Table;
@@ -91,15 +91,15 @@ impl Tally {
         tally
     }
 
-    fn try_size(self, table: usize, wrong: usize) -> Tally {
-        self.try_key(Lent::sample().with_size(table, wrong), Desk::start())
+    fn try_size(self, slice: usize, wrong: usize) -> Tally {
+        self.try_key(Lent::sample().with_size(slice, wrong), Desk::start())
     }
 
-    // Each table a number shorter, and a number longer.
+    // Each slice a number shorter, and a number longer.
     pub fn try_sizes(self) -> Tally {
         let mut tally = self;
         let mut k: usize = 0;
-        while k < TABLES {
+        while k < SLICES {
             tally = tally.try_size(k, TOO_SHORT[k]).try_size(k, TOO_LONG[k]);
             k += 1;
         }

@@ -1,6 +1,6 @@
 // One frame, on lent tables, a desk and a buffer.
 use crate::lent::Lent;
-use crate::lent::TABLES;
+use crate::lent::SLICES;
 use answers::SMALLEST_BUFFER;
 use protocol::Active;
 use protocol::Answered;
@@ -98,38 +98,20 @@ fn least(a: usize, b: usize) -> usize
     if a < b { a } else { b }
 }
 
-// Lends as much of each table as `sizes` says. (The fields of one struct are lent at one lifetime.)
+// Lends as much of each slice as `sizes` says. (The fields of one struct are lent at one lifetime.)
 fn ask<'a>(
-    rows: &'a [i32],
-    sounding: &'a [u8],
-    tones: &'a [i32],
-    kinds: &'a [u8],
-    changes: &'a [i32],
-    letters: &'a [u8],
-    calls: &'a [u16],
-    counts: &'a [u32],
-    sizes: [usize; TABLES],
+    numbers: &'a [i32],
+    codes: &'a [u16],
+    sizes: [usize; SLICES],
     desk: Desk,
     frame: &[u8],
     buffer: &mut [u8],
 ) -> Answered {
-    let rows_end = least(sizes[0], rows.len());
-    let sounding_end = least(sizes[1], sounding.len());
-    let tones_end = least(sizes[2], tones.len());
-    let kinds_end = least(sizes[3], kinds.len());
-    let changes_end = least(sizes[4], changes.len());
-    let letters_end = least(sizes[5], letters.len());
-    let calls_end = least(sizes[6], calls.len());
-    let counts_end = least(sizes[7], counts.len());
+    let numbers_end = least(sizes[0], numbers.len());
+    let codes_end = least(sizes[1], codes.len());
     protocol::answer(
-        &rows[..rows_end],
-        &sounding[..sounding_end],
-        &tones[..tones_end],
-        &kinds[..kinds_end],
-        &changes[..changes_end],
-        &letters[..letters_end],
-        &calls[..calls_end],
-        &counts[..counts_end],
+        &numbers[..numbers_end],
+        &codes[..codes_end],
         desk,
         frame,
         buffer,
@@ -142,20 +124,7 @@ pub fn send_frame(t: Lent, desk: Desk, frame: &[u8], room: usize) -> Outcome {
     fill(&mut buffer);
     let end = least(room, SMALLEST_BUFFER);
     let sizes = t.sizes;
-    let answered = ask(
-        &t.rows,
-        &t.sounding,
-        &t.tones,
-        &t.kinds,
-        &t.changes,
-        &t.letters,
-        &t.calls,
-        &t.counts,
-        sizes,
-        desk,
-        frame,
-        &mut buffer[..end],
-    );
+    let answered = ask(&t.numbers, &t.codes, sizes, desk, frame, &mut buffer[..end]);
     let after = answered.desk;
     Outcome {
         number: answered.number,

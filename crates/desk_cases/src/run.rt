@@ -7,12 +7,8 @@ use mutabor::read_text;
 use protocol::Desk;
 use protocol::answer;
 use status::DONE;
-use tables::CHANGES;
-use tables::COUNTS;
-use tables::ORDERS;
-use tables::ROW_WIDTH;
-use tables::ROWS;
-use tables::TONES;
+use tables::CODES;
+use tables::NUMBERS;
 ghost use Prim.Native.Nat.{_≤_};
 ghost use lib.ListN.{length};
 
@@ -31,32 +27,9 @@ fn send(buffer: &[u8], n: usize) {
 }
 
 // Answers a frame, and hands back the desk after it.
-fn answer_frame(
-    rows: &[i32],
-    sounding: &[u8],
-    tones: &[i32],
-    kinds: &[u8],
-    changes: &[i32],
-    letters: &[u8],
-    calls: &[u16],
-    counts: &[u32],
-    desk: Desk,
-    frame: &[u8],
-) -> Desk {
+fn answer_frame(numbers: &[i32], codes: &[u16], desk: Desk, frame: &[u8]) -> Desk {
     let mut buffer = [0u8; SMALLEST_BUFFER];
-    let answered = answer(
-        rows,
-        sounding,
-        tones,
-        kinds,
-        changes,
-        letters,
-        calls,
-        counts,
-        desk,
-        frame,
-        &mut buffer,
-    );
+    let answered = answer(numbers, codes, desk, frame, &mut buffer);
     send(&buffer, answered.length);
     answered.desk
 }
@@ -76,33 +49,12 @@ fn find_end(frames: &[u8], from: usize) -> usize
     end
 }
 
-fn answer_frames(
-    frames: &[u8],
-    rows: &[i32],
-    sounding: &[u8],
-    tones: &[i32],
-    kinds: &[u8],
-    changes: &[i32],
-    letters: &[u8],
-    calls: &[u16],
-    counts: &[u32],
-) {
+fn answer_frames(frames: &[u8], numbers: &[i32], codes: &[u16]) {
     let mut desk = Desk::start();
     let mut from: usize = 0;
     while from < frames.len() {
         let end = find_end(frames, from);
-        desk = answer_frame(
-            rows,
-            sounding,
-            tones,
-            kinds,
-            changes,
-            letters,
-            calls,
-            counts,
-            desk,
-            &frames[from..end],
-        );
+        desk = answer_frame(numbers, codes, desk, &frames[from..end]);
         from = end + 1;
     }
 }
@@ -117,38 +69,12 @@ fn write_refusal(reading: TextReading) {
 pub fn run_case(name: &[u8], text: &[u8], frames: &[u8]) {
     io::write_all(STDOUT_FILENO, name);
     io::write_all(STDOUT_FILENO, b"\n");
-    let mut rows = [0i32; ROW_WIDTH * ROWS];
-    let mut sounding = [0u8; TONES];
-    let mut tones = [0i32; TONES];
-    let mut kinds = [0u8; CHANGES];
-    let mut changes = [0i32; CHANGES];
-    let mut letters = [0u8; ORDERS];
-    let mut calls = [0u16; ORDERS];
-    let mut counts = [0u32; COUNTS];
-    let reading = read_text(
-        text,
-        &mut rows,
-        &mut sounding,
-        &mut tones,
-        &mut kinds,
-        &mut changes,
-        &mut letters,
-        &mut calls,
-        &mut counts,
-    );
+    let mut numbers = [0i32; NUMBERS];
+    let mut codes = [0u16; CODES];
+    let reading = read_text(text, &mut numbers, &mut codes);
     if reading.number != DONE {
         write_refusal(reading);
         return;
     }
-    answer_frames(
-        frames,
-        &rows,
-        &sounding,
-        &tones,
-        &kinds,
-        &changes,
-        &letters,
-        &calls,
-        &counts,
-    );
+    answer_frames(frames, &numbers, &codes);
 }

@@ -10,8 +10,9 @@ use lib.Seq.{sets, append-snoc}
 use Rattle.names.proofs.Lists.{here}
 use Rattle.tables.specs.declared.Counts.{Counts}
 use Rattle.tables.specs.Layout.{Tables, rowWidth, mostRows, mostTones, mostChanges, mostOrders, numbersOf, written, writtenAll, full, soundingOf, pitchOf, changeCode, changeNumber}
-use Rattle.tables.proofs.Lists.{full-next, full-length}
-use Rattle.tables.proofs.Stored.{full-none, written-length, rows-next}
+use Rattle.tables.specs.Values.{CountsFit}
+use Rattle.tables.proofs.Lists.{full-next}
+use Rattle.tables.proofs.Stored.{full-none, rows-next}
 use Rattle.program.specs.Program.{Declaration, Placed, Program}
 use Rattle.program.specs.Meaning.{nothing, declarationAt}
 use Rattle.filling.specs.Tables.{tonesOf, changesOf, ordersOf, Filled, filledFrom, laidOut}
@@ -145,28 +146,6 @@ laid : (f : Filled) {used : Counts} {rows : List ℤ} {lists : Lists} → rows �
     → together rows lists (fourCounts used) ≡ laidOut f
 laid f r l a b c d = rw (r, l, ← a, ← b, ← c, ← d)
 
--- the tables have their full sizes
-pub record Sized (rows : List ℤ) (lists : Lists) : Type 0 where
-  pub all-rows : length rows ≡ rowWidth * mostRows
-  pub all-sounding : length (lists .sounding) ≡ mostTones
-  pub all-tones : length (lists .tones) ≡ mostTones
-  pub all-kinds : length (lists .kinds) ≡ mostChanges
-  pub all-changes : length (lists .changes) ≡ mostChanges
-  pub all-letters : length (lists .letters) ≡ mostOrders
-  pub all-calls : length (lists .calls) ≡ mostOrders
-
-laid-sized : (f : Filled) → Within f → Sized (laidRows f) (laidLists f)
-laid-sized f w =
-    record {
-      all-rows = full-length (pos 0) (rowWidth * mostRows) (writtenAll (f .rows)) (omega (arith, written-length (f .rows), w .rows));
-      all-sounding = full-length 0 mostTones (map soundingOf (f .tones)) (rw (length-map (f .tones) soundingOf) (w .tones));
-      all-tones = full-length (pos 0) mostTones (map pitchOf (f .tones)) (rw (length-map (f .tones) pitchOf) (w .tones));
-      all-kinds = full-length 0 mostChanges (map changeCode (f .changes)) (rw (length-map (f .changes) changeCode) (w .changes));
-      all-changes = full-length (pos 0) mostChanges (map changeNumber (f .changes)) (rw (length-map (f .changes) changeNumber) (w .changes));
-      all-letters = full-length 0 mostOrders (map letterOf (f .orders)) (rw (length-map (f .orders) letterOf) (w .orders));
-      all-calls = full-length 0 mostOrders (map callOf (f .orders)) (rw (length-map (f .orders) callOf) (w .orders));
-    }
-
 within-front : (f g : Filled) → Within (joined f g) → Within f
 within-front f g w =
     record {
@@ -186,10 +165,16 @@ module _ {value : ℕ → ℤ} {p : Program} {d : ℕ} {used : Counts} {rows : L
       ∙ ap laidOut (sym (joined-none value used (h .front)) ∙ e)
 
   module _ (w : Within (filledFrom value 0 0 0 0 p)) where
-    pub filling-sized : Sized rows lists
-    filling-sized =
-        let s = laid-sized (h .front) (within-front (h .front) (after value used (drop d p)) (subst Within (sym (h .whole)) w)) in
-        subst (λ (r : List ℤ). Sized r lists) (sym (h .rows-are)) (subst (λ (l : Lists). Sized (laidRows (h .front)) l) (sym (h .lists-are)) s)
+    -- there are few enough of each
+    pub filling-few : CountsFit used
+    filling-few =
+        let x = within-front (h .front) (after value used (drop d p)) (subst Within (sym (h .whole)) w) in
+        record {
+          rows = omega (arith, x .rows, h .some-rows);
+          tones = omega (arith, x .tones, h .some-tones);
+          changes = omega (arith, x .changes, h .some-changes);
+          orders = omega (arith, x .orders, h .some-orders);
+        }
 
     -- the next one
     module _ (k : d < length p) where

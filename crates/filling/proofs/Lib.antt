@@ -12,3 +12,4 @@ pub mod Terms
 pub mod Totals
 pub mod Writing
 pub mod Written
+pub mod Slices

@@ -8,19 +8,16 @@ use lib.ListN.{length, getD, take}
 use Rattle.grammar.specs.declared.Item.{Item}
 use Rattle.tables.specs.declared.Counts.{Counts}
 use Rattle.tables.specs.Layout.{Tables}
+use Rattle.tables.specs.Values.{CountsFit}
 use Rattle.program.specs.Program.{Declaration, Program, declarationOf, programOf}
 use Rattle.program.specs.Meaning.{declarationAt, valueOf}
 use Rattle.valuation.specs.Inner.{Ready, between}
 use Rattle.valuation.proofs.Ready.{ready-few, ready-fits, ready-body}
 use Rattle.filling.specs.Tables.{filledFrom, laidOut, tablesOf}
-use Rattle.filling.specs.Inner.{Valued, blank, valueIn, FitValue, Writable, Lists, Added}
+use Rattle.filling.specs.Inner.{Valued, blank, valueIn, FitValue, Writable, Lists, listsOf, Added}
 use Rattle.filling.proofs.Fitting.{value-fit, fit-parts, filled-same}
 use Rattle.filling.proofs.Totals.{Within, filled-within}
-use Rattle.filling.proofs.Filling.{together, fourCounts, Filling, filling-none, filling-all, filling-sized, filling-next, Sized, room-rows, room-tones, room-changes, room-orders}
-
--- the tables of tones, changes and orders among all
-abbrev pub listsOf : Tables → Lists
-listsOf t = record { sounding = t .sounding; tones = t .tones; kinds = t .kinds; changes = t .changes; letters = t .letters; calls = t .calls }
+use Rattle.filling.proofs.Filling.{together, fourCounts, Filling, filling-none, filling-all, filling-few, filling-next, room-rows, room-tones, room-changes, room-orders}
 
 -- nothing is written yet
 pub written-none : (value : ℕ → ℤ) (p : Program) {t : Tables} → t ≡ blank → Filling value p 0 (record { rows = 0; tones = 0; changes = 0; orders = 0 }) (t .rows) (listsOf t)
@@ -33,8 +30,8 @@ module _ {is : List Item} {items : List ℕ} {count : ℕ} {starts : List ℕ} {
   within = filled-within (valueIn values) (r .allowed)
 
   module _ {d : ℕ} {used : Counts} {rows : List ℤ} {lists : Lists} (h : Filling (valueIn values) (programOf is) d used rows lists) where
-    pub written-sized : Sized rows lists
-    written-sized = filling-sized h within
+    pub written-few : CountsFit used
+    written-few = filling-few h within
 
     pub written-all : n ≤ d → {counts : List ℕ} → counts ≡ fourCounts used → together rows lists counts ≡ tablesOf (programOf is)
     unfolding tablesOf

@@ -223,3 +223,16 @@ pub record Added (value : ℕ → ℤ) (used : Counts) (d : Declaration) (rows :
   pub count : r ≡ counted value used d
   pub row : rows′ ≡ sets rows (rowWidth * used .rows) (written (numbersOf (rowAfter value used d)))
   pub lists : after ≡ listed value used d before
+
+-- ---- over all tables
+
+-- those of tones, changes and orders
+abbrev pub listsOf : Tables → Lists
+listsOf t = record { sounding = t .sounding; tones = t .tones; kinds = t .kinds; changes = t .changes; letters = t .letters; calls = t .calls }
+
+pub record RowedIn (value : ℕ → ℤ) (used : Counts) (d : Declaration) (before : Tables) (r : Row) (after : Tables) : Type 0 where
+  pub rowed : Rowed value used d (listsOf before) r (listsOf after)
+  pub rows : after .rows ≡ before .rows
+
+abbrev pub AddedIn : (ℕ → ℤ) → Counts → Declaration → Tables → Counts → Tables → Type 0
+AddedIn value used d before r after = Added value used d (before .rows) (listsOf before) r (after .rows) (listsOf after)

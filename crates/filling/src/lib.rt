@@ -5,11 +5,13 @@ mod sums;
 
 use rows::write_declaration;
 use tables::Counts;
+use tables::SOUNDING_AT;
 use tables::encode;
 ghost use mathlib.Core.Path.{_≡_};
 ghost use mathlib.Core.List.{List};
 ghost use Rattle.grammar.specs.declared.Item.{Item};
 ghost use Rattle.names.specs.Inner.{itemsIn};
+ghost use Rattle.tables.specs.Layout.{tablesIn};
 ghost use Rattle.program.specs.Program.{programOf};
 ghost use Rattle.valuation.specs.Inner.{Ready};
 ghost use Rattle.filling.specs.Tables.{tablesOf};
@@ -22,21 +24,15 @@ pub fn write_tables(
     starts: &[u32],
     n: usize,
     values: &[i64],
-    rows: &mut [i32],
-    sounding: &mut [u8],
-    tones: &mut [i32],
-    kinds: &mut [u8],
-    changes: &mut [i32],
-    letters: &mut [u8],
-    calls: &mut [u16],
-    counts: &mut [u32],
+    numbers: &mut [i32],
+    codes: &mut [u16],
 )
     ghost { List Item }
     requires { λ is. ⌜ itemsIn count (now items) ≡ is ⌝ }
     requires { λ is. ⌜ Ready is (now items) count (now starts) n ⌝ }
     requires { λ is. ⌜ Valued (programOf is) (now values) ⌝ }
-    requires { λ is. ⌜ record { rows = now rows; sounding = now sounding; tones = now tones; kinds = now kinds; changes = now changes; letters = now letters; calls = now calls; counts = now counts } ≡ blank ⌝ }
-    ensures { λ is r. ⌜ record { rows = now (rows .exit); sounding = now (sounding .exit); tones = now (tones .exit); kinds = now (kinds .exit); changes = now (changes .exit); letters = now (letters .exit); calls = now (calls .exit); counts = now (counts .exit) } ≡ tablesOf (programOf is) ⌝ }
+    requires { λ is. ⌜ tablesIn (now numbers) (now codes) ≡ blank ⌝ }
+    ensures { λ is r. ⌜ tablesIn (now (numbers .exit)) (now (codes .exit)) ≡ tablesOf (programOf is) ⌝ }
 {
     let mut used = Counts {
         rows: 0,
@@ -47,20 +43,7 @@ pub fn write_tables(
     for d in 0..n {
         let from = starts[d] as usize + 1;
         let to = valuation::end_of(starts, n, count, d);
-        used = write_declaration(
-            items,
-            from,
-            to,
-            values,
-            used,
-            rows,
-            sounding,
-            tones,
-            kinds,
-            changes,
-            letters,
-            calls,
-        );
+        used = write_declaration(items, from, to, values, used, numbers, codes);
     }
-    encode::store_counts(counts, used);
+    encode::store_counts(&mut codes[0..SOUNDING_AT], used);
 }

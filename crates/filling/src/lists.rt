@@ -11,7 +11,7 @@ ghost use mathlib.Core.Path.{_≡_};
 ghost use mathlib.Core.List.{[], map};
 ghost use Prim.Native.Nat.{_+_, _≤_, _<_, _^_};
 ghost use lib.ListN.{length};
-ghost use Rattle.tables.specs.Layout.{mostTones, mostChanges, mostOrders, soundingOf, pitchOf, changeCode, changeNumber};
+ghost use Rattle.tables.specs.Layout.{lettersIn, callsIn, mostTones, mostChanges, mostOrders, soundingOf, pitchOf, changeCode, changeNumber};
 ghost use Rattle.names.specs.Parts.{part};
 ghost use Rattle.program.specs.Program.{placeThen, placesOf, grouped, termsOf, ordersOf, startOf};
 ghost use Rattle.program.specs.Allowed.{Each};
@@ -56,7 +56,7 @@ pub fn write_places(
     from: usize,
     to: usize,
     values: &[i64],
-    sounding: &mut [u8],
+    sounding: &mut [u16],
     tones: &mut [i32],
     at: usize,
 ) -> usize
@@ -134,7 +134,7 @@ pub fn write_changes(
     from: usize,
     to: usize,
     values: &[i64],
-    kinds: &mut [u8],
+    kinds: &mut [u16],
     changes: &mut [i32],
     at: usize,
 ) -> usize
@@ -154,24 +154,17 @@ pub fn write_changes(
 }
 
 // Writes the orders of a logic. Answers how many orders there are then.
-pub fn write_orders(
-    items: &[u32],
-    from: usize,
-    to: usize,
-    letters: &mut [u8],
-    calls: &mut [u16],
-    at: usize,
-) -> usize
+pub fn write_orders(items: &[u32], from: usize, to: usize, orders: &mut [u16], at: usize) -> usize
     requires { ⌜ Each FitOrder (ordersOf (between (now items) from to)) ⌝ }
     requires { ⌜ at + length (ordersOf (between (now items) from to)) ≤ mostOrders ⌝ }
-    ensures { λ r. ⌜ Appended letterOf callOf (ordersOf (between (now (items .entry)) from to)) at (now (letters .entry)) (now (calls .entry)) r (now (letters .exit)) (now (calls .exit)) ⌝ }
+    ensures { λ r. ⌜ Appended letterOf callOf (ordersOf (between (now (items .entry)) from to)) at (lettersIn (now (orders .entry))) (callsIn (now (orders .entry))) r (lettersIn (now (orders .exit))) (callsIn (now (orders .exit))) ⌝ }
 {
     let mut count = at;
     for i in from..to {
         let Item::Order(letter, called) = items::item_at(items, i) else {
             continue;
         };
-        encode::store_order(letters, calls, count, letter as u8, called as u16);
+        encode::store_order(orders, count, letter as u8, called as u16);
         count += 1;
     }
     count

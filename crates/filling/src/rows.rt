@@ -6,8 +6,15 @@ use cents::KeyNumber;
 use cents::Pitch;
 use grammar::Item;
 use grammar::items;
+use tables::CHANGES_AT;
+use tables::CODES;
 use tables::Counts;
+use tables::KINDS_AT;
+use tables::NUMBERS;
+use tables::ORDERS_AT;
 use tables::Row;
+use tables::SOUNDING_AT;
+use tables::TONES_AT;
 use tables::encode;
 use tuning::Amount;
 use tuning::Operator;
@@ -17,11 +24,12 @@ ghost use mathlib.Core.Path.{_≡_};
 ghost use mathlib.Core.List.{[], _∷_};
 ghost use Prim.Native.Nat.{_+_, _≤_, _<_};
 ghost use lib.ListN.{length};
-ghost use Rattle.tables.specs.Layout.{mostRows, mostOrders, soundingOf, pitchOf, changeCode, changeNumber};
+ghost use Rattle.tables.specs.Layout.{tablesIn, lettersIn, callsIn, mostRows, mostOrders, soundingOf, pitchOf, changeCode, changeNumber};
 ghost use Rattle.program.specs.Program.{declarationOf, periodOf, tones, grouped, startOf, ordersOf};
 ghost use Rattle.valuation.specs.Inner.{between};
+ghost use Rattle.tables.specs.Values.{Slices};
 ghost use Rattle.filling.specs.Tables.{tonesOf, changesOf, rowOf};
-ghost use Rattle.filling.specs.Inner.{valueIn, letterOf, callOf, calledBy, FitValue, FitLogic, FitParts, Writable, Stored, rowAfter, plainRow, Rowed, Added, countedBy};
+ghost use Rattle.filling.specs.Inner.{valueIn, letterOf, callOf, calledBy, FitValue, FitLogic, FitParts, Writable, Stored, rowAfter, plainRow, RowedIn, AddedIn, countedBy};
 
 fn make_anchor(amount: Amount) -> Row
     ensures { λ r. ⌜ r ≡ Row.Retuning (Retuning.Anchor amount) 0 0 ⌝ }
@@ -99,7 +107,7 @@ fn write_system(
     values: &[i64],
     key: u32,
     used: Counts,
-    sounding: &mut [u8],
+    sounding: &mut [u16],
     tones: &mut [i32],
 ) -> Row
     requires { ⌜ Writable (now values) used (declarationOf (Item.AnchorKey key ∷ between (now items) from to)) ⌝ }
@@ -130,7 +138,7 @@ fn write_tones(
     to: usize,
     values: &[i64],
     used: Counts,
-    kinds: &mut [u8],
+    kinds: &mut [u16],
     changes: &mut [i32],
 ) -> Row
     requires { ⌜ Writable (now values) used (tones (grouped (between (now items) from to) .positions)) ⌝ }
@@ -160,15 +168,14 @@ fn write_logic(
     to: usize,
     letter: u32,
     used: Counts,
-    letters: &mut [u8],
-    calls: &mut [u16],
+    orders: &mut [u16],
 ) -> Row
     requires { ⌜ FitLogic letter (startOf (between (now items) from to)) (ordersOf (between (now items) from to)) ⌝ }
     requires { ⌜ used .orders + length (ordersOf (between (now items) from to)) ≤ mostOrders ⌝ }
     ensures { λ r. ⌜ r ≡ Row.Logic letter (calledBy (startOf (between (now (items .entry)) from to))) (used .orders) (used .orders + length (ordersOf (between (now (items .entry)) from to))) ⌝ }
-    ensures { λ _. ⌜ Stored letterOf callOf (ordersOf (between (now (items .entry)) from to)) (used .orders) (now (letters .entry)) (now (calls .entry)) (now (letters .exit)) (now (calls .exit)) ⌝ }
+    ensures { λ _. ⌜ Stored letterOf callOf (ordersOf (between (now (items .entry)) from to)) (used .orders) (lettersIn (now (orders .entry))) (callsIn (now (orders .entry))) (lettersIn (now (orders .exit))) (callsIn (now (orders .exit))) ⌝ }
 {
-    let end = lists::write_orders(items, from, to, letters, calls, used.orders as usize);
+    let end = lists::write_orders(items, from, to, orders, used.orders as usize);
     Row::Logic {
         letter: letter as u8,
         start: lists::find_start(items, from, to),
@@ -218,15 +225,12 @@ fn write_lists(
     to: usize,
     values: &[i64],
     used: Counts,
-    sounding: &mut [u8],
-    tones: &mut [i32],
-    kinds: &mut [u8],
-    changes: &mut [i32],
-    letters: &mut [u8],
-    calls: &mut [u16],
+    numbers: &mut [i32],
+    codes: &mut [u16],
 ) -> Row
+    requires { ⌜ Slices (now numbers) (now codes) ⌝ }
     requires { ⌜ Writable (now values) used (declarationOf (between (now items) from to)) ⌝ }
-    ensures { λ r. ⌜ Rowed (valueIn (now (values .entry))) used (declarationOf (between (now (items .entry)) from to)) (record { sounding = now (sounding .entry); tones = now («tones» .entry); kinds = now (kinds .entry); changes = now (changes .entry); letters = now (letters .entry); calls = now (calls .entry) }) r (record { sounding = now (sounding .exit); tones = now («tones» .exit); kinds = now (kinds .exit); changes = now (changes .exit); letters = now (letters .exit); calls = now (calls .exit) }) ⌝ }
+    ensures { λ r. ⌜ RowedIn (valueIn (now (values .entry))) used (declarationOf (between (now (items .entry)) from to)) (tablesIn (now (numbers .entry)) (now (codes .entry))) r (tablesIn (now (numbers .exit)) (now (codes .exit))) ⌝ }
 {
     let row = used.rows as usize;
     if to <= from {
@@ -234,16 +238,23 @@ fn write_lists(
     }
     let item = items::item_at(items, from);
     if lists::is_position(item) {
+        let kinds = &mut codes[KINDS_AT..ORDERS_AT];
+        let changes = &mut numbers[CHANGES_AT..NUMBERS];
         return write_tones(items, from, to, values, used, kinds, changes);
     }
     let rest = from + 1;
     match item {
         Item::AnchorKey(key) => {
+            let sounding = &mut codes[SOUNDING_AT..KINDS_AT];
+            let tones = &mut numbers[TONES_AT..CHANGES_AT];
             write_system(items, rest, to, values, key, used, sounding, tones)
         }
         Item::Period => read_period(items, rest, to, values),
         Item::Onward => read_period(items, from, to, values),
-        Item::Letter(letter) => write_logic(items, rest, to, letter, used, letters, calls),
+        Item::Letter(letter) => {
+            let orders = &mut codes[ORDERS_AT..CODES];
+            write_logic(items, rest, to, letter, used, orders)
+        }
         _ => make_plain(item, values, row),
     }
 }
@@ -255,30 +266,14 @@ pub fn write_declaration(
     to: usize,
     values: &[i64],
     used: Counts,
-    rows: &mut [i32],
-    sounding: &mut [u8],
-    tones: &mut [i32],
-    kinds: &mut [u8],
-    changes: &mut [i32],
-    letters: &mut [u8],
-    calls: &mut [u16],
+    numbers: &mut [i32],
+    codes: &mut [u16],
 ) -> Counts
+    requires { ⌜ Slices (now numbers) (now codes) ⌝ }
     requires { ⌜ Writable (now values) used (declarationOf (between (now items) from to)) ⌝ }
-    ensures { λ r. ⌜ Added (valueIn (now (values .entry))) used (declarationOf (between (now (items .entry)) from to)) (now (rows .entry)) (record { sounding = now (sounding .entry); tones = now («tones» .entry); kinds = now (kinds .entry); changes = now (changes .entry); letters = now (letters .entry); calls = now (calls .entry) }) r (now (rows .exit)) (record { sounding = now (sounding .exit); tones = now («tones» .exit); kinds = now (kinds .exit); changes = now (changes .exit); letters = now (letters .exit); calls = now (calls .exit) }) ⌝ }
+    ensures { λ r. ⌜ AddedIn (valueIn (now (values .entry))) used (declarationOf (between (now (items .entry)) from to)) (tablesIn (now (numbers .entry)) (now (codes .entry))) r (tablesIn (now (numbers .exit)) (now (codes .exit))) ⌝ }
 {
-    let row = write_lists(
-        items,
-        from,
-        to,
-        values,
-        used,
-        sounding,
-        tones,
-        kinds,
-        changes,
-        letters,
-        calls,
-    );
-    encode::store_row(rows, used.rows as usize, row);
+    let row = write_lists(items, from, to, values, used, numbers, codes);
+    encode::store_row(&mut numbers[0..TONES_AT], used.rows as usize, row);
     count_row(used, row)
 }

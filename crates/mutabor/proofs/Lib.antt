@@ -5,7 +5,6 @@ pub mod Decoded
 pub mod Counted
 pub mod InRange
 pub mod ValidTables
-pub mod Parts
 pub mod Steps
 pub mod ItemsRead
 pub mod Named

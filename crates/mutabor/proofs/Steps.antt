@@ -10,6 +10,7 @@ use lib.IntN.{ℤ, pos}
 use lib.ListN.{length, getD, replicate, length-replicate}
 use Rattle.status.specs.Status.{done, textTooLong, dependsOnItself, valueOutOfRange}
 use Rattle.tables.specs.Layout.{Tables, fullSize, rowWidth, mostRows, mostTones, mostChanges, mostOrders, countsSize}
+use Rattle.tables.proofs.Sections.{same-tables}
 use Rattle.validity.proofs.Sizes.{Sizes, sizes-of}
 use Rattle.grammar.specs.Reading.{Read, readItems}
 use Rattle.names.specs.Names.{Meant, meanings}
@@ -21,7 +22,6 @@ use Rattle.filling.specs.Inner.{blank}
 use Rattle.mutabor.specs.declared.TextReading.{TextReading}
 use Rattle.mutabor.specs.Reading.{Left, zeroed, byVerdict, reading, Leaves}
 use Rattle.mutabor.specs.Inner.{Cleared}
-use Rattle.mutabor.proofs.Parts.{same-tables}
 
 -- ---- tables that are cleared
 

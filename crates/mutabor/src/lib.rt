@@ -7,9 +7,7 @@ use status::DONE;
 use status::TEXT_TOO_LONG;
 use status::VALUE_OUT_OF_RANGE;
 use tables::ROWS;
-use tables::clear::clear_bytes;
-use tables::clear::clear_calls;
-use tables::clear::clear_counts;
+use tables::clear::clear_codes;
 use tables::clear::clear_numbers;
 use tables::has_full_size;
 use valuation::value_declarations;
@@ -22,6 +20,7 @@ ghost use Rattle.grammar.specs.declared.Item.{Item};
 ghost use Rattle.grammar.specs.Reading.{readItems};
 ghost use Rattle.names.specs.Names.{meanings};
 ghost use Rattle.names.specs.Inner.{itemsIn, Held};
+ghost use Rattle.tables.specs.Layout.{tablesIn};
 ghost use Rattle.program.specs.Program.{programOf};
 ghost use Rattle.program.specs.Meaning.{valued};
 ghost use Rattle.program.specs.Text.{placeOf, byValue, byMeaning, readText};
@@ -43,26 +42,11 @@ pub struct TextReading {
     pub place: u32,
 }
 
-fn clear_tables(
-    rows: &mut [i32],
-    sounding: &mut [u8],
-    tones: &mut [i32],
-    kinds: &mut [u8],
-    changes: &mut [i32],
-    letters: &mut [u8],
-    calls: &mut [u16],
-    counts: &mut [u32],
-)
-    ensures { λ _. ⌜ Cleared (record { rows = now (rows .entry); sounding = now (sounding .entry); tones = now (tones .entry); kinds = now (kinds .entry); changes = now (changes .entry); letters = now (letters .entry); calls = now (calls .entry); counts = now (counts .entry) }) (record { rows = now (rows .exit); sounding = now (sounding .exit); tones = now (tones .exit); kinds = now (kinds .exit); changes = now (changes .exit); letters = now (letters .exit); calls = now (calls .exit); counts = now (counts .exit) }) ⌝ }
+fn clear_tables(numbers: &mut [i32], codes: &mut [u16])
+    ensures { λ _. ⌜ Cleared (tablesIn (now (numbers .entry)) (now (codes .entry))) (tablesIn (now (numbers .exit)) (now (codes .exit))) ⌝ }
 {
-    clear_numbers(rows);
-    clear_bytes(sounding);
-    clear_numbers(tones);
-    clear_bytes(kinds);
-    clear_numbers(changes);
-    clear_bytes(letters);
-    clear_calls(calls);
-    clear_counts(counts);
+    clear_numbers(numbers);
+    clear_codes(codes);
 }
 
 // The place of the name of declaration `d`.
@@ -83,20 +67,14 @@ fn take_declarations(
     count: usize,
     starts: &[u32],
     n: usize,
-    rows: &mut [i32],
-    sounding: &mut [u8],
-    tones: &mut [i32],
-    kinds: &mut [u8],
-    changes: &mut [i32],
-    letters: &mut [u8],
-    calls: &mut [u16],
-    counts: &mut [u32],
+    numbers: &mut [i32],
+    codes: &mut [u16],
 ) -> TextReading
     ghost { List Item }
     requires { λ is. ⌜ itemsIn count (now items) ≡ is ⌝ }
     requires { λ is. ⌜ Ready is (now items) count (now starts) n ⌝ }
-    requires { λ is. ⌜ record { rows = now rows; sounding = now sounding; tones = now tones; kinds = now kinds; changes = now changes; letters = now letters; calls = now calls; counts = now counts } ≡ blank ⌝ }
-    ensures { λ is r. ⌜ Leaves (byVerdict blank (byValue (programOf is) (valued (programOf is)))) r (record { rows = now (rows .exit); sounding = now (sounding .exit); tones = now (tones .exit); kinds = now (kinds .exit); changes = now (changes .exit); letters = now (letters .exit); calls = now (calls .exit); counts = now (counts .exit) }) ⌝ }
+    requires { λ is. ⌜ tablesIn (now numbers) (now codes) ≡ blank ⌝ }
+    ensures { λ is r. ⌜ Leaves (byVerdict blank (byValue (programOf is) (valued (programOf is)))) r (tablesIn (now (numbers .exit)) (now (codes .exit))) ⌝ }
 {
     let mut values = [0i64; ROWS];
     let outcome = value_declarations(items, count, starts, n, &mut values);
@@ -110,21 +88,7 @@ fn take_declarations(
             place: place_of(items, count, starts, n, d),
         },
         Outcome::Done => {
-            write_tables(
-                items,
-                count,
-                starts,
-                n,
-                &values,
-                rows,
-                sounding,
-                tones,
-                kinds,
-                changes,
-                letters,
-                calls,
-                counts,
-            );
+            write_tables(items, count, starts, n, &values, numbers, codes);
             TextReading {
                 number: DONE,
                 place: 0,
@@ -138,21 +102,15 @@ fn take_items(
     text: &[u8],
     items: &mut [u32],
     count: usize,
-    rows: &mut [i32],
-    sounding: &mut [u8],
-    tones: &mut [i32],
-    kinds: &mut [u8],
-    changes: &mut [i32],
-    letters: &mut [u8],
-    calls: &mut [u16],
-    counts: &mut [u32],
+    numbers: &mut [i32],
+    codes: &mut [u16],
 ) -> TextReading
     ghost { List Item }
     requires { λ is. ⌜ itemsIn count (now items) ≡ is ⌝ }
     requires { λ is. ⌜ Held is (now items) ⌝ }
     requires { λ is. ⌜ (readItems (now text) .items ≡ is) × (readItems (now text) .number ≡ done) ⌝ }
-    requires { λ is. ⌜ record { rows = now rows; sounding = now sounding; tones = now tones; kinds = now kinds; changes = now changes; letters = now letters; calls = now calls; counts = now counts } ≡ blank ⌝ }
-    ensures { λ is r. ⌜ Leaves (byVerdict blank (byMeaning (meanings (now (text .entry)) is))) r (record { rows = now (rows .exit); sounding = now (sounding .exit); tones = now (tones .exit); kinds = now (kinds .exit); changes = now (changes .exit); letters = now (letters .exit); calls = now (calls .exit); counts = now (counts .exit) }) ⌝ }
+    requires { λ is. ⌜ tablesIn (now numbers) (now codes) ≡ blank ⌝ }
+    ensures { λ is r. ⌜ Leaves (byVerdict blank (byMeaning (meanings (now (text .entry)) is))) r (tablesIn (now (numbers .exit)) (now (codes .exit))) ⌝ }
 {
     let mut declared = [0u32; ROWS];
     let mut starts = [0u32; ROWS];
@@ -164,36 +122,13 @@ fn take_items(
         };
     }
     let n = named.declarations;
-    take_declarations(
-        items,
-        count,
-        &starts,
-        n,
-        rows,
-        sounding,
-        tones,
-        kinds,
-        changes,
-        letters,
-        calls,
-        counts,
-    )
+    take_declarations(items, count, &starts, n, numbers, codes)
 }
 
 // Reads the symbols (2, 3, 4, 9), and goes on with the items.
-fn take_symbols(
-    text: &[u8],
-    rows: &mut [i32],
-    sounding: &mut [u8],
-    tones: &mut [i32],
-    kinds: &mut [u8],
-    changes: &mut [i32],
-    letters: &mut [u8],
-    calls: &mut [u16],
-    counts: &mut [u32],
-) -> TextReading
-    requires { ⌜ record { rows = now rows; sounding = now sounding; tones = now tones; kinds = now kinds; changes = now changes; letters = now letters; calls = now calls; counts = now counts } ≡ blank ⌝ }
-    ensures { λ r. ⌜ Leaves (byVerdict blank (readText (now (text .entry)))) r (record { rows = now (rows .exit); sounding = now (sounding .exit); tones = now (tones .exit); kinds = now (kinds .exit); changes = now (changes .exit); letters = now (letters .exit); calls = now (calls .exit); counts = now (counts .exit) }) ⌝ }
+fn take_symbols(text: &[u8], numbers: &mut [i32], codes: &mut [u16]) -> TextReading
+    requires { ⌜ tablesIn (now numbers) (now codes) ≡ blank ⌝ }
+    ensures { λ r. ⌜ Leaves (byVerdict blank (readText (now (text .entry)))) r (tablesIn (now (numbers .exit)) (now (codes .exit))) ⌝ }
 {
     let mut items = [0u32; ITEM_SLOTS];
     let read = read_items(text, &mut items);
@@ -204,69 +139,19 @@ fn take_symbols(
         };
     }
     let n = read.count;
-    take_items(
-        text,
-        &mut items,
-        n,
-        rows,
-        sounding,
-        tones,
-        kinds,
-        changes,
-        letters,
-        calls,
-        counts,
-    )
+    take_items(text, &mut items, n, numbers, codes)
 }
 
 // Reads a text into the tables. Where it is refused, or a table is not of full size, every table is zero.
-pub fn read_text(
-    text: &[u8],
-    rows: &mut [i32],
-    sounding: &mut [u8],
-    tones: &mut [i32],
-    kinds: &mut [u8],
-    changes: &mut [i32],
-    letters: &mut [u8],
-    calls: &mut [u16],
-    counts: &mut [u32],
-) -> TextReading
-    ensures { λ r. ⌜ Leaves (reading (now (text .entry)) (record { rows = now (rows .entry); sounding = now (sounding .entry); tones = now (tones .entry); kinds = now (kinds .entry); changes = now (changes .entry); letters = now (letters .entry); calls = now (calls .entry); counts = now (counts .entry) })) r (record { rows = now (rows .exit); sounding = now (sounding .exit); tones = now (tones .exit); kinds = now (kinds .exit); changes = now (changes .exit); letters = now (letters .exit); calls = now (calls .exit); counts = now (counts .exit) }) ⌝ }
+pub fn read_text(text: &[u8], numbers: &mut [i32], codes: &mut [u16]) -> TextReading
+    ensures { λ r. ⌜ Leaves (reading (now (text .entry)) (tablesIn (now (numbers .entry)) (now (codes .entry)))) r (tablesIn (now (numbers .exit)) (now (codes .exit))) ⌝ }
 {
-    clear_tables(
-        rows,
-        sounding,
-        tones,
-        kinds,
-        changes,
-        letters,
-        calls,
-        counts,
-    );
-    if !has_full_size(
-        rows,
-        sounding,
-        tones,
-        kinds,
-        changes,
-        letters,
-        calls,
-        counts,
-    ) {
+    clear_tables(numbers, codes);
+    if !has_full_size(numbers, codes) {
         return TextReading {
             number: TEXT_TOO_LONG,
             place: 0,
         };
     }
-    take_symbols(
-        text,
-        rows,
-        sounding,
-        tones,
-        kinds,
-        changes,
-        letters,
-        calls,
-        counts,
-    )
+    take_symbols(text, numbers, codes)
 }

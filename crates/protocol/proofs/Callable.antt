@@ -27,47 +27,15 @@ use Rattle.protocol.specs.declared.Found.{Found}
 use Rattle.protocol.specs.declared.Found.the-variants.{Nothing, Row}
 use Rattle.protocol.specs.Letters.{actionBy, actionAt}
 use Rattle.protocol.specs.Answers.{byAction, callOn, Made, tuningFrom, madeFrom}
-use Rattle.protocol.specs.Inner.{callsOf, forCalls, CallableRow, Callable, CallableFound}
+use Rattle.protocol.specs.Inner.{callsOf, CallableRow, Callable, CallableFound}
 use Rattle.protocol.proofs.Pressable.{Within}
-
--- ---- the part of the tables that a call reads does for the tables
-
-abbrev pub callPart : Tables → Tables
-callPart t = forCalls (t .rows) (t .sounding) (t .tones) (t .kinds) (t .changes)
-
-module _ (t : Tables) where
-  actions-alike : (r : TableRow) → actionBy (callPart t) r ≡ actionBy t r
-  actions-alike Unused = refl
-  actions-alike (Interval d) = refl
-  actions-alike (Tone p) = refl
-  actions-alike (System a P from to) = refl
-  actions-alike (Retuning r from to) = refl
-  actions-alike (Logic c s from to) = refl
-
-  call-alike : (s : State) (k : ℕ) → callOn (callPart t) s k ≡ callOn t s k
-  unfolding callOn
-  call-alike s k = ap (byAction s) (actions-alike (rowAt t k))
-
-  pub tuning-alike : (s : State) (ks : List ℕ) → tuningFrom (callPart t) s ks ≡ tuningFrom t s ks
-  unfolding tuningFrom
-  tuning-alike s [] = refl
-  tuning-alike s (k ∷ ks) = rw (call-alike s k) (tuning-alike (callOn t s k .state) ks)
-
-  pub made-alike : (s : State) (ks : List ℕ) → madeFrom (callPart t) s ks ≡ madeFrom t s ks
-  unfolding madeFrom
-  made-alike s [] = refl
-  made-alike s (k ∷ ks) =
-      rw (call-alike s k)
-      (ap (λ (l : List Made). record { called = k; number = callOn t s k .number } ∷ l) (made-alike (callOn t s k .state) ks))
-
--- ---- of valid tables
 
 -- a valid state of sixty places
 abbrev pub Whole : State → Type 0
 Whole s = (validState s ≡ true) × (length (s .tones) ≡ places)
 
 module _ (t : Tables) (v : validTables t ≡ true) where
-  callable-row : (r : TableRow) → ValidRow t r → CallableRow (callPart t) r
+  callable-row : (r : TableRow) → ValidRow t r → CallableRow t r
   callable-row Unused h = tt
   callable-row (Interval d) h = tt
   callable-row (Tone p) h = tt
@@ -75,10 +43,10 @@ module _ (t : Tables) (v : validTables t ≡ true) where
   callable-row (Retuning r from to) h = record { modest = h .modest; part = h .part; list = h .list }
   callable-row (Logic c s from to) h = tt
 
-  callable : (k : ℕ) → k < rowCount t → Callable (callPart t) k
+  callable : (k : ℕ) → k < rowCount t → Callable t k
   callable k h = record { fields = fields-fit t v k h; row = callable-row (rowAt t k) (row-valid t v k h) }
 
-  pub callable-found : (f : Found) → Within t (callsOf f) → CallableFound (callPart t) f
+  pub callable-found : (f : Found) → Within t (callsOf f) → CallableFound t f
   callable-found Nothing h = tt
   callable-found (Row k) h = callable k (h .0)
 

@@ -1,5 +1,5 @@
 -- The call of a declaration, by its row; and what the tables hold of it. Assumes nothing.
-use mathlib.Core.Path.{_≡_, refl, ap}
+use mathlib.Core.Path.{_≡_, refl, ap, sym, _∙_, subst}
 use mathlib.Core.List.{List, [], _∷_}
 use Prim.Native.Nat.{ℕ}
 use types.Run.{OneOf, miss}
@@ -15,7 +15,7 @@ use Rattle.protocol.specs.declared.Found.{Found}
 use Rattle.protocol.specs.declared.Found.the-variants.{Nothing, Row}
 use Rattle.protocol.specs.Letters.{actionBy}
 use Rattle.protocol.specs.Answers.{byAction, callOn, tuningFrom, madeFrom, lastNumber}
-use Rattle.protocol.specs.Inner.{callsOf}
+use Rattle.protocol.specs.Inner.{CallableRow, Callable, CallsFound}
 
 -- the variants of a row that call nothing
 abbrev pub uncalled : List ℕ
@@ -35,17 +35,17 @@ module _ (t : Tables) (s : State) where
   unfolding callOn
   call-row k e = ap (λ (x : TableRow). byAction s (actionBy t x)) e
 
+-- the row that was read has what a call needs
+pub row-callable : {t : Tables} {k : ℕ} → Callable t k → {r q : TableRow} → r ≡ rowAt t k → r ≡ q → CallableRow t q
+row-callable {t} h e f = subst (CallableRow t) (sym e ∙ f) (h .row)
+
 -- ---- at most one call
 
 module _ (t : Tables) (s : State) (f : Found) where
-  -- the state that is left, and the number
-  abbrev Calls : Reply → Type 0
-  Calls r = (r .state ≡ tuningFrom t s (callsOf f)) × (r .number ≡ lastNumber (madeFrom t s (callsOf f)))
-
-  pub made-none : f ≡ Nothing → Calls (record { state = s; number = done })
+  pub made-none : f ≡ Nothing → CallsFound t s f (record { state = s; number = done })
   unfolding tuningFrom madeFrom
-  made-none e = rw e (refl, refl)
+  made-none e = record { state = rw e; number = rw e }
 
-  pub made-one : {k : ℕ} {r : Reply} → f ≡ Row k → r ≡ callOn t s k → Calls r
+  pub made-one : {k : ℕ} {r : Reply} → f ≡ Row k → r ≡ callOn t s k → CallsFound t s f r
   unfolding tuningFrom madeFrom
-  made-one e h = rw e (ap (λ (x : Reply). x .state) h, ap (λ (x : Reply). x .number) h)
+  made-one e h = record { state = rw e (ap (λ (x : Reply). x .state) h); number = rw e (ap (λ (x : Reply). x .number) h) }

@@ -12,49 +12,14 @@ use Rattle.tables.specs.declared.Row.{Row as TableRow}
 use Rattle.tables.specs.declared.Row.the-variants.{Unused, Interval, Tone, System, Retuning, Logic}
 use Rattle.tables.specs.Layout.{Tables, rowCount, readAt, rowAt, logicForm}
 use Rattle.validity.specs.Valid.{validTables}
-use Rattle.validity.proofs.Laws.{valid-of, ValidRow, row-valid, fields-fit, order-valid}
+use Rattle.validity.proofs.Laws.{valid-of, ValidRow, row-valid, fields-fit, order-valid, order-letter}
 use Rattle.protocol.specs.declared.Active.{Active}
 use Rattle.protocol.specs.declared.Active.the-variants as active
 use Rattle.protocol.specs.Letters.{firstLogic, orderBy, orderOf, elseOrder, callsBy, unlessUnbound, pressed}
 use Rattle.protocol.specs.Answers.{activeRight}
-use Rattle.protocol.specs.Inner.{forLetters, OrdersThere, ActiveReadable}
+use Rattle.protocol.specs.Inner.{OrdersThere, ActiveReadable}
 use Rattle.protocol.proofs.Searches.{logic-found, order-called}
 use Rattle.protocol.proofs.Presses.{named}
-
--- ---- the part of the tables that a letter reads does for the tables
-
-abbrev pub letterPart : Tables → Tables
-letterPart t = forLetters (t .rows) (rowCount t) (t .letters) (t .calls)
-
-module _ (t : Tables) (a : Active) (letter : ℕ) where
-  orders-alike : (r : TableRow) → orderBy (letterPart t) letter r ≡ orderBy t letter r
-  orders-alike Unused = refl
-  orders-alike (Interval d) = refl
-  orders-alike (Tone p) = refl
-  orders-alike (System b P from to) = refl
-  orders-alike (Retuning r from to) = refl
-  orders-alike (Logic c s from to) = refl
-
-  order-alike : (b : Active) → orderOf (letterPart t) letter b ≡ orderOf t letter b
-  order-alike active.Nothing = refl
-  order-alike (active.Logic i) = orders-alike (rowAt t i)
-
-  named-alike : named (letterPart t) a letter ≡ named t a letter
-  named-alike = go (firstLogic (t .rows) letter 0 (rowCount t))
-    where
-      go : (o : Option ℕ) → elseOrder (letterPart t) a letter o ≡ elseOrder t a letter o
-      go none = order-alike a
-      go (some i) = refl
-
-  pub pressed-alike : pressed (letterPart t) a letter ≡ pressed t a letter
-  unfolding pressed
-  pressed-alike = ap (unlessUnbound (letterPart t) a) named-alike ∙ go (named t a letter)
-    where
-      go : (o : Option ℕ) → unlessUnbound (letterPart t) a o ≡ unlessUnbound t a o
-      go none = refl
-      go (some k) = refl
-
--- ---- of valid tables
 
 -- each of these is one of the rows
 abbrev pub Within : Tables → List ℕ → Type 0
@@ -68,7 +33,7 @@ module _ (t : Tables) (v : validTables t ≡ true) where
       let b = both (ltb i (rowCount t) && leb logicForm form) (leb form logicForm) h in
       ltb-true _ _ (both (ltb i (rowCount t)) (leb logicForm form) (b .0) .0)
 
-  orders-there : (r : TableRow) → ValidRow t r → OrdersThere (letterPart t) r
+  orders-there : (r : TableRow) → ValidRow t r → OrdersThere t r
   orders-there Unused h = tt
   orders-there (Interval d) h = tt
   orders-there (Tone p) h = tt
@@ -81,9 +46,10 @@ module _ (t : Tables) (v : validTables t ≡ true) where
         most = omega (arith, h .within, w .room .orders);
         letters = omega (arith, h .within, w .room .orders, w .sizes .letters);
         calls = omega (arith, h .within, w .room .orders, w .sizes .calls);
+        bytes = λ i k. omega (arith, order-letter t v i (omega (arith, h .within)));
       }
 
-  pub active-readable : (a : Active) → activeRight t a ≡ true → ActiveReadable (letterPart t) a
+  pub active-readable : (a : Active) → activeRight t a ≡ true → ActiveReadable t a
   active-readable active.Nothing h = tt
   active-readable (active.Logic i) h =
       let k = active-within i h in

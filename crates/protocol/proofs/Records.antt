@@ -3,7 +3,7 @@ use mathlib.Core.Path.{_≡_, refl, sym, ap, _∙_}
 use mathlib.Core.Bool.{Bool, true, false}
 use mathlib.Core.List.{List, [], _∷_, _++_, zipWith}
 use mathlib.Core.Option.{some}
-use Prim.Native.Nat.{ℕ, suc, _+_, _-_, _≤_, _<_}
+use Prim.Native.Nat.{ℕ, suc, _+_, _-_, _*_, _≤_, _<_, _^_}
 use native.Mathlib.Numerals.{add-one}
 use native.Mathlib.Omega.{arith}
 use lib.Dec.{eqb}
@@ -15,7 +15,8 @@ use Rattle.orders.specs.declared.Found.{Found as Match}
 use Rattle.orders.specs.declared.Found.the-variants as match
 use Rattle.orders.specs.Orders.{noOrder, orderAt, matchFrom, firstMatch}
 use Rattle.orders.proofs.Laws.{match-within}
-use Rattle.tables.specs.Layout.{mostOrders, full}
+use Rattle.tables.specs.Layout.{orderWidth, lettersIn, callsIn, mostOrders, full}
+use Rattle.tables.proofs.Columns.{letter-at, call-at, columns-length}
 use Rattle.tables.proofs.Lists.{full-length, full-next}
 use Rattle.protocol.specs.declared.letters.Called.{Called}
 use Rattle.protocol.specs.declared.letters.Called.the-variants as called
@@ -66,6 +67,22 @@ module _ {rows : List ℤ} {letters calls : List ℕ} {from to : ℕ} (p : Order
     pub gathering-ends : to ≤ i → all ≡ gathered rows letters calls from to
     unfolding zipWith
     gathering-ends h = ap (λ (l : List ℕ). sets all (i - from) (recordsOf rows l (slice i to calls))) (sym (past letters i to h)) ∙ g .left
+
+-- one turn, with the order's two codes as the code reads them
+pub gathering-order : {rows : List ℤ} (orders : List ℕ) {from to : ℕ} → OrderPart (lettersIn orders) (callsIn orders) from to → {all : List Order} {i : ℕ}
+    → Gathering rows (lettersIn orders) (callsIn orders) from to all i → {kind : ℕ} → i < to → kind ≡ kindAt rows (getD orders (orderWidth * i + 1) 0)
+    → Gathering rows (lettersIn orders) (callsIn orders) from to
+    (set all (i - from) (record { letter = getD orders (orderWidth * i) 0; kind = kind; number = getD orders (orderWidth * i + 1) 0 })) (i + 1)
+gathering-order {rows} orders p {all} {i} g h e =
+    rw (letter-at orders i, call-at orders i) (gathering-next p g h (e ∙ ap (kindAt rows) (call-at orders i)))
+
+-- the code of a letter is a byte, and both codes stand in the slice
+module _ (orders : List ℕ) {from to : ℕ} (p : OrderPart (lettersIn orders) (callsIn orders) from to) where
+  pub letter-byte : (i : ℕ) → i < to → getD orders (orderWidth * i) 0 < 2 ^ 8
+  letter-byte i h = rw (letter-at orders i) (p .bytes i h)
+
+  pub codes-there : orderWidth * to ≤ length orders
+  codes-there = omega (arith, p .letters, p .calls, columns-length orders)
 
 -- ---- searching
 

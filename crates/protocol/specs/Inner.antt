@@ -3,17 +3,19 @@ use mathlib.Core.Path.{_≡_}
 use mathlib.Core.Bool.{true, cond}
 use mathlib.Core.List.{List, [], _∷_, zipWith}
 use mathlib.Core.Option.{Option, some, none}
-use Prim.Native.Nat.{ℕ, _+_, _≤_}
+use Prim.Native.Nat.{ℕ, _+_, _≤_, _<_, _^_}
 use lib.Dec.{eqb}
 use lib.IntN.{ℤ}
-use lib.ListN.{length}
+use lib.ListN.{length, getD}
 use lib.Seq.{slice}
 use Rattle.orders.specs.declared.Order.{Order}
 use Rattle.orders.specs.Orders.{noOrder}
 use Rattle.tuning.specs.State.{validState}
+use Rattle.tuning.specs.declared.Reply.{Reply}
+use Rattle.tuning.specs.declared.State.{State}
 use Rattle.tables.specs.declared.Row.{Row as TableRow}
 use Rattle.tables.specs.declared.Row.the-variants.{Unused, Interval, Tone, System, Retuning, Logic}
-use Rattle.tables.specs.Layout.{Tables, mostOrders, readAt, rowOf, rowAt, full}
+use Rattle.tables.specs.Layout.{Tables, rowCount, mostOrders, readAt, rowOf, rowAt, full}
 use Rattle.tables.specs.Values.{FieldsFit}
 use Rattle.validity.specs.Valid.{validTables}
 use Rattle.validity.specs.Inner.{ValidSystem, ValidRetuning}
@@ -26,8 +28,8 @@ use Rattle.protocol.specs.declared.Desk.{Desk}
 use Rattle.protocol.specs.declared.letters.Press.{Press}
 use Rattle.protocol.specs.declared.letters.Called.{Called}
 use Rattle.protocol.specs.declared.letters.Called.the-variants as called
-use Rattle.protocol.specs.Letters.{Pressed}
-use Rattle.protocol.specs.Answers.{activeRight}
+use Rattle.protocol.specs.Letters.{Pressed, firstLogic, elseOrder}
+use Rattle.protocol.specs.Answers.{tuningFrom, madeFrom, lastNumber, activeRight}
 
 -- ---- the code's values
 
@@ -68,6 +70,10 @@ abbrev pub calledIn : List ℤ → Option ℕ → Called
 calledIn rows none = called.Nothing
 calledIn rows (some k) = byKind (kindAt rows k) k
 
+-- what a letter names
+abbrev pub calledBy : Tables → Active → ℕ → Called
+calledBy t a letter = calledIn (t .rows) (elseOrder t a letter (firstLogic (t .rows) letter 0 (rowCount t)))
+
 -- orders as records: of each its letter, the kind of the declaration that it calls, and that declaration's number
 abbrev pub recordOf : List ℤ → ℕ → ℕ → Order
 recordOf rows letter k = record { letter = letter; kind = kindAt rows k; number = k }
@@ -88,21 +94,7 @@ callsOf (Row k) = k ∷ []
 abbrev pub pressedBy : Press → Pressed
 pressedBy p = record { bound = p .bound; active = p .active; calls = callsOf (p .called) }
 
--- ---- what is lent, as tables; and so far as a letter, or a call, reads them
-
-abbrev pub lent : List ℤ → List ℕ → List ℤ → List ℕ → List ℤ → List ℕ → List ℕ → List ℕ → Tables
-lent rows sounding tones kinds changes letters calls counts =
-    record { rows = rows; sounding = sounding; tones = tones; kinds = kinds; changes = changes; letters = letters; calls = calls; counts = counts }
-
-abbrev pub forLetters : List ℤ → ℕ → List ℕ → List ℕ → Tables
-forLetters rows count letters calls =
-    record { rows = rows; sounding = []; tones = []; kinds = []; changes = []; letters = letters; calls = calls; counts = count ∷ [] }
-
-abbrev pub forCalls : List ℤ → List ℕ → List ℤ → List ℕ → List ℤ → Tables
-forCalls rows sounding tones kinds changes =
-    record { rows = rows; sounding = sounding; tones = tones; kinds = kinds; changes = changes; letters = []; calls = []; counts = [] }
-
--- ---- what is required of them
+-- ---- what is required of the tables
 
 -- from one place to another of the orders, as many as there is room for
 pub record OrderPart (cs ks : List ℕ) (from to : ℕ) : Type 0 where
@@ -110,6 +102,7 @@ pub record OrderPart (cs ks : List ℕ) (from to : ℕ) : Type 0 where
   pub most : to ≤ from + mostOrders
   pub letters : to ≤ length cs
   pub calls : to ≤ length ks
+  pub bytes : (i : ℕ) → i < to → getD cs i 0 < 2 ^ 8
 
 -- the orders of a logic are all there
 abbrev pub OrdersThere : Tables → TableRow → Type 0
@@ -141,6 +134,11 @@ pub record Callable (t : Tables) (k : ℕ) : Type 0 where
 abbrev pub CallableFound : Tables → Found → Type 0
 CallableFound t Nothing = Unit
 CallableFound t (Row k) = Callable t k
+
+-- the state that a call leaves, and its number
+pub record CallsFound (t : Tables) (s : State) (f : Found) (r : Reply) : Type 0 where
+  pub state : r .state ≡ tuningFrom t s (callsOf f)
+  pub number : r .number ≡ lastNumber (madeFrom t s (callsOf f))
 
 -- ---- of frames
 

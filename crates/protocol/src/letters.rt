@@ -4,12 +4,21 @@ use crate::Found;
 use orders::Order;
 use status::DONE;
 use tables::ANCHOR_FORM;
+use tables::CHANGES_AT;
+use tables::CODES;
+use tables::Counts;
+use tables::KINDS_AT;
 use tables::LOGIC_FORM;
+use tables::NUMBERS;
 use tables::Numbers;
+use tables::ORDER_WIDTH;
 use tables::ORDERS;
+use tables::ORDERS_AT;
 use tables::PERIOD_FORM;
 use tables::Row;
+use tables::SOUNDING_AT;
 use tables::SYSTEM_FORM;
+use tables::TONES_AT;
 use tables::TONES_FORM;
 use tables::WIDTH_FORM;
 use tables::decode;
@@ -19,10 +28,11 @@ ghost use mathlib.Core.Path.{_≡_};
 ghost use mathlib.Core.Bool.{true};
 ghost use lib.Seq.{slice};
 ghost use Rattle.tuning.specs.State.{validState};
-ghost use Rattle.tables.specs.Layout.{rowOf};
-ghost use Rattle.protocol.specs.Letters.{isLogicOf, firstLogic, firstOrder, elseOrder, startCalls, pressed};
-ghost use Rattle.protocol.specs.Answers.{callOn, tuningFrom, madeFrom, lastNumber};
-ghost use Rattle.protocol.specs.Inner.{found, kindAt, calledIn, gathered, callsOf, pressedBy, forLetters, forCalls, OrderPart, ActiveReadable, Callable, CallableFound};
+ghost use Rattle.tables.specs.Layout.{tablesIn, lettersIn, callsIn, rowOf};
+ghost use Rattle.tables.specs.Values.{Slices};
+ghost use Rattle.protocol.specs.Letters.{isLogicOf, firstLogic, firstOrder, startCalls, pressed};
+ghost use Rattle.protocol.specs.Answers.{callOn};
+ghost use Rattle.protocol.specs.Inner.{found, kindAt, calledIn, calledBy, gathered, callsOf, pressedBy, OrderPart, ActiveReadable, Callable, CallableFound, CallsFound};
 
 // Kinds of what is called.
 const NO_KIND: u8 = 0;
@@ -83,15 +93,9 @@ fn kind_of(rows: &[i32], k: usize) -> u8
 }
 
 // The orders from `from` to `to` as records, at the start of the array. The rest of it is zeros.
-fn gather_orders(
-    rows: &[i32],
-    letters: &[u8],
-    calls: &[u16],
-    from: usize,
-    to: usize,
-) -> [Order; ORDERS]
-    requires { ⌜ OrderPart (now letters) (now calls) from to ⌝ }
-    ensures { λ r. ⌜ r ≡ gathered (now (rows .entry)) (now (letters .entry)) (now (calls .entry)) from to ⌝ }
+fn gather_orders(rows: &[i32], orders: &[u16], from: usize, to: usize) -> [Order; ORDERS]
+    requires { ⌜ OrderPart (lettersIn (now orders)) (callsIn (now orders)) from to ⌝ }
+    ensures { λ r. ⌜ r ≡ gathered (now (rows .entry)) (lettersIn (now (orders .entry))) (callsIn (now (orders .entry))) from to ⌝ }
 {
     let mut all = [Order {
         letter: 0,
@@ -99,8 +103,9 @@ fn gather_orders(
         number: 0,
     }; ORDERS];
     for i in from..to {
-        let letter = letters[i];
-        let number = calls[i];
+        let at = ORDER_WIDTH * i;
+        let letter = orders[at] as u8;
+        let number = orders[at + 1];
         let kind = kind_of(rows, number as usize);
         all[i - from] = Order {
             letter,
@@ -112,18 +117,11 @@ fn gather_orders(
 }
 
 // What the first order with this letter calls, of those from `from` to `to`.
-fn find_order(
-    rows: &[i32],
-    letters: &[u8],
-    calls: &[u16],
-    from: usize,
-    to: usize,
-    letter: u8,
-) -> Called
-    requires { ⌜ OrderPart (now letters) (now calls) from to ⌝ }
-    ensures { λ r. ⌜ r ≡ calledIn (now (rows .entry)) (firstOrder letter (slice from to (now (letters .entry))) (slice from to (now (calls .entry)))) ⌝ }
+fn find_order(rows: &[i32], orders: &[u16], from: usize, to: usize, letter: u8) -> Called
+    requires { ⌜ OrderPart (lettersIn (now orders)) (callsIn (now orders)) from to ⌝ }
+    ensures { λ r. ⌜ r ≡ calledIn (now (rows .entry)) (firstOrder letter (slice from to (lettersIn (now (orders .entry)))) (slice from to (callsIn (now (orders .entry))))) ⌝ }
 {
-    let all = gather_orders(rows, letters, calls, from, to);
+    let all = gather_orders(rows, orders, from, to);
     let orders::Found::At(i) = orders::find_match_in(all, letter, 0, to - from) else {
         return Called::Nothing;
     };
@@ -136,18 +134,14 @@ fn find_order(
 }
 
 // The first logic with this letter, else what the active logic's first order with it calls.
-fn find_called(
-    rows: &[i32],
-    count: u32,
-    letters: &[u8],
-    calls: &[u16],
-    active: Active,
-    letter: u8,
-) -> Called
-    requires { ⌜ ActiveReadable (forLetters (now rows) count (now letters) (now calls)) active ⌝ }
-    ensures { λ r. ⌜ r ≡ calledIn (now (rows .entry)) (elseOrder (forLetters (now (rows .entry)) count (now (letters .entry)) (now (calls .entry))) active letter (firstLogic (now (rows .entry)) letter 0 count)) ⌝ }
+fn find_called(numbers: &[i32], codes: &[u16], active: Active, letter: u8) -> Called
+    requires { ⌜ Slices (now numbers) (now codes) ⌝ }
+    requires { ⌜ ActiveReadable (tablesIn (now numbers) (now codes)) active ⌝ }
+    ensures { λ r. ⌜ r ≡ calledBy (tablesIn (now (numbers .entry)) (now (codes .entry))) active letter ⌝ }
 {
-    if let Found::Row(i) = find_logic(rows, count, letter) {
+    let rows = &numbers[0..TONES_AT];
+    let used = Counts::read(&codes[0..SOUNDING_AT]);
+    if let Found::Row(i) = find_logic(rows, used.rows, letter) {
         return Called::Logic(i);
     }
     let Active::Logic(i) = active else {
@@ -162,7 +156,8 @@ fn find_called(
     else {
         return Called::Nothing;
     };
-    find_order(rows, letters, calls, from as usize, to as usize, letter)
+    let orders = &codes[ORDERS_AT..CODES];
+    find_order(rows, orders, from as usize, to as usize, letter)
 }
 
 // The declaration of a logic's start: none where it is 0.
@@ -176,18 +171,12 @@ fn find_start(start: u32) -> Found
 }
 
 // What a letter comes to. A called logic becomes active, and its start is called.
-pub fn press_letter(
-    rows: &[i32],
-    count: u32,
-    letters: &[u8],
-    calls: &[u16],
-    active: Active,
-    letter: u8,
-) -> Press
-    requires { ⌜ ActiveReadable (forLetters (now rows) count (now letters) (now calls)) active ⌝ }
-    ensures { λ r. ⌜ pressedBy r ≡ pressed (forLetters (now (rows .entry)) count (now (letters .entry)) (now (calls .entry))) active letter ⌝ }
+pub fn press_letter(numbers: &[i32], codes: &[u16], active: Active, letter: u8) -> Press
+    requires { ⌜ Slices (now numbers) (now codes) ⌝ }
+    requires { ⌜ ActiveReadable (tablesIn (now numbers) (now codes)) active ⌝ }
+    ensures { λ r. ⌜ pressedBy r ≡ pressed (tablesIn (now (numbers .entry)) (now (codes .entry))) active letter ⌝ }
 {
-    match find_called(rows, count, letters, calls, active, letter) {
+    match find_called(numbers, codes, active, letter) {
         Called::Nothing => Press {
             bound: false,
             active,
@@ -199,7 +188,7 @@ pub fn press_letter(
             called: Found::Row(k),
         },
         Called::Logic(k) => {
-            let n = decode::numbers_at(rows, k as usize);
+            let n = decode::numbers_at(&numbers[0..TONES_AT], k as usize);
             let start = decode::natural(n.second);
             Press {
                 bound: true,
@@ -211,20 +200,13 @@ pub fn press_letter(
 }
 
 // The call of declaration k: of a tone system or a retuning; any other changes nothing.
-fn call_declaration(
-    rows: &[i32],
-    sounding: &[u8],
-    tones: &[i32],
-    kinds: &[u8],
-    changes: &[i32],
-    s: State,
-    k: u32,
-) -> Reply
+fn call_declaration(numbers: &[i32], codes: &[u16], s: State, k: u32) -> Reply
+    requires { ⌜ Slices (now numbers) (now codes) ⌝ }
     requires { ⌜ validState s ≡ true ⌝ }
-    requires { ⌜ Callable (forCalls (now rows) (now sounding) (now tones) (now kinds) (now changes)) k ⌝ }
-    ensures { λ r. ⌜ r ≡ callOn (forCalls (now (rows .entry)) (now (sounding .entry)) (now (tones .entry)) (now (kinds .entry)) (now (changes .entry))) s k ⌝ }
+    requires { ⌜ Callable (tablesIn (now numbers) (now codes)) k ⌝ }
+    ensures { λ r. ⌜ r ≡ callOn (tablesIn (now (numbers .entry)) (now (codes .entry))) s k ⌝ }
 {
-    match decode::row_at(rows, k as usize) {
+    match decode::row_at(&numbers[0..TONES_AT], k as usize) {
         Row::System {
             anchor,
             period,
@@ -233,10 +215,14 @@ fn call_declaration(
         } => {
             let start = from as usize;
             let end = to as usize;
+            let sounding = &codes[SOUNDING_AT..KINDS_AT];
+            let tones = &numbers[TONES_AT..CHANGES_AT];
             let system = decode::system_at(sounding, tones, anchor, period, start, end);
             s.take_system(system)
         }
         Row::Retuning { retuning, from, to } => {
+            let kinds = &codes[KINDS_AT..ORDERS_AT];
+            let changes = &numbers[CHANGES_AT..NUMBERS];
             let list = decode::changes_from(kinds, changes, from as usize, to as usize);
             s.retune(retuning, list)
         }
@@ -248,18 +234,11 @@ fn call_declaration(
 }
 
 // The call that a letter makes, if it makes one.
-pub fn make_call(
-    rows: &[i32],
-    sounding: &[u8],
-    tones: &[i32],
-    kinds: &[u8],
-    changes: &[i32],
-    s: State,
-    called: Found,
-) -> Reply
+pub fn make_call(numbers: &[i32], codes: &[u16], s: State, called: Found) -> Reply
+    requires { ⌜ Slices (now numbers) (now codes) ⌝ }
     requires { ⌜ validState s ≡ true ⌝ }
-    requires { ⌜ CallableFound (forCalls (now rows) (now sounding) (now tones) (now kinds) (now changes)) called ⌝ }
-    ensures { λ r. ⌜ (r .state ≡ tuningFrom (forCalls (now (rows .entry)) (now (sounding .entry)) (now (tones .entry)) (now (kinds .entry)) (now (changes .entry))) s (callsOf called)) × (r .number ≡ lastNumber (madeFrom (forCalls (now (rows .entry)) (now (sounding .entry)) (now (tones .entry)) (now (kinds .entry)) (now (changes .entry))) s (callsOf called))) ⌝ }
+    requires { ⌜ CallableFound (tablesIn (now numbers) (now codes)) called ⌝ }
+    ensures { λ r. ⌜ CallsFound (tablesIn (now (numbers .entry)) (now (codes .entry))) s called r ⌝ }
 {
     let Found::Row(k) = called else {
         return Reply {
@@ -267,5 +246,5 @@ pub fn make_call(
             number: DONE,
         };
     };
-    call_declaration(rows, sounding, tones, kinds, changes, s, k)
+    call_declaration(numbers, codes, s, k)
 }

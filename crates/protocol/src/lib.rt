@@ -12,6 +12,8 @@ use status::LETTER_UNBOUND;
 use status::TABLE_DAMAGED;
 use tables::Counts;
 use tables::LOGIC_FORM;
+use tables::SOUNDING_AT;
+use tables::TONES_AT;
 use tables::decode;
 use tuning::State;
 use tuning::Tone;
@@ -22,12 +24,12 @@ ghost use Prim.Native.Nat.{_≤_};
 ghost use lib.ListN.{length};
 ghost use Rattle.status.specs.Status.{letterUnbound};
 ghost use Rattle.tuning.specs.State.{heard, validState};
-ghost use Rattle.tables.specs.Layout.{Tables, logicForm};
-ghost use Rattle.validity.specs.Valid.{isForm};
+ghost use Rattle.tables.specs.Layout.{tablesIn};
+ghost use Rattle.tables.specs.Values.{Slices};
 ghost use Rattle.frames.specs.Frames.{frameOf, lastKey};
 ghost use Rattle.answers.specs.Answer.{smallestBuffer};
-ghost use Rattle.protocol.specs.Answers.{badOutcome, dumpOutcome, startDesk, letterOutcome, keyNumber, keyOutcome, frameOutcome, validDesk, answerOf, Gives};
-ghost use Rattle.protocol.specs.Inner.{lent, Ready};
+ghost use Rattle.protocol.specs.Answers.{badOutcome, dumpOutcome, startDesk, letterOutcome, keyNumber, keyOutcome, frameOutcome, activeRight, validDesk, answerOf, Gives};
+ghost use Rattle.protocol.specs.Inner.{Ready};
 
 // The active logic, by the number of its declaration.
 pub enum Active {
@@ -66,38 +68,21 @@ impl Desk {
     }
 }
 
-// Whether declaration i is a logic, and one of the first `count` rows.
-fn has_logic(rows: &[i32], count: u32, i: u32) -> bool
-    ensures { λ r. ⌜ r ≡ isForm (now (rows .entry)) count logicForm logicForm i ⌝ }
+// Whether declaration i is a logic, and one of the rows that are used.
+fn has_logic(numbers: &[i32], codes: &[u16], i: u32) -> bool
+    requires { ⌜ Slices (now numbers) (now codes) ⌝ }
+    ensures { λ r. ⌜ r ≡ activeRight (tablesIn (now (numbers .entry)) (now (codes .entry))) (Active.Logic i) ⌝ }
 {
-    let n = decode::numbers_at(rows, i as usize);
-    (i < count) & (n.form == LOGIC_FORM)
+    let used = Counts::read(&codes[0..SOUNDING_AT]);
+    let n = decode::numbers_at(&numbers[0..TONES_AT], i as usize);
+    (i < used.rows) & (n.form == LOGIC_FORM)
 }
 
 // Whether the tables and the desk are right.
-fn is_valid(
-    rows: &[i32],
-    sounding: &[u8],
-    tones: &[i32],
-    kinds: &[u8],
-    changes: &[i32],
-    letters: &[u8],
-    calls: &[u16],
-    counts: &[u32],
-    desk: Desk,
-) -> bool
-    ensures { λ r. ⌜ r ≡ validDesk (lent (now (rows .entry)) (now (sounding .entry)) (now (tones .entry)) (now (kinds .entry)) (now (changes .entry)) (now (letters .entry)) (now (calls .entry)) (now (counts .entry))) desk ⌝ }
+fn is_valid(numbers: &[i32], codes: &[u16], desk: Desk) -> bool
+    ensures { λ r. ⌜ r ≡ validDesk (tablesIn (now (numbers .entry)) (now (codes .entry))) desk ⌝ }
 {
-    if !valid_tables(
-        rows,
-        sounding,
-        tones,
-        kinds,
-        changes,
-        letters,
-        calls,
-        counts,
-    ) {
+    if !valid_tables(numbers, codes) {
         return false;
     }
     let s = desk.tuning;
@@ -108,8 +93,7 @@ fn is_valid(
     let Active::Logic(i) = active else {
         return true;
     };
-    let used = Counts::read(counts);
-    has_logic(rows, used.rows, i)
+    has_logic(numbers, codes, i)
 }
 
 // Nothing is answered but a number.
@@ -132,30 +116,21 @@ fn letter_number(bound: bool, number: u8) -> u8
 
 // A letter: what it calls is called, and the state after it answered.
 fn answer_letter(
-    rows: &[i32],
-    sounding: &[u8],
-    tones: &[i32],
-    kinds: &[u8],
-    changes: &[i32],
-    letters: &[u8],
-    calls: &[u16],
-    counts: &[u32],
+    numbers: &[i32],
+    codes: &[u16],
     desk: Desk,
     house: u8,
     letter: u8,
     buffer: &mut [u8],
 ) -> Answered
-    ghost { Tables }
-    requires { λ t. ⌜ lent (now rows) (now sounding) (now tones) (now kinds) (now changes) (now letters) (now calls) (now counts) ≡ t ⌝ }
-    requires { λ t. ⌜ Ready t desk (now buffer) ⌝ }
-    ensures { λ t r. ⌜ Gives (letterOutcome t desk house letter) r (now (buffer .entry)) (now (buffer .exit)) ⌝ }
+    requires { ⌜ Ready (tablesIn (now numbers) (now codes)) desk (now buffer) ⌝ }
+    ensures { λ r. ⌜ Gives (letterOutcome (tablesIn (now (numbers .entry)) (now (codes .entry))) desk house letter) r (now (buffer .entry)) (now (buffer .exit)) ⌝ }
 {
     let s = desk.tuning;
     let before = desk.active;
-    let used = Counts::read(counts);
-    let press = letters::press_letter(rows, used.rows, letters, calls, before, letter);
+    let press = letters::press_letter(numbers, codes, before, letter);
     let called = press.called;
-    let reply = letters::make_call(rows, sounding, tones, kinds, changes, s, called);
+    let reply = letters::make_call(numbers, codes, s, called);
     let number = letter_number(press.bound, reply.number);
     let tuning = reply.state;
     let active = press.active;
@@ -221,39 +196,20 @@ fn answer_bad(desk: Desk, buffer: &mut [u8]) -> Answered
 
 // What a frame does, once the buffer, the tables and the desk are known to be right.
 fn take_frame(
-    rows: &[i32],
-    sounding: &[u8],
-    tones: &[i32],
-    kinds: &[u8],
-    changes: &[i32],
-    letters: &[u8],
-    calls: &[u16],
-    counts: &[u32],
+    numbers: &[i32],
+    codes: &[u16],
     desk: Desk,
     frame: &[u8],
     buffer: &mut [u8],
 ) -> Answered
-    ghost { Tables }
-    requires { λ t. ⌜ lent (now rows) (now sounding) (now tones) (now kinds) (now changes) (now letters) (now calls) (now counts) ≡ t ⌝ }
-    requires { λ t. ⌜ Ready t desk (now buffer) ⌝ }
-    ensures { λ t r. ⌜ Gives (frameOutcome t desk (frameOf (now (frame .entry)))) r (now (buffer .entry)) (now (buffer .exit)) ⌝ }
+    requires { ⌜ Ready (tablesIn (now numbers) (now codes)) desk (now buffer) ⌝ }
+    ensures { λ r. ⌜ Gives (frameOutcome (tablesIn (now (numbers .entry)) (now (codes .entry))) desk (frameOf (now (frame .entry)))) r (now (buffer .entry)) (now (buffer .exit)) ⌝ }
 {
     match frames::decode(frame) {
         Frame::Bad => answer_bad(desk, buffer),
-        Frame::Letter { house, letter } => answer_letter(
-            rows,
-            sounding,
-            tones,
-            kinds,
-            changes,
-            letters,
-            calls,
-            counts,
-            desk,
-            house,
-            letter,
-            buffer,
-        ),
+        Frame::Letter { house, letter } => {
+            answer_letter(numbers, codes, desk, house, letter, buffer)
+        }
         Frame::Key { house, key } => answer_key(desk, house, key, buffer),
         Frame::Dump { house } => answer_dump(desk, house, buffer),
     }
@@ -261,47 +217,19 @@ fn take_frame(
 
 // The answer to a frame, whatever the tables, the desk, the frame and the buffer are.
 pub fn answer(
-    rows: &[i32],
-    sounding: &[u8],
-    tones: &[i32],
-    kinds: &[u8],
-    changes: &[i32],
-    letters: &[u8],
-    calls: &[u16],
-    counts: &[u32],
+    numbers: &[i32],
+    codes: &[u16],
     desk: Desk,
     frame: &[u8],
     buffer: &mut [u8],
 ) -> Answered
-    ensures { λ r. ⌜ Gives (answerOf (record { rows = now (rows .entry); sounding = now (sounding .entry); tones = now (tones .entry); kinds = now (kinds .entry); changes = now (changes .entry); letters = now (letters .entry); calls = now (calls .entry); counts = now (counts .entry) }) desk (now (frame .entry)) (length (now (buffer .entry)))) r (now (buffer .entry)) (now (buffer .exit)) ⌝ }
+    ensures { λ r. ⌜ Gives (answerOf (tablesIn (now (numbers .entry)) (now (codes .entry))) desk (now (frame .entry)) (length (now (buffer .entry)))) r (now (buffer .entry)) (now (buffer .exit)) ⌝ }
 {
     if buffer.len() < SMALLEST_BUFFER {
         return refuse(desk, BUFFER_TOO_SMALL);
     }
-    if !is_valid(
-        rows,
-        sounding,
-        tones,
-        kinds,
-        changes,
-        letters,
-        calls,
-        counts,
-        desk,
-    ) {
+    if !is_valid(numbers, codes, desk) {
         return refuse(desk, TABLE_DAMAGED);
     }
-    take_frame(
-        rows,
-        sounding,
-        tones,
-        kinds,
-        changes,
-        letters,
-        calls,
-        counts,
-        desk,
-        frame,
-        buffer,
-    )
+    take_frame(numbers, codes, desk, frame, buffer)
 }

@@ -11,18 +11,15 @@ use mutabor::read_text;
 use protocol::Desk;
 use status::DONE;
 use stream::fill;
-use tables::CHANGES;
-use tables::COUNTS;
-use tables::ORDERS;
-use tables::ROW_WIDTH;
-use tables::ROWS;
-use tables::TONES;
+use tables::CODES;
+use tables::NUMBERS;
 ghost use mathlib.Core.Path.{_≡_};
 ghost use mathlib.Core.Bool.{true, false};
 ghost use mathlib.Core.List.{[]};
 ghost use Prim.Native.Nat.{_≤_};
 ghost use lib.ListN.{length, take};
 ghost use Rattle.libc.specs.Io.{Moved};
+ghost use Rattle.tables.specs.Layout.{tablesIn};
 ghost use Rattle.frames.specs.Frames.{enough};
 ghost use Rattle.answers.specs.Answer.{smallestBuffer};
 ghost use Rattle.sitedesk.specs.Serving.{Within, Ending, Came};
@@ -132,14 +129,8 @@ fn fail_to_write(desk: Desk) -> Served
 
 // Serves a chunk to its end: answers are written whenever the output has no more room, and at the end.
 fn serve_chunk(
-    rows: &[i32],
-    sounding: &[u8],
-    tones: &[i32],
-    kinds: &[u8],
-    changes: &[i32],
-    letters: &[u8],
-    calls: &[u16],
-    counts: &[u32],
+    numbers: &[i32],
+    codes: &[u16],
     desk: Desk,
     held: &mut [u8],
     count: usize,
@@ -148,28 +139,13 @@ fn serve_chunk(
 ) -> Served
     requires { ⌜ (count ≤ enough) × (length (now held) ≡ enough) × (smallestBuffer ≤ length (now out)) ⌝ }
     ensures within { λ r. ⌜ r .held ≤ enough ⌝ }
-    ensures came { λ r. ⌜ (r .written ≡ true → Came (record { rows = now (rows .entry); sounding = now (sounding .entry); tones = now (tones .entry); kinds = now (kinds .entry); changes = now (changes .entry); letters = now (letters .entry); calls = now (calls .entry); counts = now (counts .entry) }) desk (take count (now (held .entry))) (now (chunk .entry)) (r .desk) (take (r .held) (now (held .exit))) []) ⌝ }
+    ensures came { λ r. ⌜ (r .written ≡ true → Came (tablesIn (now (numbers .entry)) (now (codes .entry))) desk (take count (now (held .entry))) (now (chunk .entry)) (r .desk) (take (r .held) (now (held .exit))) []) ⌝ }
 {
     let mut d = desk;
     let mut n = count;
     let mut i: usize = 0;
     while i < chunk.len() {
-        let r = fill(
-            rows,
-            sounding,
-            tones,
-            kinds,
-            changes,
-            letters,
-            calls,
-            counts,
-            d,
-            held,
-            n,
-            chunk,
-            i,
-            out,
-        );
+        let r = fill(numbers, codes, d, held, n, chunk, i, out);
         d = r.desk;
         n = r.held;
         i = r.next;
@@ -222,16 +198,7 @@ fn take_input(chunk: &mut [u8], held: usize) -> Input
 }
 
 // Serves the input to its end. A proved loop has to end, and nothing says that the input does: it counts down from a number that no run uses up.
-fn serve_all(
-    rows: &[i32],
-    sounding: &[u8],
-    tones: &[i32],
-    kinds: &[u8],
-    changes: &[i32],
-    letters: &[u8],
-    calls: &[u16],
-    counts: &[u32],
-) {
+fn serve_all(numbers: &[i32], codes: &[u16]) {
     let mut desk = Desk::start();
     let mut held = [0u8; ENOUGH];
     let mut count: usize = 0;
@@ -242,14 +209,8 @@ fn serve_all(
         let input = take_input(&mut chunk, count);
         let n = input.bytes;
         let r = serve_chunk(
-            rows,
-            sounding,
-            tones,
-            kinds,
-            changes,
-            letters,
-            calls,
-            counts,
+            numbers,
+            codes,
             desk,
             &mut held,
             count,
@@ -267,39 +228,14 @@ fn serve_all(
 
 // Reads the text, and serves the input by its tables.
 fn run(text: &[u8]) {
-    let mut rows = [0i32; ROW_WIDTH * ROWS];
-    let mut sounding = [0u8; TONES];
-    let mut tones = [0i32; TONES];
-    let mut kinds = [0u8; CHANGES];
-    let mut changes = [0i32; CHANGES];
-    let mut letters = [0u8; ORDERS];
-    let mut calls = [0u16; ORDERS];
-    let mut counts = [0u32; COUNTS];
-    let reading = read_text(
-        text,
-        &mut rows,
-        &mut sounding,
-        &mut tones,
-        &mut kinds,
-        &mut changes,
-        &mut letters,
-        &mut calls,
-        &mut counts,
-    );
+    let mut numbers = [0i32; NUMBERS];
+    let mut codes = [0u16; CODES];
+    let reading = read_text(text, &mut numbers, &mut codes);
     if reading.number != DONE {
         tell_refusal(reading.number, reading.place);
         return;
     }
-    serve_all(
-        &rows,
-        &sounding,
-        &tones,
-        &kinds,
-        &changes,
-        &letters,
-        &calls,
-        &counts,
-    );
+    serve_all(&numbers, &codes);
 }
 
 fn main() {

@@ -9,6 +9,7 @@ ghost use mathlib.Core.List.{[], _∷_, _++_};
 ghost use Prim.Native.Nat.{_≤_, _<_};
 ghost use lib.ListN.{length, getD, take, drop};
 ghost use Rattle.hexadecimal.specs.Lines.{lineFeed};
+ghost use Rattle.tables.specs.Layout.{tablesIn};
 ghost use Rattle.frames.specs.Frames.{enough};
 ghost use Rattle.answers.specs.Answer.{smallestBuffer};
 ghost use Rattle.stream.specs.Feed.{feed, SameStream};
@@ -64,14 +65,8 @@ fn gather(held: &mut [u8], count: usize, chunk: &[u8], from: usize) -> Gathered
 // Answers the lines of a chunk from byte `from` on, as far as the output has room. The rules speak of the stream as a whole: how far one call
 // comes is open but for `onward`, and so are the bytes behind those held. What is left to do then is what was to be done.
 pub fn fill(
-    rows: &[i32],
-    sounding: &[u8],
-    tones: &[i32],
-    kinds: &[u8],
-    changes: &[i32],
-    letters: &[u8],
-    calls: &[u16],
-    counts: &[u32],
+    numbers: &[i32],
+    codes: &[u16],
     desk: Desk,
     held: &mut [u8],
     count: usize,
@@ -83,7 +78,7 @@ pub fn fill(
     ensures within { λ r. ⌜ (r .held ≤ enough) × (r .next ≤ length (now (chunk .entry))) × (r .used ≤ length (now (out .entry))) ⌝ }
     ensures onward { λ r. ⌜ (smallestBuffer ≤ length (now (out .entry)) → from < length (now (chunk .entry)) → from < r .next) ⌝ }
     ensures kept { λ r. ⌜ drop (r .used) (now (out .exit)) ≡ drop (r .used) (now (out .entry)) ⌝ }
-    ensures same { λ r. ⌜ SameStream (record { rows = now (rows .entry); sounding = now (sounding .entry); tones = now (tones .entry); kinds = now (kinds .entry); changes = now (changes .entry); letters = now (letters .entry); calls = now (calls .entry); counts = now (counts .entry) }) (feed desk (take count (now (held .entry))) []) (drop from (now (chunk .entry))) (feed (r .desk) (take (r .held) (now (held .exit))) (take (r .used) (now (out .exit)))) (drop (r .next) (now (chunk .entry))) ⌝ }
+    ensures same { λ r. ⌜ SameStream (tablesIn (now (numbers .entry)) (now (codes .entry))) (feed desk (take count (now (held .entry))) []) (drop from (now (chunk .entry))) (feed (r .desk) (take (r .held) (now (held .exit))) (take (r .used) (now (out .exit)))) (drop (r .next) (now (chunk .entry))) ⌝ }
 {
     let mut d = desk;
     let mut n = count;
@@ -99,19 +94,7 @@ pub fn fill(
         if out.len() - used < SMALLEST_BUFFER {
             break;
         }
-        let r = answer(
-            rows,
-            sounding,
-            tones,
-            kinds,
-            changes,
-            letters,
-            calls,
-            counts,
-            d,
-            &held[..n],
-            &mut out[used..],
-        );
+        let r = answer(numbers, codes, d, &held[..n], &mut out[used..]);
         d = r.desk;
         used += r.length;
         n = 0;

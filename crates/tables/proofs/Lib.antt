@@ -2,3 +2,6 @@ pub mod Lists
 pub mod Rows
 pub mod Systems
 pub mod Stored
+pub mod Columns
+pub mod Sizes
+pub mod Sections

@@ -2,10 +2,10 @@
 -- tones retunings, orders those of logics, each list in the order of the text, and a row says from where to where its own stand.
 use mathlib.Core.Bool.{Bool, cond, _&&_}
 use mathlib.Core.List.{List, [], _∷_, _++_}
-use Prim.Native.Nat.{ℕ, _+_, _-_, _*_}
+use Prim.Native.Nat.{ℕ, zero, suc, _+_, _-_, _*_}
 use lib.Dec.{eqb}
 use lib.IntN.{ℤ, pos}
-use lib.ListN.{length, getD, replicate}
+use lib.ListN.{length, getD, take, drop, replicate}
 use lib.Seq.{slice}
 use Rattle.integers.specs.Parts.{up}
 use Rattle.tuning.specs.State.{places}
@@ -27,7 +27,7 @@ use Rattle.tables.specs.declared.Numbers.{Numbers}
 use Rattle.tables.specs.declared.Row.{Row}
 use Rattle.tables.specs.declared.Row.the-variants.{Unused, Interval, Tone, System, Retuning, Logic}
 
--- what is lent: rows of five numbers; for each tone of a tone system whether it sounds and its pitch; for each change of a tones retuning its kind
+-- what is read: rows of five numbers; for each tone of a tone system whether it sounds and its pitch; for each change of a tones retuning its kind
 -- and its interval or pitch; for each order its letter and the number of the declaration that it calls; and how many there are of each
 pub record Tables : Type 0 where
   pub rows : List ℤ
@@ -61,14 +61,74 @@ farthestSum = 2 * farthestTone + 1
 abbrev pub countsSize : ℕ
 countsSize = 4
 
--- every slice is of full size
+-- every table is of full size
 abbrev pub fullSize : Tables → Bool
 fullSize t =
     eqb (length (t .rows)) (rowWidth * mostRows) && eqb (length (t .sounding)) mostTones && eqb (length (t .tones)) mostTones
     && eqb (length (t .kinds)) mostChanges && eqb (length (t .changes)) mostChanges && eqb (length (t .letters)) mostOrders
     && eqb (length (t .calls)) mostOrders && eqb (length (t .counts)) countsSize
 
--- how many rows, tones, changes and orders are used
+-- ---- what is lent: two slices, of which the tables are sections
+
+-- so many elements from a place on, as `&slice[at..at + size]` has them
+abbrev pub section : {A : Type 0} → ℕ → ℕ → List A → List A
+section at size l = take size (drop at l)
+
+-- numbers: rows, tones, changes
+abbrev pub tonesAt : ℕ
+tonesAt = rowWidth * mostRows
+
+abbrev pub changesAt : ℕ
+changesAt = tonesAt + mostTones
+
+abbrev pub allNumbers : ℕ
+allNumbers = changesAt + mostChanges
+
+-- codes: counts, sounding, kinds, orders
+abbrev pub soundingAt : ℕ
+soundingAt = countsSize
+
+abbrev pub kindsAt : ℕ
+kindsAt = soundingAt + mostTones
+
+abbrev pub ordersAt : ℕ
+ordersAt = kindsAt + mostChanges
+
+-- an order is a row of two codes: its letter, and the number of the declaration that it calls
+abbrev pub orderWidth : ℕ
+orderWidth = 2
+
+abbrev pub allCodes : ℕ
+allCodes = ordersAt + orderWidth * mostOrders
+
+-- of each order the k-th code
+unfoldable pub column : ℕ → List ℕ → List ℕ
+column k [] = []
+column zero (x ∷ l) = x ∷ column (orderWidth - 1) l
+column (suc k) (x ∷ l) = column k l
+
+abbrev pub lettersIn : List ℕ → List ℕ
+lettersIn = column 0
+
+abbrev pub callsIn : List ℕ → List ℕ
+callsIn = column 1
+
+-- the last section goes to the slice's end, so that nothing that is lent is left out
+unfoldable pub tablesIn : List ℤ → List ℕ → Tables
+tablesIn numbers codes =
+    record {
+      rows = section 0 tonesAt numbers;
+      sounding = section soundingAt mostTones codes;
+      tones = section tonesAt mostTones numbers;
+      kinds = section kindsAt mostChanges codes;
+      changes = drop changesAt numbers;
+      letters = lettersIn (drop ordersAt codes);
+      calls = callsIn (drop ordersAt codes);
+      counts = section 0 countsSize codes;
+    }
+
+-- ---- how many rows, tones, changes and orders are used
+
 abbrev pub countsOf : List ℕ → Counts
 countsOf l = record { rows = getD l 0 0; tones = getD l 1 0; changes = getD l 2 0; orders = getD l 3 0 }
 

@@ -15,8 +15,9 @@ use Rattle.tuning.specs.declared.ToneChange.{ToneChange}
 use Rattle.tuning.specs.declared.ToneChange.the-variants.{Mute}
 use Rattle.tuning.specs.declared.PositionChange.{PositionChange}
 use Rattle.tuning.specs.declared.ToneChanges.{ToneChanges}
+use Rattle.tables.specs.declared.Counts.{Counts}
 use Rattle.tables.specs.declared.Numbers.{Numbers}
-use Rattle.tables.specs.Layout.{systemForm, anchorForm, widthForm, logicForm, full}
+use Rattle.tables.specs.Layout.{systemForm, anchorForm, widthForm, logicForm, allNumbers, allCodes, full}
 
 -- a tone system: anchor, tones and period
 abbrev pub system : ℕ → List Tone → ℤ → Tuning cents
@@ -43,6 +44,18 @@ pub record NumbersFit (r : Numbers) : Type 0 where
   pub second : SFits w32 (r .second)
   pub from : r .from < 2 ^ 31
   pub to : r .to < 2 ^ 31
+
+-- both slices that are lent are of full size
+pub record Slices (numbers : List ℤ) (codes : List ℕ) : Type 0 where
+  pub all-numbers : length numbers ≡ allNumbers
+  pub all-codes : length codes ≡ allCodes
+
+-- how many there are of each fits the codes
+pub record CountsFit (c : Counts) : Type 0 where
+  pub rows : c .rows < 2 ^ 16
+  pub tones : c .tones < 2 ^ 16
+  pub changes : c .changes < 2 ^ 16
+  pub orders : c .orders < 2 ^ 16
 
 -- from one place to another of a list of kinds and a list of numbers, as many as a list of positions has room for
 pub record Part (ks : List ℕ) (zs : List ℤ) (from to : ℕ) : Type 0 where

@@ -13,27 +13,7 @@ pub fn clear_numbers(table: &mut [i32])
     }
 }
 
-pub fn clear_bytes(table: &mut [u8])
-    ensures { λ _. ⌜ now (table .exit) ≡ replicate (length (now (table .entry))) 0 ⌝ }
-{
-    let mut i = 0;
-    while i < table.len() {
-        table[i] = 0;
-        i += 1;
-    }
-}
-
-pub fn clear_calls(table: &mut [u16])
-    ensures { λ _. ⌜ now (table .exit) ≡ replicate (length (now (table .entry))) 0 ⌝ }
-{
-    let mut i = 0;
-    while i < table.len() {
-        table[i] = 0;
-        i += 1;
-    }
-}
-
-pub fn clear_counts(table: &mut [u32])
+pub fn clear_codes(table: &mut [u16])
     ensures { λ _. ⌜ now (table .exit) ≡ replicate (length (now (table .entry))) 0 ⌝ }
 {
     let mut i = 0;

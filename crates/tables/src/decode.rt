@@ -63,7 +63,7 @@ pub fn number_at(table: &[i32], at: usize) -> i32
     table[at]
 }
 
-fn byte_at(table: &[u8], at: usize) -> u8
+fn code_at(table: &[u16], at: usize) -> u16
     ensures { λ r. ⌜ r ≡ getD (now (table .entry)) at 0 ⌝ }
 {
     if table.len() <= at {
@@ -165,20 +165,20 @@ pub fn row_at(rows: &[i32], i: usize) -> Row
 }
 
 // Tone i of the tone systems.
-pub fn tone_at(sounding: &[u8], tones: &[i32], i: usize) -> Tone
+pub fn tone_at(sounding: &[u16], tones: &[i32], i: usize) -> Tone
     ensures { λ r. ⌜ r ≡ toneOf (getD (now (sounding .entry)) i 0) (getD (now (tones .entry)) i (pos 0)) ⌝ }
 {
-    match byte_at(sounding, i) {
+    match code_at(sounding, i) {
         MUTED_CODE => Tone::Muted,
         _ => Tone::At(Pitch(number_at(tones, i))),
     }
 }
 
 // Change i of the tones retunings.
-pub fn change_at(kinds: &[u8], changes: &[i32], i: usize) -> ToneChange
+pub fn change_at(kinds: &[u16], changes: &[i32], i: usize) -> ToneChange
     ensures { λ r. ⌜ r ≡ changeOf (getD (now (kinds .entry)) i 0) (getD (now (changes .entry)) i (pos 0)) ⌝ }
 {
-    match byte_at(kinds, i) {
+    match code_at(kinds, i) {
         MUTE_CODE => ToneChange::Mute,
         MOVE_CODE => ToneChange::Move(Interval(number_at(changes, i))),
         _ => ToneChange::Set(Pitch(number_at(changes, i))),
@@ -187,7 +187,7 @@ pub fn change_at(kinds: &[u8], changes: &[i32], i: usize) -> ToneChange
 
 // The state of a tone system whose tones are those from `from` to `to`.
 pub fn system_at(
-    sounding: &[u8],
+    sounding: &[u16],
     tones: &[i32],
     anchor: KeyNumber,
     period: Interval,
@@ -213,7 +213,7 @@ pub fn system_at(
 }
 
 // The positions of a tones retuning whose changes are those from `from` to `to`.
-pub fn changes_from(kinds: &[u8], changes: &[i32], from: usize, to: usize) -> ToneChanges
+pub fn changes_from(kinds: &[u16], changes: &[i32], from: usize, to: usize) -> ToneChanges
     requires { ⌜ Part (now kinds) (now changes) from to ⌝ }
     ensures { λ r. ⌜ r ≡ listed (joinedFrom changeOf (now (kinds .entry)) (now (changes .entry)) from to) ⌝ }
 {

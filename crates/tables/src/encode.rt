@@ -13,6 +13,7 @@ use crate::MUTE_CODE;
 use crate::MUTED_CODE;
 use crate::Numbers;
 use crate::ONWARD_CODE;
+use crate::ORDER_WIDTH;
 use crate::PERIOD_FORM;
 use crate::PLUS_CODE;
 use crate::ROW_WIDTH;
@@ -36,8 +37,8 @@ ghost use mathlib.Core.List.{[], _∷_};
 ghost use Prim.Native.Nat.{_*_, _<_};
 ghost use lib.ListN.{length, set};
 ghost use lib.Seq.{sets};
-ghost use Rattle.tables.specs.Layout.{countsSize, numbers, amountCode, amountNumber, periodCode, periodSum, retuningNumbers, numbersOf, written, rowWidth, soundingOf, pitchOf, changeCode, changeNumber};
-ghost use Rattle.tables.specs.Values.{NumbersFit};
+ghost use Rattle.tables.specs.Layout.{countsSize, numbers, amountCode, amountNumber, periodCode, periodSum, retuningNumbers, numbersOf, written, rowWidth, soundingOf, pitchOf, changeCode, changeNumber, lettersIn, callsIn};
+ghost use Rattle.tables.specs.Values.{NumbersFit, CountsFit};
 
 fn amount_code(amount: Amount) -> u32
     ensures { λ r. ⌜ r ≡ amountCode amount ⌝ }
@@ -146,19 +147,11 @@ fn put_number(table: &mut [i32], at: usize, z: i32)
     }
 }
 
-fn put_byte(table: &mut [u8], at: usize, b: u8)
-    ensures { λ _. ⌜ now (table .exit) ≡ set (now (table .entry)) at b ⌝ }
+fn put_code(table: &mut [u16], at: usize, code: u16)
+    ensures { λ _. ⌜ now (table .exit) ≡ set (now (table .entry)) at code ⌝ }
 {
     if at < table.len() {
-        table[at] = b;
-    }
-}
-
-fn put_call(table: &mut [u16], at: usize, called: u16)
-    ensures { λ _. ⌜ now (table .exit) ≡ set (now (table .entry)) at called ⌝ }
-{
-    if at < table.len() {
-        table[at] = called;
+        table[at] = code;
     }
 }
 
@@ -179,7 +172,7 @@ pub fn store_row(rows: &mut [i32], i: usize, row: Row)
     put_number(rows, at + 4, n.to as i32);
 }
 
-fn tone_code(tone: Tone) -> u8
+fn tone_code(tone: Tone) -> u16
     ensures { λ r. ⌜ r ≡ soundingOf tone ⌝ }
 {
     match tone {
@@ -198,14 +191,14 @@ fn tone_pitch(tone: Tone) -> i32
 }
 
 // Stores a tone of a tone system as the i-th.
-pub fn store_tone(sounding: &mut [u8], tones: &mut [i32], i: usize, tone: Tone)
+pub fn store_tone(sounding: &mut [u16], tones: &mut [i32], i: usize, tone: Tone)
     ensures { λ _. ⌜ (now (sounding .exit) ≡ set (now (sounding .entry)) i (soundingOf tone)) × (now (tones .exit) ≡ set (now (tones .entry)) i (pitchOf tone)) ⌝ }
 {
-    put_byte(sounding, i, tone_code(tone));
+    put_code(sounding, i, tone_code(tone));
     put_number(tones, i, tone_pitch(tone));
 }
 
-fn change_code(change: ToneChange) -> u8
+fn change_code(change: ToneChange) -> u16
     ensures { λ r. ⌜ r ≡ changeCode change ⌝ }
 {
     match change {
@@ -226,28 +219,33 @@ fn change_number(change: ToneChange) -> i32
 }
 
 // Stores a change of a tones retuning as the i-th.
-pub fn store_change(kinds: &mut [u8], changes: &mut [i32], i: usize, change: ToneChange)
+pub fn store_change(kinds: &mut [u16], changes: &mut [i32], i: usize, change: ToneChange)
     ensures { λ _. ⌜ (now (kinds .exit) ≡ set (now (kinds .entry)) i (changeCode change)) × (now (changes .exit) ≡ set (now (changes .entry)) i (changeNumber change)) ⌝ }
 {
-    put_byte(kinds, i, change_code(change));
+    put_code(kinds, i, change_code(change));
     put_number(changes, i, change_number(change));
 }
 
 // Stores an order as the i-th: its letter, and the number of the declaration that it calls.
-pub fn store_order(letters: &mut [u8], calls: &mut [u16], i: usize, letter: u8, called: u16)
-    ensures { λ _. ⌜ (now (letters .exit) ≡ set (now (letters .entry)) i letter) × (now (calls .exit) ≡ set (now (calls .entry)) i called) ⌝ }
+pub fn store_order(orders: &mut [u16], i: usize, letter: u8, called: u16)
+    ensures { λ _. ⌜ (lettersIn (now (orders .exit)) ≡ set (lettersIn (now (orders .entry))) i letter) × (callsIn (now (orders .exit)) ≡ set (callsIn (now (orders .entry))) i called) ⌝ }
 {
-    put_byte(letters, i, letter);
-    put_call(calls, i, called);
+    if orders.len() <= i {
+        return;
+    }
+    let at = ORDER_WIDTH * i;
+    put_code(orders, at, letter as u16);
+    put_code(orders, at + 1, called);
 }
 
 // Stores how many rows, tones, changes and orders are used.
-pub fn store_counts(counts: &mut [u32], used: Counts)
+pub fn store_counts(counts: &mut [u16], used: Counts)
     requires { ⌜ length (now counts) ≡ countsSize ⌝ }
+    requires { ⌜ CountsFit used ⌝ }
     ensures { λ _. ⌜ now (counts .exit) ≡ used .rows ∷ used .tones ∷ used .changes ∷ used .orders ∷ [] ⌝ }
 {
-    counts[0] = used.rows;
-    counts[1] = used.tones;
-    counts[2] = used.changes;
-    counts[3] = used.orders;
+    counts[0] = used.rows as u16;
+    counts[1] = used.tones as u16;
+    counts[2] = used.changes as u16;
+    counts[3] = used.orders as u16;
 }

@@ -9,9 +9,9 @@ use cents::Pitch;
 use tuning::Retuning;
 ghost use mathlib.Core.Path.{_≡_};
 ghost use lib.ListN.{length};
-ghost use Rattle.tables.specs.Layout.{fullSize, countsSize, countsOf};
+ghost use Rattle.tables.specs.Layout.{tablesIn, fullSize, countsSize, countsOf};
 
-// Full sizes: how many rows, tones, changes and orders there is room for, and how many numbers a row has.
+// Full sizes: how many rows, tones, changes and orders there is room for, and how many numbers a row and how many codes an order has.
 pub const ROWS: usize = 704;
 
 pub const ROW_WIDTH: usize = 5;
@@ -22,7 +22,24 @@ pub const CHANGES: usize = 7_680;
 
 pub const ORDERS: usize = 512;
 
+pub const ORDER_WIDTH: usize = 2;
+
 pub const COUNTS: usize = 4;
+
+// Two slices are lent. Numbers: rows, tones, changes; codes: counts, sounding, kinds, orders. Where each section begins, and how many there are.
+pub const TONES_AT: usize = 3_520;
+
+pub const CHANGES_AT: usize = 5_440;
+
+pub const NUMBERS: usize = 13_120;
+
+pub const SOUNDING_AT: usize = 4;
+
+pub const KINDS_AT: usize = 1_924;
+
+pub const ORDERS_AT: usize = 9_604;
+
+pub const CODES: usize = 10_628;
 
 // The forms of rows.
 pub const UNUSED_FORM: u32 = 0;
@@ -62,16 +79,16 @@ pub const FRESH_CODE: u32 = 0;
 pub const ONWARD_CODE: u32 = 1;
 
 // Tones: muted, or sounding.
-pub const MUTED_CODE: u8 = 0;
+pub const MUTED_CODE: u16 = 0;
 
-pub const SOUNDS_CODE: u8 = 1;
+pub const SOUNDS_CODE: u16 = 1;
 
 // Changes: the tone is muted, moved, or set.
-pub const MUTE_CODE: u8 = 0;
+pub const MUTE_CODE: u16 = 0;
 
-pub const MOVE_CODE: u8 = 1;
+pub const MOVE_CODE: u16 = 1;
 
-pub const SET_CODE: u8 = 2;
+pub const SET_CODE: u16 = 2;
 
 // A row's numbers: its form, two numbers of its own, and from where to where what belongs to it stands.
 pub struct Numbers {
@@ -117,38 +134,22 @@ pub struct Counts {
 
 impl Counts {
     // The four numbers of the counts.
-    pub fn read(counts: &[u32]) -> Counts
+    pub fn read(counts: &[u16]) -> Counts
         requires { ⌜ length (now counts) ≡ countsSize ⌝ }
         ensures { λ r. ⌜ r ≡ countsOf (now (counts .entry)) ⌝ }
     {
         Counts {
-            rows: counts[0],
-            tones: counts[1],
-            changes: counts[2],
-            orders: counts[3],
+            rows: counts[0] as u32,
+            tones: counts[1] as u32,
+            changes: counts[2] as u32,
+            orders: counts[3] as u32,
         }
     }
 }
 
-// Whether every table is of full size.
-pub fn has_full_size(
-    rows: &[i32],
-    sounding: &[u8],
-    tones: &[i32],
-    kinds: &[u8],
-    changes: &[i32],
-    letters: &[u8],
-    calls: &[u16],
-    counts: &[u32],
-) -> bool
-    ensures { λ r. ⌜ r ≡ fullSize (record { rows = now (rows .entry); sounding = now (sounding .entry); tones = now (tones .entry); kinds = now (kinds .entry); changes = now (changes .entry); letters = now (letters .entry); calls = now (calls .entry); counts = now (counts .entry) }) ⌝ }
+// Whether both slices are of full size.
+pub fn has_full_size(numbers: &[i32], codes: &[u16]) -> bool
+    ensures { λ r. ⌜ r ≡ fullSize (tablesIn (now (numbers .entry)) (now (codes .entry))) ⌝ }
 {
-    (rows.len() == ROW_WIDTH * ROWS)
-        & (sounding.len() == TONES)
-        & (tones.len() == TONES)
-        & (kinds.len() == CHANGES)
-        & (changes.len() == CHANGES)
-        & (letters.len() == ORDERS)
-        & (calls.len() == ORDERS)
-        & (counts.len() == COUNTS)
+    (numbers.len() == NUMBERS) & (codes.len() == CODES)
 }

@@ -8,12 +8,19 @@ use libc::STDIN_FILENO;
 use libc::STDOUT_FILENO;
 use mutabor::read_text;
 use tables::CHANGES;
-use tables::COUNTS;
+use tables::CHANGES_AT;
+use tables::CODES;
 use tables::Counts;
+use tables::KINDS_AT;
+use tables::NUMBERS;
+use tables::ORDER_WIDTH;
 use tables::ORDERS;
+use tables::ORDERS_AT;
 use tables::ROW_WIDTH;
 use tables::ROWS;
+use tables::SOUNDING_AT;
 use tables::TONES;
+use tables::TONES_AT;
 ghost use mathlib.Core.Path.{_≡_};
 ghost use Prim.Native.Nat.{_+_, _*_, _≤_};
 ghost use lib.ListN.{length};
@@ -69,6 +76,11 @@ fn clamp(count: u32, most: usize) -> usize
     most
 }
 
+// The low byte of a code.
+fn low(n: u16) -> u8 {
+    (n % 0x100) as u8
+}
+
 fn put_two(out: &mut [u8], at: usize, n: u16)
     requires { ⌜ at ≤ 65_536 ⌝ }
 {
@@ -122,49 +134,46 @@ fn put_rows(out: &mut [u8], at: usize, rows: &[i32], count: usize) -> usize
 }
 
 // Tones or changes: each a byte and a number.
-fn put_pairs(out: &mut [u8], at: usize, kinds: &[u8], numbers: &[i32], count: usize) -> usize
+fn put_pairs(out: &mut [u8], at: usize, kinds: &[u16], numbers: &[i32], count: usize) -> usize
     requires { ⌜ (at + 5 * count ≤ 65_536) × (count ≤ length (now kinds)) × (length (now kinds) ≡ length (now numbers)) ⌝ }
     ensures { λ r. ⌜ r ≡ at + 5 * count ⌝ }
 {
     let mut i: usize = 0;
     while i < count {
-        put(out, at + PAIR_BYTES * i, kinds[i]);
+        put(out, at + PAIR_BYTES * i, low(kinds[i]));
         put_four(out, at + PAIR_BYTES * i + 1, bits_of(numbers[i]));
         i += 1;
     }
     at + PAIR_BYTES * count
 }
 
-fn put_orders(out: &mut [u8], at: usize, letters: &[u8], calls: &[u16], count: usize) -> usize
-    requires { ⌜ (at + 3 * count ≤ 65_536) × (count ≤ length (now letters)) × (length (now letters) ≡ length (now calls)) ⌝ }
+fn put_orders(out: &mut [u8], at: usize, orders: &[u16], count: usize) -> usize
+    requires { ⌜ (at + 3 * count ≤ 65_536) × (2 * count ≤ length (now orders)) ⌝ }
     ensures { λ r. ⌜ r ≡ at + 3 * count ⌝ }
 {
     let mut i: usize = 0;
     while i < count {
-        put(out, at + ORDER_BYTES * i, letters[i]);
-        put_two(out, at + ORDER_BYTES * i + 1, calls[i]);
+        let from = ORDER_WIDTH * i;
+        put(out, at + ORDER_BYTES * i, low(orders[from]));
+        put_two(out, at + ORDER_BYTES * i + 1, orders[from + 1]);
         i += 1;
     }
     at + ORDER_BYTES * count
 }
 
-fn put_tables(
-    out: &mut [u8; ROOM],
-    rows: &[i32; ROW_WIDTH * ROWS],
-    sounding: &[u8; TONES],
-    tones: &[i32; TONES],
-    kinds: &[u8; CHANGES],
-    changes: &[i32; CHANGES],
-    letters: &[u8; ORDERS],
-    calls: &[u16; ORDERS],
-    counts: &[u32; COUNTS],
-) -> usize
+fn put_tables(out: &mut [u8], numbers: &[i32], codes: &[u16]) -> usize
+    requires { ⌜ (length (now numbers) ≡ 13_120) × (length (now codes) ≡ 10_628) ⌝ }
     ensures { λ r. ⌜ r ≤ 61_525 ⌝ }
 {
-    let used = Counts::read(counts);
+    let used = Counts::read(&codes[0..SOUNDING_AT]);
     put_counts(out, used);
+    let rows = &numbers[0..TONES_AT];
     let after_rows = put_rows(out, ROWS_AT, rows, clamp(used.rows, ROWS));
+    let sounding = &codes[SOUNDING_AT..KINDS_AT];
+    let tones = &numbers[TONES_AT..CHANGES_AT];
     let after_tones = put_pairs(out, after_rows, sounding, tones, clamp(used.tones, TONES));
+    let kinds = &codes[KINDS_AT..ORDERS_AT];
+    let changes = &numbers[CHANGES_AT..NUMBERS];
     let after_changes = put_pairs(
         out,
         after_tones,
@@ -172,13 +181,8 @@ fn put_tables(
         changes,
         clamp(used.changes, CHANGES),
     );
-    put_orders(
-        out,
-        after_changes,
-        letters,
-        calls,
-        clamp(used.orders, ORDERS),
-    )
+    let orders = &codes[ORDERS_AT..CODES];
+    put_orders(out, after_changes, orders, clamp(used.orders, ORDERS))
 }
 
 fn send(out: &[u8], n: usize) -> bool
@@ -209,39 +213,13 @@ fn take_text(text: &mut [u8]) -> Next
 fn answer_text(
     text: &[u8],
     out: &mut [u8; ROOM],
-    rows: &mut [i32; ROW_WIDTH * ROWS],
-    sounding: &mut [u8; TONES],
-    tones: &mut [i32; TONES],
-    kinds: &mut [u8; CHANGES],
-    changes: &mut [i32; CHANGES],
-    letters: &mut [u8; ORDERS],
-    calls: &mut [u16; ORDERS],
-    counts: &mut [u32; COUNTS],
+    numbers: &mut [i32; NUMBERS],
+    codes: &mut [u16; CODES],
 ) -> bool {
-    let reading = read_text(
-        text,
-        rows,
-        sounding,
-        tones,
-        kinds,
-        changes,
-        letters,
-        calls,
-        counts,
-    );
+    let reading = read_text(text, numbers, codes);
     put(out, 0, reading.number);
     put_four(out, PLACE_AT, reading.place);
-    let end = put_tables(
-        out,
-        rows,
-        sounding,
-        tones,
-        kinds,
-        changes,
-        letters,
-        calls,
-        counts,
-    );
+    let end = put_tables(out, numbers, codes);
     send(out, end)
 }
 
@@ -249,32 +227,15 @@ fn answer_text(
 fn main() {
     let mut text = io::large_buffer();
     let mut out = io::large_buffer();
-    let mut rows = [0i32; ROW_WIDTH * ROWS];
-    let mut sounding = [0u8; TONES];
-    let mut tones = [0i32; TONES];
-    let mut kinds = [0u8; CHANGES];
-    let mut changes = [0i32; CHANGES];
-    let mut letters = [0u8; ORDERS];
-    let mut calls = [0u16; ORDERS];
-    let mut counts = [0u32; COUNTS];
+    let mut numbers = [0i32; NUMBERS];
+    let mut codes = [0u16; CODES];
     let mut left = u64::MAX;
     while 0 < left {
         let next = take_text(&mut text);
         let Next::Text(n) = next else {
             return;
         };
-        if !answer_text(
-            &text[..n],
-            &mut out,
-            &mut rows,
-            &mut sounding,
-            &mut tones,
-            &mut kinds,
-            &mut changes,
-            &mut letters,
-            &mut calls,
-            &mut counts,
-        ) {
+        if !answer_text(&text[..n], &mut out, &mut numbers, &mut codes) {
             return;
         }
         left -= 1;

@@ -23,9 +23,10 @@ use Rattle.tables.specs.declared.Counts.{Counts}
 use Rattle.tables.specs.declared.Numbers.{Numbers}
 use Rattle.tables.specs.declared.Row.{Row}
 use Rattle.tables.specs.declared.Row.the-variants.{Unused, Interval, Tone, System, Retuning, Logic}
-use Rattle.tables.specs.Layout.{Tables, fullSize, used, rowCount, toneCount, changeCount, orderCount, rowWidth, mostOrders, numbers, readAt, rowOf, rowAt, tonesFrom, changesFrom, toneOf, intervalForm, toneForm, systemForm, anchorForm, widthForm, periodForm, tonesForm, logicForm, soundsCode, setCode, keptCode, freshCode, onwardCode, minusCode, divideCode}
-use Rattle.tables.specs.Values.{system, listed, Part, FieldsFit}
+use Rattle.tables.specs.Layout.{Tables, tablesIn, fullSize, used, rowCount, toneCount, changeCount, orderCount, rowWidth, mostOrders, numbers, readAt, rowOf, rowAt, tonesFrom, changesFrom, toneOf, intervalForm, toneForm, systemForm, anchorForm, widthForm, periodForm, tonesForm, logicForm, soundsCode, setCode, keptCode, freshCode, onwardCode, minusCode, divideCode}
+use Rattle.tables.specs.Values.{system, listed, Part, FieldsFit, Slices}
 use Rattle.tables.proofs.Lists.{part-length}
+use Rattle.tables.proofs.Sizes.{sizes-is, slices-of}
 use Rattle.validity.specs.Valid.{isLetter, isStart, isForm, isPart, noPart, isZero, isSum, isAmount, mostAmount, firstLetter, lastLetter, hasNaturals, rowRight, rowsRight, ordersRight, eachRight, allZero, allNought, poolRight, countsRight, validTables}
 use Rattle.validity.specs.Inner.{ValidSystem, ValidRetuning}
 use Rattle.validity.proofs.Runs.{form-right, start-some}
@@ -87,7 +88,7 @@ rows-at rows c i (suc n) j h k m =
     ]
 
 orders-at : (rows : List ℤ) (count : ℕ) (letters calls : List ℕ) (i n j : ℕ) → ordersRight rows count letters calls i n ≡ true → i ≤ j → j < i + n
-    → isForm rows count systemForm logicForm (getD calls j 0) ≡ true
+    → (isLetter (pos (getD letters j 0)) ≡ true) × (isForm rows count systemForm logicForm (getD calls j 0) ≡ true)
 unfolding ordersRight
 orders-at rows count letters calls i zero j h k m = let e : ⊥ = omega arith in absurd e
 orders-at rows count letters calls i (suc n) j h k m =
@@ -98,7 +99,7 @@ orders-at rows count letters calls i (suc n) j h k m =
       | yes l ↦ orders-at rows count letters calls (suc i) n j (a .1) l (omega arith)
       | no l ↦
           let e : i ≡ j = omega arith in
-          subst (λ (x : ℕ). isForm rows count systemForm logicForm (getD calls x 0) ≡ true) e (both letter known (a .0) .1)
+          subst (λ (x : ℕ). (isLetter (pos (getD letters x 0)) ≡ true) × (isForm rows count systemForm logicForm (getD calls x 0) ≡ true)) e (both letter known (a .0))
     ]
 
 -- ---- what a row of each form has
@@ -287,8 +288,19 @@ row-valid t h i k =
 pub fields-fit : (t : Tables) → validTables t ≡ true → (i : ℕ) → i < rowCount t → FieldsFit (readAt (t .rows) i)
 fields-fit t h i k = fields (t .rows) (used t) (readAt (t .rows) i) (rows-at (t .rows) (used t) 0 (rowCount t) i (valid-of t h .rows) (omega arith) (omega arith))
 
--- an order calls a tone system, a retuning or a logic
-pub order-valid : (t : Tables) → validTables t ≡ true → (i : ℕ) → i < orderCount t → Refers t systemForm logicForm (getD (t .calls) i 0)
-order-valid t h i k =
-    refers t systemForm logicForm (getD (t .calls) i 0)
-    (orders-at (t .rows) (rowCount t) (t .letters) (t .calls) 0 (orderCount t) i (valid-of t h .orders) (omega arith) (omega arith))
+-- an order calls a tone system, a retuning or a logic, by a letter
+module _ (t : Tables) (h : validTables t ≡ true) (i : ℕ) (k : i < orderCount t) where
+  order-right : (isLetter (pos (getD (t .letters) i 0)) ≡ true) × (isForm (t .rows) (rowCount t) systemForm logicForm (getD (t .calls) i 0) ≡ true)
+  order-right = orders-at (t .rows) (rowCount t) (t .letters) (t .calls) 0 (orderCount t) i (valid-of t h .orders) (omega arith) (omega arith)
+
+  pub order-valid : Refers t systemForm logicForm (getD (t .calls) i 0)
+  order-valid = refers t systemForm logicForm (getD (t .calls) i 0) (order-right .1)
+
+  pub order-letter : getD (t .letters) i 0 ≤ lastLetter
+  order-letter =
+      let n = getD (t .letters) i 0 in
+      leb-true n lastLetter (both (leZ (pos firstLetter) (pos n)) (leZ (pos n) (pos lastLetter)) (order-right .0) .1)
+
+-- the slices of valid tables are of full size
+pub slices-valid : (numbers : List ℤ) (codes : List ℕ) → validTables (tablesIn numbers codes) ≡ true → Slices numbers codes
+slices-valid numbers codes h = slices-of numbers codes (sizes-is (tablesIn numbers codes) (valid-of (tablesIn numbers codes) h .sizes))

@@ -3,3 +3,4 @@ pub mod Sizes
 pub mod Pools
 pub mod Laws
 pub mod Laid
+pub mod Slices

@@ -2,57 +2,15 @@
 use mathlib.Core.Path.{_≡_, refl, sym, ap, _∙_}
 use mathlib.Core.Bool.{Bool, true, false, cond, _&&_}
 use Prim.Native.Nat.{_*_, _≤_}
-use borrow.Author.Tests.{eqb-true, eq-eqb, leb-true, le-leb}
-use lib.Dec.{eqb, leb}
-use lib.ListN.{length, drop}
+use borrow.Author.Tests.{leb-true, le-leb}
+use lib.Dec.{leb}
+use lib.ListN.{drop}
 use Rattle.tuning.specs.Desk.{isTone}
 use Rattle.tuning.proofs.Lists.{both}
+pub use Rattle.tables.proofs.Sizes.{Sizes, sizes-of, sizes-is}
 use Rattle.tables.specs.declared.Counts.{Counts}
 use Rattle.tables.specs.Layout.{Tables, fullSize, rowWidth, mostRows, mostTones, mostChanges, mostOrders, countsSize, used, soundsCode, setCode}
 use Rattle.validity.specs.Valid.{countsRight, rowsRight, ordersRight, allZero, allNought, poolRight, isSum, validTables}
-
-pub record Sizes (t : Tables) : Type 0 where
-  pub rows : length (t .rows) ≡ rowWidth * mostRows
-  pub sounding : length (t .sounding) ≡ mostTones
-  pub tones : length (t .tones) ≡ mostTones
-  pub kinds : length (t .kinds) ≡ mostChanges
-  pub changes : length (t .changes) ≡ mostChanges
-  pub letters : length (t .letters) ≡ mostOrders
-  pub calls : length (t .calls) ≡ mostOrders
-  pub counts : length (t .counts) ≡ countsSize
-
-pub sizes-of : (t : Tables) → fullSize t ≡ true → Sizes t
-sizes-of t h =
-    let a = both _ (eqb (length (t .counts)) countsSize) h in
-    let b = both _ (eqb (length (t .calls)) mostOrders) (a .0) in
-    let c = both _ (eqb (length (t .letters)) mostOrders) (b .0) in
-    let d = both _ (eqb (length (t .changes)) mostChanges) (c .0) in
-    let e = both _ (eqb (length (t .kinds)) mostChanges) (d .0) in
-    let f = both _ (eqb (length (t .tones)) mostTones) (e .0) in
-    let g = both (eqb (length (t .rows)) (rowWidth * mostRows)) (eqb (length (t .sounding)) mostTones) (f .0) in
-    record {
-      rows = eqb-true _ _ (g .0);
-      sounding = eqb-true _ _ (g .1);
-      tones = eqb-true _ _ (f .1);
-      kinds = eqb-true _ _ (e .1);
-      changes = eqb-true _ _ (d .1);
-      letters = eqb-true _ _ (c .1);
-      calls = eqb-true _ _ (b .1);
-      counts = eqb-true _ _ (a .1);
-    }
-
-pub sizes-is : (t : Tables) → Sizes t → fullSize t ≡ true
-sizes-is t s =
-    simp (
-      eq-eqb (length (t .rows)) (rowWidth * mostRows) (s .rows),
-      eq-eqb (length (t .sounding)) mostTones (s .sounding),
-      eq-eqb (length (t .tones)) mostTones (s .tones),
-      eq-eqb (length (t .kinds)) mostChanges (s .kinds),
-      eq-eqb (length (t .changes)) mostChanges (s .changes),
-      eq-eqb (length (t .letters)) mostOrders (s .letters),
-      eq-eqb (length (t .calls)) mostOrders (s .calls),
-      eq-eqb (length (t .counts)) countsSize (s .counts),
-    )
 
 pub record Room (c : Counts) : Type 0 where
   pub rows : c .rows ≤ mostRows

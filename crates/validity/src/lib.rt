@@ -2,24 +2,32 @@
 // numbers go many at once.
 use tables::ANCHOR_FORM;
 use tables::CHANGES;
+use tables::CHANGES_AT;
+use tables::CODES;
 use tables::Counts;
 use tables::DIVIDE_CODE;
 use tables::FRESH_CODE;
 use tables::INTERVAL_FORM;
 use tables::KEPT_CODE;
+use tables::KINDS_AT;
 use tables::LOGIC_FORM;
 use tables::MINUS_CODE;
+use tables::NUMBERS;
 use tables::Numbers;
 use tables::ONWARD_CODE;
+use tables::ORDER_WIDTH;
 use tables::ORDERS;
+use tables::ORDERS_AT;
 use tables::PERIOD_FORM;
 use tables::ROW_WIDTH;
 use tables::ROWS;
 use tables::SET_CODE;
+use tables::SOUNDING_AT;
 use tables::SOUNDS_CODE;
 use tables::SYSTEM_FORM;
 use tables::TONE_FORM;
 use tables::TONES;
+use tables::TONES_AT;
 use tables::TONES_FORM;
 use tables::WIDTH_FORM;
 use tables::decode;
@@ -32,7 +40,8 @@ ghost use Prim.Native.Nat.{_+_, _*_, _≤_};
 ghost use lib.ListN.{length, drop, take};
 ghost use lib.Seq.{slice};
 ghost use Rattle.tuning.specs.Desk.{between, isTone};
-ghost use Rattle.tables.specs.Layout.{rowWidth, readAt, intervalForm, toneForm, divideCode, soundsCode, setCode};
+ghost use Rattle.tables.specs.Layout.{tablesIn, lettersIn, callsIn, rowWidth, orderWidth, readAt, intervalForm, toneForm, divideCode, soundsCode, setCode};
+ghost use Rattle.tables.specs.Values.{Slices};
 ghost use Rattle.validity.specs.Valid.{countsRight, isZero, isSum, isAmount, isPart, noPart, isForm, isStart, rowRight, hasNaturals, rowsRight, ordersRight, eachRight, allZero, allNought, poolRight, validTables};
 
 const FARTHEST_TONE: i32 = 100_000_000;
@@ -48,9 +57,9 @@ const MOST_AMOUNT: i32 = 9_999;
 // So many zeros are tested before there is a way out.
 const BLOCK: usize = 128;
 
-const LETTER_A: u8 = b'A';
+const LETTER_A: u16 = 65;
 
-const LETTER_Z: u8 = b'Z';
+const LETTER_Z: u16 = 90;
 
 fn is_between(low: i32, high: i32, z: i32) -> bool
     ensures { λ r. ⌜ r ≡ between low high z ⌝ }
@@ -196,7 +205,7 @@ fn are_rows(rows: &[i32], used: Counts) -> bool
 }
 
 // Whether the first `used` have a kind up to `last` and a number in its range, 0 where the kind is 0.
-fn are_in_range(kinds: &[u8], numbers: &[i32], used: usize, last: u8, low: i32, high: i32) -> bool
+fn are_in_range(kinds: &[u16], numbers: &[i32], used: usize, last: u16, low: i32, high: i32) -> bool
     requires { ⌜ (used ≤ length (now kinds)) × (used ≤ length (now numbers)) ⌝ }
     ensures { λ r. ⌜ r ≡ eachRight last (between low high) (take used (now (kinds .entry))) (take used (now (numbers .entry))) ⌝ }
 {
@@ -241,22 +250,22 @@ fn are_zero_numbers(table: &[i32], from: usize) -> bool
     are_zeros(table, i, table.len() - i)
 }
 
-// Whether so many bytes from `from` on are zero.
-fn are_noughts(table: &[u8], from: usize, count: usize) -> bool
+// Whether so many codes from `from` on are zero.
+fn are_noughts(table: &[u16], from: usize, count: usize) -> bool
     requires { ⌜ from + count ≤ length (now table) ⌝ }
     ensures { λ r. ⌜ r ≡ allNought (slice from (from + count) (now (table .entry))) ⌝ }
 {
     let mut ok = true;
     let mut i: usize = 0;
     while i < count {
-        let b = table[from + i];
-        ok = ok & (b == 0);
+        let k = table[from + i];
+        ok = ok & (k == 0);
         i += 1;
     }
     ok
 }
 
-fn are_zero_bytes(table: &[u8], from: usize) -> bool
+fn are_zero_codes(table: &[u16], from: usize) -> bool
     requires { ⌜ from ≤ length (now table) ⌝ }
     ensures { λ r. ⌜ r ≡ allNought (drop from (now (table .entry))) ⌝ }
 {
@@ -270,31 +279,18 @@ fn are_zero_bytes(table: &[u8], from: usize) -> bool
     are_noughts(table, i, table.len() - i)
 }
 
-fn are_zero_calls(table: &[u16], from: usize) -> bool
-    ensures { λ r. ⌜ r ≡ allNought (drop from (now (table .entry))) ⌝ }
-{
-    let mut ok = true;
-    let mut i = from;
-    while i < table.len() {
-        let called = table[i];
-        ok = ok & (called == 0);
-        i += 1;
-    }
-    ok
-}
-
 // Whether the used ones are in their range, and the others zero.
-fn is_pool(kinds: &[u8], numbers: &[i32], used: usize, last: u8, low: i32, high: i32) -> bool
+fn is_pool(kinds: &[u16], numbers: &[i32], used: usize, last: u16, low: i32, high: i32) -> bool
     requires { ⌜ (used ≤ length (now kinds)) × (used ≤ length (now numbers)) ⌝ }
     ensures { λ r. ⌜ r ≡ poolRight last (between low high) used (now (kinds .entry)) (now (numbers .entry)) ⌝ }
 {
     let ranged = are_in_range(kinds, numbers, used, last, low, high);
-    let kinds_rest = are_zero_bytes(kinds, used);
+    let kinds_rest = are_zero_codes(kinds, used);
     let numbers_rest = are_zero_numbers(numbers, used);
     ranged & kinds_rest & numbers_rest
 }
 
-fn are_tones(sounding: &[u8], tones: &[i32], used: usize) -> bool
+fn are_tones(sounding: &[u16], tones: &[i32], used: usize) -> bool
     requires { ⌜ (used ≤ length (now sounding)) × (used ≤ length (now tones)) ⌝ }
     ensures { λ r. ⌜ r ≡ poolRight soundsCode isTone used (now (sounding .entry)) (now (tones .entry)) ⌝ }
 {
@@ -308,7 +304,7 @@ fn are_tones(sounding: &[u8], tones: &[i32], used: usize) -> bool
     )
 }
 
-fn are_changes(kinds: &[u8], changes: &[i32], used: usize) -> bool
+fn are_changes(kinds: &[u16], changes: &[i32], used: usize) -> bool
     requires { ⌜ (used ≤ length (now kinds)) × (used ≤ length (now changes)) ⌝ }
     ensures { λ r. ⌜ r ≡ poolRight setCode isSum used (now (kinds .entry)) (now (changes .entry)) ⌝ }
 {
@@ -316,15 +312,16 @@ fn are_changes(kinds: &[u8], changes: &[i32], used: usize) -> bool
 }
 
 // Whether the used orders are right.
-fn are_orders(rows: &[i32], letters: &[u8], calls: &[u16], used: Counts) -> bool
-    requires { ⌜ (used .orders ≤ length (now letters)) × (used .orders ≤ length (now calls)) ⌝ }
-    ensures { λ r. ⌜ r ≡ ordersRight (now (rows .entry)) (used .rows) (now (letters .entry)) (now (calls .entry)) 0 (used .orders) ⌝ }
+fn are_orders(rows: &[i32], orders: &[u16], used: Counts) -> bool
+    requires { ⌜ orderWidth * used .orders ≤ length (now orders) ⌝ }
+    ensures { λ r. ⌜ r ≡ ordersRight (now (rows .entry)) (used .rows) (lettersIn (now (orders .entry))) (callsIn (now (orders .entry))) 0 (used .orders) ⌝ }
 {
     let end = used.orders as usize;
     let mut i: usize = 0;
     while i < end {
-        let letter = letters[i];
-        let called = calls[i];
+        let at = ORDER_WIDTH * i;
+        let letter = orders[at];
+        let called = orders[at + 1];
         let known = is_form(rows, used.rows, SYSTEM_FORM, LOGIC_FORM, called as u32);
         let right = (LETTER_A <= letter) & (letter <= LETTER_Z) & known;
         if !right {
@@ -345,41 +342,39 @@ fn are_counts(used: Counts) -> bool
         & (used.orders <= ORDERS as u32)
 }
 
-// Whether every number of the tables is in its range, every reference within its count, and every unused place zero.
-pub fn valid_tables(
-    rows: &[i32],
-    sounding: &[u8],
-    tones: &[i32],
-    kinds: &[u8],
-    changes: &[i32],
-    letters: &[u8],
-    calls: &[u16],
-    counts: &[u32],
-) -> bool
-    ensures { λ r. ⌜ r ≡ validTables (record { rows = now (rows .entry); sounding = now (sounding .entry); tones = now (tones .entry); kinds = now (kinds .entry); changes = now (changes .entry); letters = now (letters .entry); calls = now (calls .entry); counts = now (counts .entry) }) ⌝ }
+// Whether the tables of slices of full size are valid.
+fn are_valid(numbers: &[i32], codes: &[u16]) -> bool
+    requires { ⌜ Slices (now numbers) (now codes) ⌝ }
+    ensures { λ r. ⌜ r ≡ validTables (tablesIn (now (numbers .entry)) (now (codes .entry))) ⌝ }
 {
-    if !has_full_size(
-        rows,
-        sounding,
-        tones,
-        kinds,
-        changes,
-        letters,
-        calls,
-        counts,
-    ) {
-        return false;
-    }
-    let used = Counts::read(counts);
+    let used = Counts::read(&codes[0..SOUNDING_AT]);
     if !are_counts(used) {
         return false;
     }
-    let order_count = used.orders as usize;
+    let rows = &numbers[0..TONES_AT];
+    let orders = &codes[ORDERS_AT..CODES];
     are_rows(rows, used)
         & are_zero_numbers(rows, ROW_WIDTH * used.rows as usize)
-        & are_tones(sounding, tones, used.tones as usize)
-        & are_changes(kinds, changes, used.changes as usize)
-        & are_orders(rows, letters, calls, used)
-        & are_zero_bytes(letters, order_count)
-        & are_zero_calls(calls, order_count)
+        & are_tones(
+            &codes[SOUNDING_AT..KINDS_AT],
+            &numbers[TONES_AT..CHANGES_AT],
+            used.tones as usize,
+        )
+        & are_changes(
+            &codes[KINDS_AT..ORDERS_AT],
+            &numbers[CHANGES_AT..NUMBERS],
+            used.changes as usize,
+        )
+        & are_orders(rows, orders, used)
+        & are_zero_codes(orders, ORDER_WIDTH * used.orders as usize)
+}
+
+// Whether every number of the tables is in its range, every reference within its count, and every unused place zero.
+pub fn valid_tables(numbers: &[i32], codes: &[u16]) -> bool
+    ensures { λ r. ⌜ r ≡ validTables (tablesIn (now (numbers .entry)) (now (codes .entry))) ⌝ }
+{
+    if !has_full_size(numbers, codes) {
+        return false;
+    }
+    are_valid(numbers, codes)
 }

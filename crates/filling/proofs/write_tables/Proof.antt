@@ -2,35 +2,37 @@
 use Prim.Native.Nat.{ℕ, _-_}
 use mathlib.Core.Path.{sym, _∙_, ap}
 use native.Mathlib.Omega.{arith}
-use borrow.Author.Needs.{needs}
-use lib.ListN.{length, length-replicate}
+use borrow.Rule.Slice.PartMut.{same-len-mid}
+use lib.ListN.{length}
 use Rattle.names.specs.Inner.{itemsIn}
-use Rattle.tables.specs.Layout.{Tables, countsSize}
+use Rattle.tables.specs.Layout.{tablesIn, countsSize}
+use Rattle.tables.specs.Values.{Slices}
+use Rattle.tables.proofs.Sections.{counts-back}
 use Rattle.program.specs.Program.{programOf}
 use Rattle.valuation.proofs.Ready.{ready-room}
-use Rattle.filling.specs.Inner.{valueIn}
-use Rattle.filling.proofs.Filling.{Filling, Sized}
-use Rattle.filling.proofs.Written.{written-none, written-sized, written-all, written-fits, written-next}
+use Rattle.filling.specs.Inner.{valueIn, listsOf}
+use Rattle.filling.proofs.Filling.{Filling}
+use Rattle.filling.proofs.Written.{written-none, written-few, written-all, written-fits, written-next}
+use Rattle.filling.proofs.Slices.{blank-slices}
+use borrow.Author.Needs.{needs}
 use Rattle.filling.proofs.write_tables.Statement.{statement}
 use Rattle.filling.proofs.write_tables.Tie as tie
 
 abbrev Inv-loop : tie.InvT-loop
-Inv-loop items count starts n values rows₀ sounding₀ tones₀ kinds₀ changes₀ letters₀ calls₀ counts used₀ d₀ rows sounding tones kinds changes letters calls used d =
-    Filling (valueIn values) (programOf (itemsIn count items)) d used rows
-    (record { sounding = sounding; tones = tones; kinds = kinds; changes = changes; letters = letters; calls = calls })
+Inv-loop items count starts n values numbers₀ codes₀ used₀ d₀ numbers codes used d = Slices numbers codes
+    × Filling (valueIn values) (programOf (itemsIn count items)) d used (tablesIn numbers codes .rows) (listsOf (tablesIn numbers codes))
 
 abbrev μ-loop : tie.MeasureT-loop
-μ-loop items count starts n values rows₀ sounding₀ tones₀ kinds₀ changes₀ letters₀ calls₀ counts used₀ d₀ rows sounding tones kinds changes letters calls used d =
-    n - d
+μ-loop items count starts n values numbers₀ codes₀ used₀ d₀ numbers codes used d = n - d
 
 loop-holds : tie.Need-loop-holds Inv-loop μ-loop
-loop-holds c = written-none _ _ (c .before .before .before .before .before .before .before .pre .1 .1)
+loop-holds c = (blank-slices (c .before .before .before .args .numbers .now) (c .before .before .before .args .codes .now) (c .before .before .before .pre .1 .1), written-none _ _ (c .before .before .before .pre .1 .1))
 
 mul-from : tie.Need-mul-from Inv-loop μ-loop
-mul-from c = omega (arith, ready-room (c .before .before .before .before .before .before .before .before .before .pre .0))
+mul-from c = omega (arith, ready-room (c .before .before .before .before .before .pre .0))
 
 shared-slice-read-from : tie.Need-shared-slice-read-from Inv-loop μ-loop
-shared-slice-read-from c = omega (arith, ready-room (c .before .before .before .before .before .before .before .before .before .before .pre .0))
+shared-slice-read-from c = omega (arith, ready-room (c .before .before .before .before .before .before .pre .0))
 
 cast-from : tie.Need-cast-from Inv-loop μ-loop
 cast-from c = omega (arith, c .shared-slice-known3 .given (c .before .before .loop .d))
@@ -42,85 +44,44 @@ end-of-requires : tie.Need-end-of-requires Inv-loop μ-loop
 end-of-requires c κs = search needs
 
 write-declaration-requires : tie.Need-write-declaration-requires Inv-loop μ-loop
-write-declaration-requires c κs =
-    let at-end-of = c .before .before .before .before .before .before .before in
-    let at-loop-test = at-end-of .before .before in
-    let at-loop = at-loop-test .before in
-    let start = at-loop .before .before .before .before .before .before .before .before in
-    written-fits (start .pre .0) (start .pre .1 .0) (at-loop .loop .inv) (at-loop-test .loop-test .taken) (at-end-of .end-of .ensures)
+write-declaration-requires c κs = (c .before .before .before .before .before .loop .inv .0, written-fits (c .before .before .before .before .before .before .before .before .before .pre .0) (c .before .before .before .before .before .before .before .before .before .pre .1 .0) (c .before .before .before .before .before .loop .inv .1) (c .before .before .before .before .loop-test .taken) (c .before .before .end-of .ensures))
 
 add-d : tie.Need-add-d Inv-loop μ-loop
-add-d c =
-    let at-loop-test = c .before .before .before .before .before .before .before .before .before .before .before .before .before .before .before .before .before .before .before .before .before in
-    let start = at-loop-test .before .before .before .before .before .before .before .before .before in
-    omega (arith, start .fits .n, at-loop-test .loop-test .taken)
+add-d c = omega (arith, c .before .before .before .before .before .before .before .before .before .before .before .before .before .fits .n, c .before .before .before .before .before .before .before .before .loop-test .taken)
 
 loop-less : tie.Need-loop-less Inv-loop μ-loop
 loop-less c = search needs
 
 loop-again : tie.Need-loop-again Inv-loop μ-loop
-loop-again c =
-    let at-write-declaration = c .before .before .before .before .before .before .before .before .before .before .before in
-    let at-end-of = at-write-declaration .before .before .before .before .before .before .before .before in
-    let at-loop-test = at-end-of .before .before in
-    let at-loop = at-loop-test .before in
-    let start = at-loop .before .before .before .before .before .before .before .before in
-    written-next (start .pre .0) (start .pre .1 .0) (at-loop .loop .inv) (at-loop-test .loop-test .taken) (at-end-of .end-of .ensures)
-    (at-write-declaration .write-declaration .ensures)
+loop-again c = let w = c .before .before .before .write-declaration in
+    let s = c .before .before .before .before .before .before .before .before .before .loop .inv .0 in (
+      record { all-numbers = w .kept .1 .1 .1 .1 .1 .0 ∙ s .all-numbers; all-codes = w .kept .1 .1 .1 .1 .1 .1 .0 ∙ s .all-codes },
+      written-next (c .before .before .before .before .before .before .before .before .before .before .before .before .before .pre .0) (c .before .before .before .before .before .before .before .before .before .before .before .before .before .pre .1 .0) (c .before .before .before .before .before .before .before .before .before .loop .inv .1) (c .before .before .before .before .before .before .before .before .loop-test .taken) (c .before .before .before .before .before .before .end-of .ensures) (w .ensures),
+    )
+
+sub-store-counts : tie.Need-sub-store-counts Inv-loop μ-loop
+sub-store-counts c = search needs
+
+part-store-counts-start : tie.Need-part-store-counts-start Inv-loop μ-loop
+part-store-counts-start c = search needs
+
+part-store-counts-end : tie.Need-part-store-counts-end Inv-loop μ-loop
+part-store-counts-end c = omega (arith, c .before .loop .inv .0 .all-codes)
 
 store-counts-requires : tie.Need-store-counts-requires Inv-loop μ-loop
-store-counts-requires c κs =
-    let start = c .before .before .before .before .before .before .before .before .before .before in
-    ap (λ (t : Tables). length (t .counts)) (start .pre .1 .1) ∙ length-replicate {A = ℕ} countsSize 0
-
--- every table has its full size, at the entry and now
-module _ (c : tie.After-slice-known10 Inv-loop μ-loop) where
-  abbrev start : tie.After-slice-known5 Inv-loop μ-loop
-  start = c .before .before .before .before .before .before
-
-  at-entry : let args = start .before .before .before .before .before .before .before .args in
-      Sized (args .rows .now)
-      (record { sounding = args .sounding .now; tones = args .tones .now; kinds = args .kinds .now; changes = args .changes .now; letters = args .letters .now; calls = args .calls .now })
-  at-entry =
-      let pre = start .before .before .before .before .before .before .before .pre in
-      written-sized (pre .0) (pre .1 .0) (loop-holds start)
-
-  at-exit : let last = c .before .before .before .before .before .loop in
-      Sized (last .rows) (record { sounding = last .sounding; tones = last .tones; kinds = last .kinds; changes = last .changes; letters = last .letters; calls = last .calls })
-  at-exit =
-      let pre = start .before .before .before .before .before .before .before .pre in
-      written-sized (pre .0) (pre .1 .0) (c .before .before .before .before .before .loop .inv)
+store-counts-requires c κs = (omega (arith, c .store-counts-arg .given), written-few (c .before .before .before .before .before .before .pre .0) (c .before .before .before .before .before .before .pre .1 .0) (c .before .before .loop .inv .1))
 
 same-length : tie.Need-same-length Inv-loop μ-loop
-same-length c = at-exit c .all-rows ∙ sym (at-entry c .all-rows)
+same-length c = c .before .before .before .before .before .loop .inv .0 .all-numbers ∙ sym (blank-slices (c .before .before .before .before .before .before .before .before .before .args .numbers .now) (c .before .before .before .before .before .before .before .before .before .args .codes .now) (c .before .before .before .before .before .before .before .before .before .pre .1 .1) .all-numbers)
 
 same-length-2 : tie.Need-same-length-2 Inv-loop μ-loop
-same-length-2 c = at-exit c .all-sounding ∙ sym (at-entry c .all-sounding)
-
-same-length-3 : tie.Need-same-length-3 Inv-loop μ-loop
-same-length-3 c = at-exit c .all-tones ∙ sym (at-entry c .all-tones)
-
-same-length-4 : tie.Need-same-length-4 Inv-loop μ-loop
-same-length-4 c = at-exit c .all-kinds ∙ sym (at-entry c .all-kinds)
-
-same-length-5 : tie.Need-same-length-5 Inv-loop μ-loop
-same-length-5 c = at-exit c .all-changes ∙ sym (at-entry c .all-changes)
-
-same-length-6 : tie.Need-same-length-6 Inv-loop μ-loop
-same-length-6 c = at-exit c .all-letters ∙ sym (at-entry c .all-letters)
-
-same-length-7 : tie.Need-same-length-7 Inv-loop μ-loop
-same-length-7 c = at-exit c .all-calls ∙ sym (at-entry c .all-calls)
-
-same-length-8 : tie.Need-same-length-8 Inv-loop μ-loop
-same-length-8 c = search needs
+same-length-2 c = same-len-mid 0 countsSize (c .before .before .before .before .before .loop .codes) (c .before .before .store-counts .last .0) (c .before .before .store-counts .kept .0)
+    ∙ c .before .before .before .before .before .loop .inv .0 .all-codes ∙ sym (blank-slices (c .before .before .before .before .before .before .before .before .before .args .numbers .now) (c .before .before .before .before .before .before .before .before .before .args .codes .now) (c .before .before .before .before .before .before .before .before .before .pre .1 .1) .all-codes)
 
 returns : tie.Need-returns Inv-loop μ-loop
-returns c =
-    let at-loop-test = c .before .before .before .before in
-    let at-loop = at-loop-test .before in
-    let start = at-loop .before .before .before .before .before .before .before .before in
-    written-all (start .pre .0) (start .pre .1 .0) (at-loop .loop .inv) (at-loop-test .loop-test .left) (c .before .before .store-counts .ensures)
+returns c = let told = c .before .before .store-counts .ensures in
+    counts-back (c .before .before .before .before .before .loop .inv .0) (c .before .before .store-counts .last .0) (ap length told)
+    ∙ written-all (c .before .before .before .before .before .before .before .before .before .pre .0) (c .before .before .before .before .before .before .before .before .before .pre .1 .0) (c .before .before .before .before .before .loop .inv .1) (c .before .before .before .before .loop-test .left) told
 
 pub write-tables-spec : {M : Type 1} → statement M
 write-tables-spec =
@@ -138,13 +99,10 @@ write-tables-spec =
     add-d
     loop-less
     loop-again
+    sub-store-counts
+    part-store-counts-start
+    part-store-counts-end
     store-counts-requires
     same-length
     same-length-2
-    same-length-3
-    same-length-4
-    same-length-5
-    same-length-6
-    same-length-7
-    same-length-8
     returns)

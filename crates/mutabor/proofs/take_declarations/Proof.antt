@@ -4,91 +4,48 @@ use Rattle.mutabor.proofs.Valuing.{circular-within, beyond-within, valu
 use borrow.Author.Needs.{needs}
 use Rattle.mutabor.proofs.take_declarations.Statement.{statement}
 use Rattle.mutabor.proofs.take_declarations.Tie as tie
-use Rattle.mutabor.proofs.take_declarations.Reads as reads
-use Rattle.mutabor.proofs.take_declarations.Lts as lts
-use Rattle.mutabor.proofs.place_of.Reads as place-of-reads
-use Rattle.filling.proofs.write_tables.Reads as write-tables-reads
-use Rattle.valuation.proofs.value_declarations.Reads as value-declarations-reads
 
--- src/lib.rt:126:63
 slice-aggregate-value-declarations : tie.Need-slice-aggregate-value-declarations
 slice-aggregate-value-declarations c = search needs
 
--- src/lib.rt:126:9
 value-declarations-requires : tie.Need-value-declarations-requires
 value-declarations-requires c κs = search needs
 
--- src/lib.rt:128:27
 enum-known-outcome : tie.Need-enum-known-outcome
 enum-known-outcome c = search needs
 
--- src/lib.rt:130:20
 place-of-requires : tie.Need-place-of-requires
-place-of-requires c κs = (c .before .before .before .before .before .before .before .before .before .before .before .before .before .pre .0, circular-within (c .before .before .before .before .before .before .before .before .before .before .before .before .before .pre .0) (c .before .before .before .before .value-declarations .ensures) (c .before .outcome .given .1))
+place-of-requires c κs = (c .before .before .before .before .before .before .before .before .before .pre .0, circular-within (c .before .before .before .before .before .before .before .before .before .pre .0) (c .before .before .before .before .value-declarations .ensures) (c .before .outcome .given .1))
 
--- src/lib.rt:132:29
 enum-known-outcome-2 : tie.Need-enum-known-outcome-2
 enum-known-outcome-2 c = search needs
 
--- src/lib.rt:134:20
 place-of-requires-2 : tie.Need-place-of-requires-2
-place-of-requires-2 c κs = (c .before .before .before .before .before .before .before .before .before .before .before .before .before .pre .0, beyond-within (c .before .before .before .before .before .before .before .before .before .before .before .before .before .pre .0) (c .before .before .before .before .value-declarations .ensures) (c .before .outcome2 .given .1))
+place-of-requires-2 c κs = (c .before .before .before .before .before .before .before .before .before .pre .0, beyond-within (c .before .before .before .before .before .before .before .before .before .pre .0) (c .before .before .before .before .value-declarations .ensures) (c .before .outcome2 .given .1))
 
--- src/lib.rt:138:42
 enum-told : tie.Need-enum-told
 enum-told c = search needs
 
--- src/lib.rt:138:42
 slice-aggregate-write-tables : tie.Need-slice-aggregate-write-tables
 slice-aggregate-write-tables c = search needs
 
--- src/lib.rt:137:13
 write-tables-requires : tie.Need-write-tables-requires
-write-tables-requires c κs = (c .before .before .before .before .before .before .before .before .before .before .before .before .before .before .before .before .before .before .before .before .before .pre .0, (values-known (c .before .before .before .before .before .before .before .before .before .before .before .before .before .before .before .before .before .before .before .before .before .pre .0) (c .before .before .before .before .before .before .before .before .before .before .before .before .value-declarations .ensures) (c .before .before .before .before .before .before .before .before .before .enum-told .given .1) (c .before .before .before .before .before .before .before .before .before .before .before .before .value-declarations .kept .1 .1 .1 .1 .0), c .before .before .before .before .before .before .before .before .before .before .before .before .before .before .before .before .before .before .before .before .before .pre .1))
+write-tables-requires c κs = (c .before .before .before .before .before .before .before .before .before .before .before .pre .0, (values-known (c .before .before .before .before .before .before .before .before .before .before .before .pre .0) (c .before .before .before .before .before .before .value-declarations .ensures) (c .before .before .before .enum-told .given .1) (c .before .before .before .before .before .before .value-declarations .kept .1 .1 .1 .1 .0), c .before .before .before .before .before .before .before .before .before .before .before .pre .1))
 
--- src/lib.rt:105:1
 returns : tie.Need-returns
-returns c = circular-refused (c .before .before .before .before .before .before .before .before .before .before .before .before .before .before .pre .0) (c .before .before .before .before .before .value-declarations .ensures) (c .before .before .outcome .given .1) refl (c .place-of .ensures) (c .before .before .before .before .before .before .before .before .before .before .before .before .before .before .pre .1)
+returns c = circular-refused (c .before .before .before .before .before .before .before .before .before .before .pre .0) (c .before .before .before .before .before .value-declarations .ensures) (c .before .before .outcome .given .1) refl (c .place-of .ensures) (c .before .before .before .before .before .before .before .before .before .before .pre .1)
 
--- src/lib.rt:105:1
 returns-2 : tie.Need-returns-2
-returns-2 c = beyond-refused (c .before .before .before .before .before .before .before .before .before .before .before .before .before .before .pre .0) (c .before .before .before .before .before .value-declarations .ensures) (c .before .before .outcome2 .given .1) refl (c .place-of2 .ensures) (c .before .before .before .before .before .before .before .before .before .before .before .before .before .before .pre .1)
+returns-2 c = beyond-refused (c .before .before .before .before .before .before .before .before .before .before .pre .0) (c .before .before .before .before .before .value-declarations .ensures) (c .before .before .outcome2 .given .1) refl (c .place-of2 .ensures) (c .before .before .before .before .before .before .before .before .before .before .pre .1)
 
--- src/lib.rt:105:1
 same-length : tie.Need-same-length
 same-length c = search needs
 
--- src/lib.rt:105:1
 same-length-2 : tie.Need-same-length-2
 same-length-2 c = search needs
 
--- src/lib.rt:105:1
-same-length-3 : tie.Need-same-length-3
-same-length-3 c = search needs
-
--- src/lib.rt:105:1
-same-length-4 : tie.Need-same-length-4
-same-length-4 c = search needs
-
--- src/lib.rt:105:1
-same-length-5 : tie.Need-same-length-5
-same-length-5 c = search needs
-
--- src/lib.rt:105:1
-same-length-6 : tie.Need-same-length-6
-same-length-6 c = search needs
-
--- src/lib.rt:105:1
-same-length-7 : tie.Need-same-length-7
-same-length-7 c = search needs
-
--- src/lib.rt:105:1
-same-length-8 : tie.Need-same-length-8
-same-length-8 c = search needs
-
--- src/lib.rt:105:1
 returns-3 : tie.Need-returns-3
-returns-3 c = all-done (c .before .before .before .before .before .before .before .before .before .before .before .before .before .before .before .before .before .before .before .before .before .before .before .before .before .before .before .before .before .before .before .before .before .before .before .pre .0) (c .before .before .before .before .before .before .before .before .before .before .before .before .before .before .before .before .before .before .before .before .before .before .before .before .before .before .value-declarations .ensures) (c .before .before .before .before .before .before .before .before .before .before .before .before .before .before .before .before .before .before .before .before .before .before .before .enum-told .given .1) refl refl (c .before .before .before .before .before .before .before .before .before .before .before .before .before .write-tables .ensures)
+returns-3 c = all-done (c .before .before .before .before .before .before .before .before .before .before .before .before .before .before .before .pre .0) (c .before .before .before .before .before .before .before .before .before .before .value-declarations .ensures) (c .before .before .before .before .before .before .before .enum-told .given .1) refl refl (c .before .before .before .write-tables .ensures)
 
 pub take-declarations-spec : {M : Type 1} → statement M
 take-declarations-spec =
@@ -107,10 +64,4 @@ take-declarations-spec =
     returns-2
     same-length
     same-length-2
-    same-length-3
-    same-length-4
-    same-length-5
-    same-length-6
-    same-length-7
-    same-length-8
     returns-3)

@@ -8,78 +8,39 @@ use Rattle.mutabor.proofs.Named.{ready-now, names-resolved}
 use borrow.Author.Needs.{needs}
 use Rattle.mutabor.proofs.take_items.Statement.{statement}
 use Rattle.mutabor.proofs.take_items.Tie as tie
-use Rattle.mutabor.proofs.take_items.Reads as reads
-use Rattle.mutabor.proofs.take_items.Lts as lts
-use Rattle.mutabor.proofs.take_declarations.Reads as take-declarations-reads
-use Rattle.names.proofs.resolve_names.Reads as resolve-names-reads
 
--- src/lib.rt:171:51
 slice-aggregate-resolve-names : tie.Need-slice-aggregate-resolve-names
 slice-aggregate-resolve-names c = search needs
 
--- src/lib.rt:171:66
 slice-aggregate-resolve-names-2 : tie.Need-slice-aggregate-resolve-names-2
 slice-aggregate-resolve-names-2 c = search needs
 
--- src/lib.rt:171:9
 resolve-names-requires : tie.Need-resolve-names-requires
-resolve-names-requires c κs = (c .before .before .before .before .before .before .before .before .before .before .pre .0, (subst Declarable (c .before .before .before .before .before .before .before .before .before .before .pre .1 .0 .0) (read-declarable _), record { names = omega arith; starts = omega arith }))
+resolve-names-requires c κs = (c .before .before .before .before .before .before .pre .0, (subst Declarable (c .before .before .before .before .before .before .pre .1 .0 .0) (read-declarable _), record { names = omega arith; starts = omega arith }))
 
--- src/lib.rt:173:9
 same-length : tie.Need-same-length
 same-length c = search needs
 
--- src/lib.rt:173:9
 returns : tie.Need-returns
-returns c = names-refused _ (λ h. c .if1 .taken (c .before .before .before .before .before .before .resolve-names .ensures .number ∙ h)) (c .before .before .before .before .before .before .resolve-names .ensures .number) (c .before .before .before .before .before .before .resolve-names .ensures .place) (c .before .before .before .before .before .before .before .before .before .before .before .before .before .before .before .before .before .pre .1 .1)
+returns c = names-refused _ (λ h. c .if1 .taken (c .before .before .before .before .before .before .resolve-names .ensures .number ∙ h)) (c .before .before .before .before .before .before .resolve-names .ensures .number) (c .before .before .before .before .before .before .resolve-names .ensures .place) (c .before .before .before .before .before .before .before .before .before .before .before .before .before .pre .1 .1)
 
--- src/lib.rt:179:37
 slice-aggregate-take-declarations : tie.Need-slice-aggregate-take-declarations
 slice-aggregate-take-declarations c = search needs
 
--- src/lib.rt:179:5
 take-declarations-requires : tie.Need-take-declarations-requires
-take-declarations-requires c κs = (ready-now _ _ (c .before .before .before .before .before .before .before .before .before .before .before .before .before .before .before .before .resolve-names .ensures) (c .before .before .before .before .before .before .before .before .before .before .if1 .left) _ refl (c .before .before .before .before .before .before .before .before .before .before .before .before .before .before .before .before .before .before .before .before .before .before .before .before .before .before .before .pre .1 .0 .0) (c .before .before .before .before .before .before .before .before .before .before .before .before .before .before .before .before .before .before .before .before .before .before .before .before .before .before .before .pre .1 .0 .1) (c .before .before .before .before .before .before .before .before .before .before .before .before .before .before .before .before .resolve-names .kept .1 .0 ∙ c .before .before .before .before .before .before .before .before .before .before .before .before .before .before .before .before .before .before .before .before .before .before .before .before .before .before .before .pre .0 .size), c .before .before .before .before .before .before .before .before .before .before .before .before .before .before .before .before .before .before .before .before .before .before .before .before .before .before .before .pre .1 .1)
+take-declarations-requires c κs = (ready-now _ _ (c .before .before .before .before .before .before .before .before .before .before .resolve-names .ensures) (c .before .before .before .before .if1 .left) _ refl (c .before .before .before .before .before .before .before .before .before .before .before .before .before .before .before .before .before .pre .1 .0 .0) (c .before .before .before .before .before .before .before .before .before .before .before .before .before .before .before .before .before .pre .1 .0 .1) (c .before .before .before .before .before .before .before .before .before .before .resolve-names .kept .1 .0 ∙ c .before .before .before .before .before .before .before .before .before .before .before .before .before .before .before .before .before .pre .0 .size), c .before .before .before .before .before .before .before .before .before .before .before .before .before .before .before .before .before .pre .1 .1)
 
--- src/lib.rt:149:1
 same-length-2 : tie.Need-same-length-2
 same-length-2 c = search needs
 
--- src/lib.rt:149:1
 same-length-3 : tie.Need-same-length-3
 same-length-3 c = search needs
 
--- src/lib.rt:149:1
 same-length-4 : tie.Need-same-length-4
 same-length-4 c = search needs
 
--- src/lib.rt:149:1
-same-length-5 : tie.Need-same-length-5
-same-length-5 c = search needs
-
--- src/lib.rt:149:1
-same-length-6 : tie.Need-same-length-6
-same-length-6 c = search needs
-
--- src/lib.rt:149:1
-same-length-7 : tie.Need-same-length-7
-same-length-7 c = search needs
-
--- src/lib.rt:149:1
-same-length-8 : tie.Need-same-length-8
-same-length-8 c = search needs
-
--- src/lib.rt:149:1
-same-length-9 : tie.Need-same-length-9
-same-length-9 c = search needs
-
--- src/lib.rt:149:1
-same-length-10 : tie.Need-same-length-10
-same-length-10 c = search needs
-
--- src/lib.rt:149:1
 returns-2 : tie.Need-returns-2
-returns-2 c = names-resolved _ _ (c .before .before .before .before .before .before .before .before .before .before .before .before .before .before .before .before .before .before .before .before .before .before .before .before .before .before .before .before .before .before .resolve-names .ensures) (c .before .before .before .before .before .before .before .before .before .before .before .before .before .before .before .before .before .before .before .before .before .before .before .before .if1 .left) _ refl (c .before .before .before .before .before .before .before .before .before .before .before .before .before .before .before .before .before .before .before .before .before .before .before .before .before .before .before .before .before .before .before .before .before .before .before .before .before .before .before .before .before .pre .1 .0 .0) (c .before .before .before .before .before .before .before .before .before .before .before .before .before .before .before .before .before .before .before .before .before .before .before .before .before .before .before .before .before .before .before .before .before .before .before .before .before .before .before .before .before .pre .1 .0 .1) (c .before .before .before .before .before .before .before .before .before .before .before .before .before .before .before .before .before .before .before .before .before .before .before .before .before .before .before .before .before .before .resolve-names .kept .1 .0 ∙ c .before .before .before .before .before .before .before .before .before .before .before .before .before .before .before .before .before .before .before .before .before .before .before .before .before .before .before .before .before .before .before .before .before .before .before .before .before .before .before .before .before .pre .0 .size) (c .before .before .before .before .before .before .before .before .before .before .before .before .before .take-declarations .ensures)
+returns-2 c = names-resolved _ _ (c .before .before .before .before .before .before .before .before .before .before .before .before .before .before .resolve-names .ensures) (c .before .before .before .before .before .before .before .before .if1 .left) _ refl (c .before .before .before .before .before .before .before .before .before .before .before .before .before .before .before .before .before .before .before .before .before .pre .1 .0 .0) (c .before .before .before .before .before .before .before .before .before .before .before .before .before .before .before .before .before .before .before .before .before .pre .1 .0 .1) (c .before .before .before .before .before .before .before .before .before .before .before .before .before .before .resolve-names .kept .1 .0 ∙ c .before .before .before .before .before .before .before .before .before .before .before .before .before .before .before .before .before .before .before .before .before .pre .0 .size) (c .before .before .before .take-declarations .ensures)
 
 pub take-items-spec : {M : Type 1} → statement M
 take-items-spec =
@@ -95,10 +56,4 @@ take-items-spec =
     same-length-2
     same-length-3
     same-length-4
-    same-length-5
-    same-length-6
-    same-length-7
-    same-length-8
-    same-length-9
-    same-length-10
     returns-2)

@@ -1,8 +1,8 @@
 -- `protocol::answer` meets its contract, one test after the other. Assumes nothing.
 use mathlib.Core.Path.{sym, _∙_}
-use borrow.Author.Needs.{needs}
 use borrow.Author.Tests.{not-true, not-false}
 use Rattle.protocol.proofs.Ways.{gives, refusal, desk-ready, too-small, damaged, taken}
+use borrow.Author.Needs.{needs}
 use Rattle.protocol.proofs.answer.Statement.{statement}
 use Rattle.protocol.proofs.answer.Tie as tie
 
@@ -19,24 +19,16 @@ refuse-requires-2 : tie.Need-refuse-requires-2
 refuse-requires-2 c κs = search needs
 
 returns-2 : tie.Need-returns-2
-returns-2 c =
-    let tested = c .before .before in
-    gives (damaged _ _ _ _ (tested .before .if1 .left) (tested .is-valid .ensures) (not-true _ (c .before .if2 .taken))) (refusal _ (c .refuse2 .ensures))
+returns-2 c = gives (damaged _ _ _ _ (c .before .before .before .if1 .left) (c .before .before .is-valid .ensures) (not-true _ (c .before .if2 .taken))) (refusal _ (c .refuse2 .ensures))
 
 take-frame-requires : tie.Need-take-frame-requires
-take-frame-requires c κs =
-    let tested = c .before .before in
-    desk-ready _ _ _ (sym (tested .is-valid .ensures) ∙ not-false _ (c .before .if2 .left)) (tested .before .if1 .left)
+take-frame-requires c κs = desk-ready _ _ _ (sym (c .before .before .is-valid .ensures) ∙ not-false _ (c .before .if2 .left)) (c .before .before .before .if1 .left)
 
 same-length : tie.Need-same-length
 same-length c = search needs
 
 returns-3 : tie.Need-returns-3
-returns-3 c =
-    let written = c .before .before in
-    let passed = written .before .before in
-    let tested = passed .before in
-    gives (taken _ _ _ _ (tested .before .if1 .left) (tested .is-valid .ensures) (not-false _ (passed .if2 .left))) (written .take-frame .ensures)
+returns-3 c = gives (taken _ _ _ _ (c .before .before .before .before .before .before .if1 .left) (c .before .before .before .before .before .is-valid .ensures) (not-false _ (c .before .before .before .before .if2 .left))) (c .before .before .take-frame .ensures)
 
 pub answer-spec : {M : Type 1} → statement M
 answer-spec =

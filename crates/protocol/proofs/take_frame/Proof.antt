@@ -1,6 +1,6 @@
 -- `protocol::take_frame` meets its contract, by the frame's kind. Assumes nothing.
-use borrow.Author.Needs.{needs}
 use Rattle.protocol.proofs.Ways.{gives, key-inside, on-bad, on-letter, on-key, on-dump}
+use borrow.Author.Needs.{needs}
 use Rattle.protocol.proofs.take_frame.Statement.{statement}
 use Rattle.protocol.proofs.take_frame.Tie as tie
 
@@ -23,11 +23,7 @@ enum-known-house-2 : tie.Need-enum-known-house-2
 enum-known-house-2 c = search needs
 
 answer-key-requires : tie.Need-answer-key-requires
-answer-key-requires c κs =
-    let known = c .before .before in
-    let decoded = known .before .before in
-    let a = decoded .before .before .before .before .before .before .before .before in
-    (a .pre .state, a .pre .room, key-inside _ _ (known .house2 .given .1) (decoded .decode .ensures .1))
+answer-key-requires c κs = (c .before .before .before .before .before .before .before .before .pre .state, c .before .before .before .before .before .before .before .before .pre .room, key-inside _ _ (c .before .before .house2 .given .1) (c .before .before .before .before .decode .ensures .1))
 
 enum-known-house-3 : tie.Need-enum-known-house-3
 enum-known-house-3 c = search needs
@@ -39,37 +35,25 @@ same-length : tie.Need-same-length
 same-length c = search needs
 
 returns : tie.Need-returns
-returns c =
-    let written = c .before .before in
-    let known = written .before .before in
-    gives (on-bad _ _ _ (known .before .before .decode .ensures .0) (known .enum-told .given .1)) (written .answer-bad .ensures)
+returns c = gives (on-bad _ _ _ (c .before .before .before .before .before .before .decode .ensures .0) (c .before .before .before .before .enum-told .given .1)) (c .before .before .answer-bad .ensures)
 
 same-length-2 : tie.Need-same-length-2
 same-length-2 c = search needs
 
 returns-2 : tie.Need-returns-2
-returns-2 c =
-    let written = c .before .before in
-    let known = written .before .before .before in
-    gives (on-letter _ _ _ (known .before .before .decode .ensures .0) _ _ (known .house .given .1)) (written .answer-letter .ensures)
+returns-2 c = gives (on-letter _ _ _ (c .before .before .before .before .before .before .before .decode .ensures .0) _ _ (c .before .before .before .before .before .house .given .1)) (c .before .before .answer-letter .ensures)
 
 same-length-3 : tie.Need-same-length-3
 same-length-3 c = search needs
 
 returns-3 : tie.Need-returns-3
-returns-3 c =
-    let written = c .before .before in
-    let known = written .before .before .before in
-    gives (on-key _ _ _ (known .before .before .decode .ensures .0) _ _ (known .house2 .given .1)) (written .answer-key .ensures)
+returns-3 c = gives (on-key _ _ _ (c .before .before .before .before .before .before .before .decode .ensures .0) _ _ (c .before .before .before .before .before .house2 .given .1)) (c .before .before .answer-key .ensures)
 
 same-length-4 : tie.Need-same-length-4
 same-length-4 c = search needs
 
 returns-4 : tie.Need-returns-4
-returns-4 c =
-    let written = c .before .before in
-    let known = written .before .before .before in
-    gives (on-dump _ _ _ (known .before .before .decode .ensures .0) _ (known .house3 .given .1)) (written .answer-dump .ensures)
+returns-4 c = gives (on-dump _ _ _ (c .before .before .before .before .before .before .before .decode .ensures .0) _ (c .before .before .before .before .before .house3 .given .1)) (c .before .before .answer-dump .ensures)
 
 pub take-frame-spec : {M : Type 1} → statement M
 take-frame-spec =

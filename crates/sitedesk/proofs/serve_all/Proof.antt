@@ -10,11 +10,11 @@ use Rattle.sitedesk.proofs.serve_all.Statement.{statement}
 use Rattle.sitedesk.proofs.serve_all.Tie as tie
 
 abbrev Inv-loop : tie.InvT-loop
-Inv-loop rows sounding tones kinds changes letters calls counts desk₀ held₀ count₀ chunk₀ out₀ turns₀ desk held count chunk out turns =
+Inv-loop numbers codes desk₀ held₀ count₀ chunk₀ out₀ turns₀ desk held count chunk out turns =
     (count ≤ enough) × (length held ≡ enough) × (length chunk ≡ length chunk₀) × (length out ≡ length out₀)
 
 abbrev μ-loop : tie.MeasureT-loop
-μ-loop rows sounding tones kinds changes letters calls counts desk₀ held₀ count₀ chunk₀ out₀ turns₀ desk held count chunk out turns =
+μ-loop numbers codes desk₀ held₀ count₀ chunk₀ out₀ turns₀ desk held count chunk out turns =
     turns
 
 start-requires : tie.Need-start-requires Inv-loop μ-loop

@@ -4,6 +4,7 @@ use Prim.Native.Nat.{_≤_, _-_}
 use native.Mathlib.Omega.{arith}
 use lib.ListN.{length, take, drop}
 use lib.Seq.{length-take-le}
+use Rattle.tables.specs.Layout.{tablesIn}
 use Rattle.frames.specs.Frames.{enough}
 use Rattle.sitedesk.specs.Serving.{Came}
 use Rattle.sitedesk.proofs.Ways.{not-both, not-begun, further, arrived}
@@ -12,13 +13,13 @@ use Rattle.sitedesk.proofs.serve_chunk.Statement.{statement}
 use Rattle.sitedesk.proofs.serve_chunk.Tie as tie
 
 abbrev Inv-loop : tie.InvT-loop
-Inv-loop rows sounding tones kinds changes letters calls counts held₀ count chunk out₀ d₀ n₀ i₀ held out d n i =
+Inv-loop numbers codes held₀ count chunk out₀ d₀ n₀ i₀ held out d n i =
     (n ≤ enough) × (length held ≡ length held₀) × (length out ≡ length out₀) × (i ≤ length chunk)
-    × Came (record { rows = rows; sounding = sounding; tones = tones; kinds = kinds; changes = changes; letters = letters; calls = calls; counts = counts })
+    × Came (tablesIn numbers codes)
     d₀ (take n₀ held₀) chunk d (take n held) (drop i chunk)
 
 abbrev μ-loop : tie.MeasureT-loop
-μ-loop rows sounding tones kinds changes letters calls counts held₀ count chunk out₀ d₀ n₀ i₀ held out d n i =
+μ-loop numbers codes held₀ count chunk out₀ d₀ n₀ i₀ held out d n i =
     length chunk - i
 
 loop-holds : tie.Need-loop-holds Inv-loop μ-loop
@@ -56,7 +57,7 @@ loop-less c =
     let filled = c .before .before .before .before .before .before .before .before in
     let tested = filled .before .before .before in
     let begun = tested .before in
-    let room = begun .before .before .before .before .before .before .before .before .before .pre in
+    let room = begun .before .before .before .before .before .pre in
     let onward = filled .fill .ensures .1 .0 (omega (arith, room, begun .loop .inv)) (tested .loop-test .taken) in
     omega (arith, onward, filled .fill .ensures .0, begun .loop .inv)
 
@@ -75,7 +76,7 @@ same-length-4 c = search needs
 returns-2 : tie.Need-returns-2 Inv-loop μ-loop
 returns-2 c =
     let begun = c .before in
-    let chunk = begun .before .before .before .before .before .before .before .before .before .args .chunk .now in
+    let chunk = begun .before .before .before .before .before .args .chunk .now in
     (search needs, λ e. arrived chunk (begun .loop .i) (omega (arith, begun .loop .inv, c .loop-test .left)) (begun .loop .inv .4))
 
 pub serve-chunk-spec : {M : Type 1} → statement M

@@ -9,9 +9,8 @@ use borrow.Rule.Slice.PartMut.{same-len-mid}
 use lib.ListN.{length, take, drop, length-take, length-drop}
 use lib.Seq.{length-take-le}
 use Rattle.frames.specs.Frames.{enough}
-use Rattle.tables.specs.Layout.{Tables}
+use Rattle.tables.specs.Layout.{Tables, tablesIn}
 use Rattle.protocol.specs.declared.Desk.{Desk}
-use Rattle.protocol.specs.Inner.{lent}
 use Rattle.stream.specs.Feed.{Fed, feed, SameStream}
 use Rattle.stream.proofs.Steps.{answer-fits, rest-kept, drop-more, on-line}
 use Rattle.stream.proofs.fill.Statement.{statement}
@@ -31,21 +30,19 @@ record Going (t : Tables) (start : Fed) (held₀ out₀ chunk : List ℕ) (from 
   same : SameStream t start (drop from chunk) (feed d (take n held) (take used out)) (drop i chunk)
 
 abbrev Inv-loop : tie.InvT-loop
-Inv-loop rows sounding tones kinds changes letters calls counts held₀ count chunk from out₀ d₀ n₀ i₀ used₀ held out d n i used =
-    Going (lent rows sounding tones kinds changes letters calls counts) (feed d₀ (take n₀ held₀) []) held₀ out₀ chunk i₀ held out d n i used
+Inv-loop numbers codes held₀ count chunk from out₀ d₀ n₀ i₀ used₀ held out d n i used =
+    Going (tablesIn numbers codes) (feed d₀ (take n₀ held₀) []) held₀ out₀ chunk i₀ held out d n i used
 
 abbrev μ-loop : tie.MeasureT-loop
-μ-loop rows sounding tones kinds changes letters calls counts held₀ count chunk from out₀ d₀ n₀ i₀ used₀ held out d n i used = length chunk - i
+μ-loop numbers codes held₀ count chunk from out₀ d₀ n₀ i₀ used₀ held out d n i used = length chunk - i
 
 -- where it began, the tables and the stream there, and what is left of the chunk at a place
 abbrev begun : tie.At-loop Inv-loop μ-loop → tie.Start Inv-loop μ-loop
-begun l = l .before .before .before .before .before .before .before .before .before
+begun l = l .before .before .before .before .before
 
 module _ (c : tie.Start Inv-loop μ-loop) where
   abbrev tables : Tables
-  tables =
-      let a = c .args in
-      lent (a .rows .now) (a .sounding .now) (a .tones .now) (a .kinds .now) (a .changes .now) (a .letters .now) (a .calls .now) (a .counts .now)
+  tables = tablesIn (c .args .numbers .now) (c .args .codes .now)
 
   abbrev start : Fed
   start = feed (c .args .desk) (take (c .args .count) (c .args .held .now)) []
@@ -121,11 +118,11 @@ module _ (c : tie.After-answer Inv-loop μ-loop) where
 
   -- the part of the output that was lent keeps its length
   abbrev written : List ℕ
-  written = c .answer .last .1 .1 .1 .1 .1 .1 .1 .1 .1 .1 .0
+  written = c .answer .last .1 .1 .1 .1 .0
 
   kept-length : length written
       ≡ length (take (length (turn line .loop .out) - turn line .loop .used) (drop (turn line .loop .used) (turn line .loop .out)))
-  kept-length = c .answer .kept .1 .1 .1 .1 .1 .1 .1 .1 .1 .1 .0
+  kept-length = c .answer .kept .1 .1 .1 .1 .0
 
   answer-within : turn line .loop .used + c .answer .result .length ≤ length (turn line .loop .out)
   answer-within =

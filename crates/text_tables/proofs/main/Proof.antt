@@ -16,11 +16,11 @@ text-within : (r : Next) (n : ℕ) (l : List ℕ) → r ≡ Text n → Within r 
 text-within r n l e w = subst (λ (x : Next). Within x l) e w
 
 abbrev Inv-loop : tie.InvT-loop
-Inv-loop text₀ out₀ rows₀ sounding₀ tones₀ kinds₀ changes₀ letters₀ calls₀ counts₀ left₀ text out rows sounding tones kinds changes letters calls counts left =
+Inv-loop text₀ out₀ numbers₀ codes₀ left₀ text out numbers codes left =
     length text ≡ length text₀
 
 abbrev μ-loop : tie.MeasureT-loop
-μ-loop text₀ out₀ rows₀ sounding₀ tones₀ kinds₀ changes₀ letters₀ calls₀ counts₀ left₀ text out rows sounding tones kinds changes letters calls counts left =
+μ-loop text₀ out₀ numbers₀ codes₀ left₀ text out numbers codes left =
     left
 
 large-buffer-requires : tie.Need-large-buffer-requires Inv-loop μ-loop

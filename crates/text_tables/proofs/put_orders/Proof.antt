@@ -7,13 +7,16 @@ use Rattle.text_tables.proofs.put_orders.Statement.{statement}
 use Rattle.text_tables.proofs.put_orders.Tie as tie
 
 abbrev Inv-loop : tie.InvT-loop
-Inv-loop out₀ at letters calls count i₀ out i = length out ≡ length out₀
+Inv-loop out₀ at orders count i₀ out i = length out ≡ length out₀
 
 abbrev μ-loop : tie.MeasureT-loop
-μ-loop out₀ at letters calls count i₀ out i = count - i
+μ-loop out₀ at orders count i₀ out i = count - i
 
 loop-holds : tie.Need-loop-holds Inv-loop μ-loop
 loop-holds c = search needs
+
+mul-from : tie.Need-mul-from Inv-loop μ-loop
+mul-from c = search needs
 
 mul-put : tie.Need-mul-put Inv-loop μ-loop
 mul-put c = search needs
@@ -21,8 +24,14 @@ mul-put c = search needs
 add-put : tie.Need-add-put Inv-loop μ-loop
 add-put c = search needs
 
-shared-slice-read-put : tie.Need-shared-slice-read-put Inv-loop μ-loop
-shared-slice-read-put c = search needs
+mul-low : tie.Need-mul-low Inv-loop μ-loop
+mul-low c = search needs
+
+shared-slice-read-low : tie.Need-shared-slice-read-low Inv-loop μ-loop
+shared-slice-read-low c = search needs
+
+low-requires : tie.Need-low-requires Inv-loop μ-loop
+low-requires c κs = search needs
 
 put-requires : tie.Need-put-requires Inv-loop μ-loop
 put-requires c κs = search needs
@@ -35,6 +44,9 @@ add-put-two c = search needs
 
 add-put-two-2 : tie.Need-add-put-two-2 Inv-loop μ-loop
 add-put-two-2 c = search needs
+
+add-put-two-3 : tie.Need-add-put-two-3 Inv-loop μ-loop
+add-put-two-3 c = search needs
 
 mul-put-two-2 : tie.Need-mul-put-two-2 Inv-loop μ-loop
 mul-put-two-2 c = search needs
@@ -73,13 +85,17 @@ put-orders-spec =
     Inv-loop
     μ-loop
     loop-holds
+    mul-from
     mul-put
     add-put
-    shared-slice-read-put
+    mul-low
+    shared-slice-read-low
+    low-requires
     put-requires
     mul-put-two
     add-put-two
     add-put-two-2
+    add-put-two-3
     mul-put-two-2
     shared-slice-read-put-two
     put-two-requires

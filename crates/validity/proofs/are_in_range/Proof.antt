@@ -28,6 +28,9 @@ abbrev μ-loop : tie.MeasureT-loop
 loop-holds : tie.Need-loop-holds Inv-loop μ-loop
 loop-holds c = (omega arith, refl)
 
+mul-k : tie.Need-mul-k Inv-loop μ-loop
+mul-k c = search needs
+
 shared-slice-read-k : tie.Need-shared-slice-read-k Inv-loop μ-loop
 shared-slice-read-k c = search needs
 
@@ -67,6 +70,7 @@ are-in-range-spec =
     Inv-loop
     μ-loop
     loop-holds
+    mul-k
     shared-slice-read-k
     mul-z
     shared-slice-copy-out-z

@@ -22,11 +22,14 @@ loop-holds c =
     let a = c .args in
     (omega arith, ap (λ n. allNought (slice n (a .from + a .count) (a .table .now))) (add-zero (a .from)))
 
-add-b : tie.Need-add-b Inv-loop μ-loop
-add-b c = search needs
+add-k : tie.Need-add-k Inv-loop μ-loop
+add-k c = search needs
 
-shared-slice-read-b : tie.Need-shared-slice-read-b Inv-loop μ-loop
-shared-slice-read-b c = search needs
+mul-k : tie.Need-mul-k Inv-loop μ-loop
+mul-k c = search needs
+
+shared-slice-read-k : tie.Need-shared-slice-read-k Inv-loop μ-loop
+shared-slice-read-k c = search needs
 
 add-i : tie.Need-add-i Inv-loop μ-loop
 add-i c = search needs
@@ -55,8 +58,9 @@ are-noughts-spec =
     Inv-loop
     μ-loop
     loop-holds
-    add-b
-    shared-slice-read-b
+    add-k
+    mul-k
+    shared-slice-read-k
     add-i
     loop-less
     loop-again

@@ -1,35 +1,43 @@
 -- `validity::are_orders` meets its contract. The loop's invariant: what is left gives the answer. Assumes nothing.
 use mathlib.Core.Bool.{Bool, true, false, _&&_}
-use mathlib.Core.Path.{_≡_, sym, ap, _∙_, subst}
-use Prim.Native.Nat.{_-_, _≤_}
+use mathlib.Core.Path.{_≡_, sym, ap, _∙_}
+use Prim.Native.Nat.{ℕ, _-_, _*_, _≤_, _+_}
 use native.Mathlib.Nat.{sub-zero}
 use native.Mathlib.Omega.{arith}
-use borrow.Author.Needs.{needs}
 use borrow.Author.Tests.{not-true, not-false}
-use lib.IntN.{pos}
-use lib.ListN.{getD}
+use Rattle.tables.specs.Layout.{orderWidth, lettersIn, callsIn}
 use Rattle.validity.proofs.Runs.{order-wrong, orders-turn, orders-end}
-use Rattle.validity.specs.Valid.{isLetter, ordersRight}
+use Rattle.validity.proofs.Slices.{order-told}
+use Rattle.validity.specs.Valid.{ordersRight}
+use borrow.Author.Needs.{needs}
 use Rattle.validity.proofs.are_orders.Statement.{statement}
 use Rattle.validity.proofs.are_orders.Tie as tie
 
 abbrev Inv-loop : tie.InvT-loop
-Inv-loop rows letters calls used end i₀ i =
-    (i ≤ used .orders) × (ordersRight rows (used .rows) letters calls i (used .orders - i) ≡ ordersRight rows (used .rows) letters calls 0 (used .orders))
+Inv-loop rows orders used end i₀ i = (i ≤ used .orders)
+    × (ordersRight rows (used .rows) (lettersIn orders) (callsIn orders) i (used .orders - i) ≡ ordersRight rows (used .rows) (lettersIn orders) (callsIn orders) 0 (used .orders))
 
 abbrev μ-loop : tie.MeasureT-loop
-μ-loop rows letters calls used end i₀ i = used .orders - i
+μ-loop rows orders used end i₀ i = used .orders - i
 
 cast-end : tie.Need-cast-end Inv-loop μ-loop
 cast-end c = search needs
 
 loop-holds : tie.Need-loop-holds Inv-loop μ-loop
-loop-holds c =
-    let a = c .before .before .before .args in
-    (omega arith, ap (ordersRight (a .rows .now) (a .used .rows) (a .letters .now) (a .calls .now) 0) (sub-zero (a .used .orders)))
+loop-holds c = let a = c .before .before .args in
+    (omega arith, ap (ordersRight (a .rows .now) (a .used .rows) (lettersIn (a .orders .now)) (callsIn (a .orders .now)) 0) (sub-zero (a .used .orders)))
+
+mul-at : tie.Need-mul-at Inv-loop μ-loop
+mul-at c = search needs
+
+mul-letter : tie.Need-mul-letter Inv-loop μ-loop
+mul-letter c = search needs
 
 shared-slice-read-letter : tie.Need-shared-slice-read-letter Inv-loop μ-loop
 shared-slice-read-letter c = search needs
+
+add-called : tie.Need-add-called Inv-loop μ-loop
+add-called c = search needs
 
 mul-called : tie.Need-mul-called Inv-loop μ-loop
 mul-called c = search needs
@@ -38,17 +46,17 @@ shared-slice-read-called : tie.Need-shared-slice-read-called Inv-loop μ-loop
 shared-slice-read-called c = search needs
 
 cast-is-form : tie.Need-cast-is-form Inv-loop μ-loop
-cast-is-form c = omega (arith, c .shared-slice-known4 .given (c .before .before .before .loop .i))
+cast-is-form c = omega (arith, c .shared-slice-known3 .given (orderWidth * c .before .before .before .loop .i + 1))
 
 is-form-requires : tie.Need-is-form-requires Inv-loop μ-loop
 is-form-requires c κs = search needs
 
 returns : tie.Need-returns Inv-loop μ-loop
-returns c =
-    let l = c .before .before .before .before .before in
-    let a = l .before .before .before .before .args in
-    let wrong = subst (λ b. isLetter (pos (getD (a .letters .now) (l .loop .i) 0)) && b ≡ false) (c .before .is-form .ensures) (not-true _ (c .if1 .taken)) in
-    sym (order-wrong (a .rows .now) (a .used .rows) (a .letters .now) (a .calls .now) (l .loop .i) (a .used .orders) (c .before .before .before .before .loop-test .taken) wrong) ∙ l .loop .inv .1
+returns c = let a = c .before .before .before .before .before .before .before .before .args in
+    let i = c .before .before .before .before .before .loop .i in
+    let os = a .orders .now in
+    let wrong = sym (order-told (a .rows .now) (a .used .rows) os i (c .before .is-form .ensures)) ∙ not-true _ (c .if1 .taken) in
+    sym (order-wrong (a .rows .now) (a .used .rows) (lettersIn os) (callsIn os) i (a .used .orders) (c .before .before .before .before .loop-test .taken) wrong) ∙ c .before .before .before .before .before .loop .inv .1
 
 add-i : tie.Need-add-i Inv-loop μ-loop
 add-i c = search needs
@@ -57,18 +65,17 @@ loop-less : tie.Need-loop-less Inv-loop μ-loop
 loop-less c = search needs
 
 loop-again : tie.Need-loop-again Inv-loop μ-loop
-loop-again c =
-    let l = c .before .before .before .before .before in
-    let a = l .before .before .before .before .args in
+loop-again c = let a = c .before .before .before .before .before .before .before .before .args in
+    let i = c .before .before .before .before .before .loop .i in
+    let os = a .orders .now in
     let taken = c .before .before .before .before .loop-test .taken in
-    let right = subst (λ b. isLetter (pos (getD (a .letters .now) (l .loop .i) 0)) && b ≡ true) (c .before .is-form .ensures) (not-false _ (c .if1 .left)) in
-    (omega (arith, taken), orders-turn (a .rows .now) (a .used .rows) (a .letters .now) (a .calls .now) (l .loop .i) (a .used .orders) taken right ∙ l .loop .inv .1)
+    let right = sym (order-told (a .rows .now) (a .used .rows) os i (c .before .is-form .ensures)) ∙ not-false _ (c .if1 .left) in
+    (omega (arith, taken), orders-turn (a .rows .now) (a .used .rows) (lettersIn os) (callsIn os) i (a .used .orders) taken right ∙ c .before .before .before .before .before .loop .inv .1)
 
 returns-2 : tie.Need-returns-2 Inv-loop μ-loop
-returns-2 c =
-    let l = c .before in
-    let a = l .before .before .before .before .args in
-    sym (orders-end (a .rows .now) (a .used .rows) (a .letters .now) (a .calls .now) (l .loop .i) (a .used .orders) (c .loop-test .left)) ∙ l .loop .inv .1
+returns-2 c = let a = c .before .before .before .before .args in
+    let os = a .orders .now in
+    sym (orders-end (a .rows .now) (a .used .rows) (lettersIn os) (callsIn os) (c .before .loop .i) (a .used .orders) (c .loop-test .left)) ∙ c .before .loop .inv .1
 
 pub are-orders-spec : {M : Type 1} → statement M
 are-orders-spec =
@@ -78,7 +85,10 @@ are-orders-spec =
     μ-loop
     cast-end
     loop-holds
+    mul-at
+    mul-letter
     shared-slice-read-letter
+    add-called
     mul-called
     shared-slice-read-called
     cast-is-form

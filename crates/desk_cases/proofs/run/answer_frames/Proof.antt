@@ -7,10 +7,10 @@ use Rattle.desk_cases.proofs.run.answer_frames.Statement.{statement}
 use Rattle.desk_cases.proofs.run.answer_frames.Tie as tie
 
 abbrev Inv-loop : tie.InvT-loop
-Inv-loop frames rows sounding tones kinds changes letters calls counts desk₀ from₀ desk from = Unit
+Inv-loop frames numbers codes desk₀ from₀ desk from = Unit
 
 abbrev μ-loop : tie.MeasureT-loop
-μ-loop frames rows sounding tones kinds changes letters calls counts desk₀ from₀ desk from = length frames - from
+μ-loop frames numbers codes desk₀ from₀ desk from = length frames - from
 
 start-requires : tie.Need-start-requires Inv-loop μ-loop
 start-requires c κs = search needs
@@ -34,7 +34,7 @@ answer-frame-requires : tie.Need-answer-frame-requires Inv-loop μ-loop
 answer-frame-requires c κs = search needs
 
 add-from : tie.Need-add-from Inv-loop μ-loop
-add-from c = omega (arith, c .before .before .before .before .before .before .before .before .before .before .before .before .good .0)
+add-from c = omega (arith, c .before .before .before .before .before .before .before .before .good .0)
 
 loop-less : tie.Need-loop-less Inv-loop μ-loop
 loop-less c = search needs

@@ -3,14 +3,16 @@ use Prim.Native.Nat.{_+_, _-_}
 use mathlib.Core.Path.{_≡_, refl, sym, _∙_, ap, subst}
 use mathlib.Core.List.{List, [], _∷_, map, map-id}
 use native.Mathlib.Omega.{arith}
-use borrow.Author.Needs.{needs}
 use Rattle.names.specs.Parts.{part}
+use Rattle.tables.specs.Layout.{lettersIn, callsIn}
+use Rattle.tables.proofs.Columns.{columns-length}
 use Rattle.program.specs.Program.{Order, orderThen, ordersOf}
 use Rattle.valuation.specs.Inner.{between}
 use Rattle.filling.specs.Inner.{letterOf, callOf, FitOrder, Appended}
 use Rattle.filling.proofs.Inside.{inside, no-order}
 use Rattle.filling.proofs.Items.{orders-end, orders-next}
 use Rattle.filling.proofs.Writing.{Making, making-none, making-all, making-now, making-skip, making-room, making-next, making-first-length, making-second-length}
+use borrow.Author.Needs.{needs}
 use Rattle.filling.proofs.lists.write_orders.Statement.{statement}
 use Rattle.filling.proofs.lists.write_orders.Tie as tie
 
@@ -19,14 +21,14 @@ abbrev asIs : Order → Order
 asIs x = x
 
 abbrev Inv-loop : tie.InvT-loop
-Inv-loop items from to letters₀ calls₀ at count₀ i₀ letters calls count i =
-    Making FitOrder asIs letterOf callOf (ordersOf (between items from to)) at letters₀ calls₀ (ordersOf (between items i to)) letters calls count
+Inv-loop items from to orders₀ at count₀ i₀ orders count i = Making FitOrder asIs letterOf callOf (ordersOf (between items from to)) at (lettersIn orders₀) (callsIn orders₀) (ordersOf (between items i to))
+    (lettersIn orders) (callsIn orders) count
 
 abbrev μ-loop : tie.MeasureT-loop
-μ-loop items from to letters₀ calls₀ at count₀ i₀ letters calls count i = to - i
+μ-loop items from to orders₀ at count₀ i₀ orders count i = to - i
 
 loop-holds : tie.Need-loop-holds Inv-loop μ-loop
-loop-holds c = making-none (c .before .before .before .pre .0)
+loop-holds c = making-none (c .before .before .pre .0)
 
 item-at-requires : tie.Need-item-at-requires Inv-loop μ-loop
 item-at-requires c κs = search needs
@@ -41,9 +43,7 @@ loop-less : tie.Need-loop-less Inv-loop μ-loop
 loop-less c = search needs
 
 loop-again : tie.Need-loop-again Inv-loop μ-loop
-loop-again c =
-    let at-loop = c .before .before .before in
-    making-skip (at-loop .loop .inv) (orderThen (part (c .before .item-at .result)) []) _
+loop-again c = making-skip (c .before .before .before .loop .inv) (orderThen (part (c .before .item-at .result)) []) _
     (orders-next _ _ _ (c .before .item-at .ensures) (c .before .before .loop-test .taken))
     (ap (map asIs) (sym (no-order (inside (c .before .item-at .result)) (c .match .keys2) [])))
 
@@ -52,7 +52,7 @@ module _ (c : tie.After-letter Inv-loop μ-loop) where
   abbrev present : Order
   present = record { letter = c .letter .given .0 .0; calls = c .letter .given .0 .1 .0 }
 
-  next : let args = c .before .before .before .before .before .before .before .before .args in
+  next : let args = c .before .before .before .before .before .before .before .args in
       ordersOf (between (args .items .now) (c .before .before .before .before .loop .i) (args .to))
       ≡ present ∷ ordersOf (between (args .items .now) (c .before .before .before .before .loop .i + 1) (args .to))
   next = orders-next _ _ _ (sym (c .letter .given .1) ∙ c .before .before .item-at .ensures) (c .before .before .before .loop-test .taken)
@@ -61,19 +61,17 @@ module _ (c : tie.After-letter Inv-loop μ-loop) where
   fit = making-now (c .before .before .before .before .loop .inv) (present ∷ []) _ next .0
 
 cast-store-order : tie.Need-cast-store-order Inv-loop μ-loop
-cast-store-order c = record { fits = fit (c .before .before .before) .letter }
+cast-store-order c = record { fits = fit (c .before .before) .letter }
 
 cast-store-order-2 : tie.Need-cast-store-order-2 Inv-loop μ-loop
-cast-store-order-2 c = record { fits = fit (c .before .before .before) .calls }
+cast-store-order-2 c = record { fits = fit (c .before .before) .calls }
 
 store-order-requires : tie.Need-store-order-requires Inv-loop μ-loop
 store-order-requires c κs = search needs
 
 add-count : tie.Need-add-count Inv-loop μ-loop
-add-count c =
-    let told = c .before .before .before .before .before .before .before .before in
-    let at-loop = told .before .before .before .before in
-    let room = making-room (at-loop .loop .inv) (present told ∷ []) _ (next told) refl (at-loop .before .before .before .before .pre .1) in
+add-count c = let told = (c .before .before .before .before .before) in
+    let room = making-room (c .before .before .before .before .before .before .before .before .before .loop .inv) (present told ∷ []) _ (next told) refl (c .before .before .before .before .before .before .before .before .before .before .before .before .pre .1) in
     omega (arith, room)
 
 add-i-2 : tie.Need-add-i-2 Inv-loop μ-loop
@@ -83,26 +81,19 @@ loop-less-2 : tie.Need-loop-less-2 Inv-loop μ-loop
 loop-less-2 c = search needs
 
 loop-again-2 : tie.Need-loop-again-2 Inv-loop μ-loop
-loop-again-2 c =
-    let done = c .before .before .before .before in
-    let told = done .before .before .before .before in
-    let at-loop = told .before .before .before .before in
-    making-next (at-loop .loop .inv) (present told ∷ []) _ (next told) refl (done .store-order .ensures .0) (done .store-order .ensures .1)
+loop-again-2 c = let told = (c .before .before .before .before .before) in
+    making-next (c .before .before .before .before .before .before .before .before .before .loop .inv) (present told ∷ []) _ (next told) refl (c .before .before .store-order .ensures .0) (c .before .before .store-order .ensures .1)
 
 same-length : tie.Need-same-length Inv-loop μ-loop
-same-length c = making-first-length (c .before .loop .inv)
-
-same-length-2 : tie.Need-same-length-2 Inv-loop μ-loop
-same-length-2 c = making-second-length (c .before .loop .inv)
+same-length c = let inv = c .before .loop .inv in
+    omega (arith, making-first-length inv, making-second-length inv, columns-length (c .before .loop .orders), columns-length (c .before .before .before .before .args .orders .now))
 
 returns : tie.Need-returns Inv-loop μ-loop
-returns c =
-    let args = c .before .before .before .before .before .args in
-    let at-loop = c .before in
+returns c = let os = c .before .before .before .before .args .orders .now in
     subst
-    (λ (os : List Order). Appended letterOf callOf os (args .at) (args .letters .now) (args .calls .now) (at-loop .loop .count) (at-loop .loop .letters) (at-loop .loop .calls))
+    (λ (l : List Order). Appended letterOf callOf l (c .before .before .before .before .args .at) (lettersIn os) (callsIn os) (c .before .loop .count) (lettersIn (c .before .loop .orders)) (callsIn (c .before .loop .orders)))
     (map-id _)
-    (making-all (at-loop .loop .inv) (orders-end _ _ _ (c .loop-test .left)))
+    (making-all (c .before .loop .inv) (orders-end _ _ _ (c .loop-test .left)))
 
 pub write-orders-spec : {M : Type 1} → statement M
 write-orders-spec =
@@ -124,5 +115,4 @@ write-orders-spec =
     loop-less-2
     loop-again-2
     same-length
-    same-length-2
     returns)

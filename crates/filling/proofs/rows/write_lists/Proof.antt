@@ -3,7 +3,6 @@ use mathlib.Core.Path.{_≡_, refl, sym, _∙_, ap, subst}
 use mathlib.Core.Bool.{true}
 use mathlib.Core.List.{List, _∷_}
 use Prim.Native.Nat.{_+_}
-use borrow.Author.Needs.{needs}
 use lib.IntN.{ℤ}
 use mir.Facts.{toZ-ofZ}
 use mir.Syntax.{w32}
@@ -18,32 +17,16 @@ use Rattle.filling.specs.Inner.{begins, Writable}
 use Rattle.filling.proofs.Inside.{inside}
 use Rattle.valuation.proofs.Between.{between-none}
 use Rattle.filling.proofs.Items.{item-next}
-use Rattle.filling.proofs.Forms.{Plain, as-plain, as-tones, period-form, rowed-as, system-rowed, tones-rowed, logic-rowed, period-rowed}
+use Rattle.filling.proofs.Forms.{Plain, as-plain, as-tones, period-form, period-rowed}
+use Rattle.filling.proofs.Slices.{rowed-in-as, system-in, tones-in, logic-in}
+use borrow.Author.Needs.{needs}
 use Rattle.filling.proofs.rows.write_lists.Statement.{statement}
 use Rattle.filling.proofs.rows.write_lists.Tie as tie
-
-cast-row : tie.Need-cast-row
-cast-row c = search needs
-
-read-value-requires : tie.Need-read-value-requires
-read-value-requires c κs = search needs
-
-returns : tie.Need-returns
-returns c =
-    let f : SFits w32 (c .read-value .result) = search needs in
-    let e = ap (λ (z : ℤ). Interval (record { 0 = z })) (toZ-ofZ f ∙ c .read-value .ensures) in
-    rowed-as (ap declarationOf (between-none _ _ _ (c .before .if1 .taken))) (record { row = e; lists = refl })
-
-item-at-requires : tie.Need-item-at-requires
-item-at-requires c κs = search needs
-
-is-position-requires : tie.Need-is-position-requires
-is-position-requires c κs = search needs
 
 -- the declaration by its first item
 module _ (c : tie.After-item-at) where
   abbrev start : tie.Start
-  start = c .before .before .before .before .before .before .before .before
+  start = c .before .before .before .before .before
 
   abbrev body : List Item
   body = between (start .args .items .now) (start .args .from) (start .args .to)
@@ -65,60 +48,7 @@ module _ (c : tie.After-item-at) where
 
   -- whatever it is equal to can be written
   writable : {d : Declaration} → declarationOf body ≡ d → Writable (start .args .values .now) (start .args .used) d
-  writable e = subst (λ (d : Declaration). Writable (start .args .values .now) (start .args .used) d) e (start .pre)
-
-write-tones-requires : tie.Need-write-tones-requires
-write-tones-requires c κs =
-    let tested = c .before .before in
-    let here = tested .before .before in
-    writable here (positions here (sym (tested .before .is-position .ensures) ∙ tested .if2 .taken))
-
-same-length : tie.Need-same-length
-same-length c = search needs
-
-same-length-2 : tie.Need-same-length-2
-same-length-2 c = search needs
-
-returns-2 : tie.Need-returns-2
-returns-2 c =
-    let done = c .before .before .before in
-    let tested = done .before .before .before in
-    rowed-as (positions (tested .before .before) (sym (tested .before .is-position .ensures) ∙ tested .if2 .taken))
-    (tones-rowed (done .write-tones .ensures .0) (done .write-tones .ensures .1))
-
-add-rest : tie.Need-add-rest
-add-rest c = search needs
-
-enum-known-item : tie.Need-enum-known-item
-enum-known-item c = search needs
-
-write-system-requires : tie.Need-write-system-requires
-write-system-requires c κs =
-    let told = c .before .before .before in
-    let here = told .before .before .before .before in
-    writable here (first here (told .item .given .1))
-
-enum-told : tie.Need-enum-told
-enum-told c = search needs
-
-read-period-requires : tie.Need-read-period-requires
-read-period-requires c κs = let here = c .before .before .before .before in writable here (first here (c .enum-told .given .1)) .parts
-
-enum-told-2 : tie.Need-enum-told-2
-enum-told-2 c = search needs
-
-read-period-requires-2 : tie.Need-read-period-requires-2
-read-period-requires-2 c κs = let here = c .before .before .before .before in writable here (onward here (c .enum-told2 .given .1)) .parts
-
-enum-known-item-2 : tie.Need-enum-known-item-2
-enum-known-item-2 c = search needs
-
-write-logic-requires : tie.Need-write-logic-requires
-write-logic-requires c κs =
-    let told = c .before .before .before in
-    let here = told .before .before .before .before in
-    let w = writable here (first here (told .item2 .given .1)) in
-    (w .parts, w .orders)
+  writable e = subst (λ (d : Declaration). Writable (start .args .values .now) (start .args .used) d) e (start .pre .1)
 
 -- a declaration with no list and no sum
 plain : (c : tie.At-match-keys5) → let here = c .before .before .before in
@@ -127,10 +57,116 @@ plain c =
     let here = c .before .before .before in
     as-plain _ _ (here .item-at .result) (c .match .keys5) (sym (c .before .before .is-position .ensures) ∙ c .before .if2 .left) _
 
+cast-row : tie.Need-cast-row
+cast-row c = search needs
+
+read-value-requires : tie.Need-read-value-requires
+read-value-requires c κs = search needs
+
+returns : tie.Need-returns
+returns c = let f : SFits w32 (c .read-value .result) = search needs in
+    let e = ap (λ (z : ℤ). Interval (record { 0 = z })) (toZ-ofZ f ∙ c .read-value .ensures) in
+    rowed-in-as (ap declarationOf (between-none _ _ _ (c .before .if1 .taken))) (record { rowed = record { row = e; lists = refl }; rows = refl })
+
+item-at-requires : tie.Need-item-at-requires
+item-at-requires c κs = search needs
+
+is-position-requires : tie.Need-is-position-requires
+is-position-requires c κs = search needs
+
+sub-kinds : tie.Need-sub-kinds
+sub-kinds c = search needs
+
+part-kinds-start : tie.Need-part-kinds-start
+part-kinds-start c = search needs
+
+part-kinds-end : tie.Need-part-kinds-end
+part-kinds-end c = search needs
+
+sub-changes : tie.Need-sub-changes
+sub-changes c = search needs
+
+part-changes-start : tie.Need-part-changes-start
+part-changes-start c = search needs
+
+part-changes-end : tie.Need-part-changes-end
+part-changes-end c = search needs
+
+write-tones-requires : tie.Need-write-tones-requires
+write-tones-requires c κs = let here = (c .before .before .before .before) in
+    writable here (positions here (sym (c .before .before .before .is-position .ensures) ∙ c .before .before .if2 .taken))
+
+same-length : tie.Need-same-length
+same-length c = search needs
+
+same-length-2 : tie.Need-same-length-2
+same-length-2 c = search needs
+
+returns-2 : tie.Need-returns-2
+returns-2 c = let w = c .before .before .before .write-tones in
+    rowed-in-as (positions (c .before .before .before .before .before .before .before .before) (sym (c .before .before .before .before .before .before .before .is-position .ensures) ∙ c .before .before .before .before .before .before .if2 .taken))
+    (tones-in (c .before .before .before .before .before .before .before .before .before .before .before .before .before .pre .0) (w .last .1 .1 .1 .1 .1 .0) (w .last .1 .1 .1 .1 .1 .1 .0) (w .kept .1 .1 .1 .1 .1 .0) (w .kept .1 .1 .1 .1 .1 .1 .0) (w .ensures .0) (w .ensures .1))
+
+add-rest : tie.Need-add-rest
+add-rest c = search needs
+
+enum-known-item : tie.Need-enum-known-item
+enum-known-item c = search needs
+
+sub-sounding : tie.Need-sub-sounding
+sub-sounding c = search needs
+
+part-sounding-start : tie.Need-part-sounding-start
+part-sounding-start c = search needs
+
+part-sounding-end : tie.Need-part-sounding-end
+part-sounding-end c = search needs
+
+sub-tones : tie.Need-sub-tones
+sub-tones c = search needs
+
+part-tones-start : tie.Need-part-tones-start
+part-tones-start c = search needs
+
+part-tones-end : tie.Need-part-tones-end
+part-tones-end c = search needs
+
+write-system-requires : tie.Need-write-system-requires
+write-system-requires c κs = let here = (c .before .before .before .before .before .before .before) in
+    writable here (first here (c .before .before .before .item .given .1))
+
+enum-told : tie.Need-enum-told
+enum-told c = search needs
+
+read-period-requires : tie.Need-read-period-requires
+read-period-requires c κs = let here = (c .before .before .before .before) in writable here (first here (c .enum-told .given .1)) .parts
+
+enum-told-2 : tie.Need-enum-told-2
+enum-told-2 c = search needs
+
+read-period-requires-2 : tie.Need-read-period-requires-2
+read-period-requires-2 c κs = let here = (c .before .before .before .before) in writable here (onward here (c .enum-told2 .given .1)) .parts
+
+enum-known-item-2 : tie.Need-enum-known-item-2
+enum-known-item-2 c = search needs
+
+sub-orders : tie.Need-sub-orders
+sub-orders c = search needs
+
+part-orders-start : tie.Need-part-orders-start
+part-orders-start c = search needs
+
+part-orders-end : tie.Need-part-orders-end
+part-orders-end c = search needs
+
+write-logic-requires : tie.Need-write-logic-requires
+write-logic-requires c κs = let here = (c .before .before .before .before .before .before) in
+    let w = writable here (first here (c .before .before .item2 .given .1)) in
+    (w .parts, w .orders)
+
 make-plain-requires : tie.Need-make-plain-requires
-make-plain-requires c κs =
-    let here = c .before .before .before in
-    (start here .pre .value, plain c .fit (writable here (first here refl) .parts))
+make-plain-requires c κs = let here = (c .before .before .before) in
+    (c .before .before .before .before .before .before .before .before .pre .1 .value, plain c .fit (writable here (first here refl) .parts))
 
 same-length-3 : tie.Need-same-length-3
 same-length-3 c = search needs
@@ -139,39 +175,28 @@ same-length-4 : tie.Need-same-length-4
 same-length-4 c = search needs
 
 returns-3 : tie.Need-returns-3
-returns-3 c =
-    let done = c .before .before .before in
-    let told = done .before .before .before .before in
-    rowed-as (first (told .before .before .before .before) (told .item .given .1))
-    (system-rowed (done .write-system .ensures .0) (done .write-system .ensures .1))
+returns-3 c = let w = c .before .before .before .write-system in
+    rowed-in-as (first (c .before .before .before .before .before .before .before .before .before .before .before) (c .before .before .before .before .before .before .before .item .given .1))
+    (system-in (c .before .before .before .before .before .before .before .before .before .before .before .before .before .before .before .before .pre .0) (w .last .1 .1 .1 .1 .1 .1 .0) (w .last .1 .1 .1 .1 .1 .1 .1 .0) (w .kept .1 .1 .1 .1 .1 .1 .0) (w .kept .1 .1 .1 .1 .1 .1 .1 .0) (w .ensures .0) (w .ensures .1))
 
 returns-4 : tie.Need-returns-4
-returns-4 c =
-    let here = c .before .before .before .before .before in
-    rowed-as (first here (c .before .enum-told .given .1)) (period-rowed (period-form (rest here)) (c .read-period .ensures))
+returns-4 c = let here = (c .before .before .before .before .before) in
+    rowed-in-as (first here (c .before .enum-told .given .1)) (record { rowed = period-rowed (period-form (rest here)) (c .read-period .ensures); rows = refl })
 
 returns-5 : tie.Need-returns-5
-returns-5 c =
-    let here = c .before .before .before .before .before in
-    rowed-as (onward here (c .before .enum-told2 .given .1)) (period-rowed (period-form (body here)) (c .read-period2 .ensures))
+returns-5 c = let here = (c .before .before .before .before .before) in
+    rowed-in-as (onward here (c .before .enum-told2 .given .1)) (record { rowed = period-rowed (period-form (body here)) (c .read-period2 .ensures); rows = refl })
 
 same-length-5 : tie.Need-same-length-5
 same-length-5 c = search needs
 
-same-length-6 : tie.Need-same-length-6
-same-length-6 c = search needs
-
 returns-6 : tie.Need-returns-6
-returns-6 c =
-    let done = c .before .before .before .before in
-    let told = done .before .before .before .before in
-    rowed-as (first (told .before .before .before .before) (told .item2 .given .1))
-    (logic-rowed (done .write-logic .ensures .0) (done .write-logic .ensures .1))
+returns-6 c = let w = c .before .before .write-logic in
+    rowed-in-as (first (c .before .before .before .before .before .before .before .before .before) (c .before .before .before .before .before .item2 .given .1)) (logic-in (c .before .before .before .before .before .before .before .before .before .before .before .before .before .before .pre .0) (w .last .1 .1 .1 .1 .1 .0) (w .kept .1 .1 .1 .1 .1 .0) (w .ensures .0) (w .ensures .1))
 
 returns-7 : tie.Need-returns-7
-returns-7 c =
-    let p = plain (c .before) in
-    rowed-as (first (c .before .before .before .before) refl) (record { row = c .make-plain .ensures ∙ sym (p .row); lists = sym (p .lists _) })
+returns-7 c = let p = plain (c .before) in
+    rowed-in-as (first (c .before .before .before .before) refl) (record { rowed = record { row = c .make-plain .ensures ∙ sym (p .row); lists = sym (p .lists _) }; rows = refl })
 
 pub write-lists-spec : {M : Type 1} → statement M
 write-lists-spec =
@@ -182,18 +207,33 @@ write-lists-spec =
     returns
     item-at-requires
     is-position-requires
+    sub-kinds
+    part-kinds-start
+    part-kinds-end
+    sub-changes
+    part-changes-start
+    part-changes-end
     write-tones-requires
     same-length
     same-length-2
     returns-2
     add-rest
     enum-known-item
+    sub-sounding
+    part-sounding-start
+    part-sounding-end
+    sub-tones
+    part-tones-start
+    part-tones-end
     write-system-requires
     enum-told
     read-period-requires
     enum-told-2
     read-period-requires-2
     enum-known-item-2
+    sub-orders
+    part-orders-start
+    part-orders-end
     write-logic-requires
     make-plain-requires
     same-length-3
@@ -202,6 +242,5 @@ write-lists-spec =
     returns-4
     returns-5
     same-length-5
-    same-length-6
     returns-6
     returns-7)

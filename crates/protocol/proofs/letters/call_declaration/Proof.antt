@@ -1,41 +1,34 @@
 -- `protocol::letters::call_declaration` meets its contract, by the declaration's row. Assumes nothing.
 use mathlib.Core.Path.{_≡_, sym, ap, _∙_, subst}
-use borrow.Author.Needs.{needs}
+use mathlib.Core.List.{List}
+use lib.IntN.{ℤ}
 use Rattle.tuning.specs.Tuning.{Tuning, system}
 use Rattle.tuning.specs.Desk.{cents}
 use Rattle.tuning.specs.State.{held, replied, meant, validState}
 use Rattle.tuning.specs.Inner.{allModest}
 use Rattle.tuning.specs.declared.ToneChanges.{ToneChanges}
 use Rattle.tuning.proofs.Held.{held-coded}
-use Rattle.tables.specs.declared.Row.{Row}
-use Rattle.tables.specs.Layout.{Tables}
+use Rattle.tables.specs.Layout.{tablesIn, mostChanges, changesAt, changeOf, joinedFrom}
+use Rattle.tables.specs.Values.{listed, Part}
+use Rattle.tables.proofs.Sizes.{section-last}
 use Rattle.validity.specs.Inner.{ValidSystem, ValidRetuning}
-use Rattle.protocol.specs.Inner.{forCalls, CallableRow}
-use Rattle.protocol.proofs.Calls.{call-none, call-row}
+use Rattle.protocol.proofs.Calls.{call-none, call-row, row-callable}
+use borrow.Author.Needs.{needs}
 use Rattle.protocol.proofs.letters.call_declaration.Statement.{statement}
 use Rattle.protocol.proofs.letters.call_declaration.Tie as tie
 
--- what is lent, as tables
-lent : tie.Start → Tables
-lent a = forCalls (a .args .rows .now) (a .args .sounding .now) (a .args .tones .now) (a .args .kinds .now) (a .args .changes .now)
+sub-row-at : tie.Need-sub-row-at
+sub-row-at c = search needs
 
--- the row that was read has what a call needs
-callable : (c : tie.After-row-at) {r : Row} → c .row-at .result ≡ r → CallableRow (lent (c .before .before .before)) r
-unfolding lent
-callable c e =
-    let a = c .before .before .before in
-    subst (CallableRow (lent a)) (sym (c .row-at .ensures) ∙ e) (a .pre .1 .row)
+part-row-at-start : tie.Need-part-row-at-start
+part-row-at-start c = search needs
 
-system-here : (c : tie.After-anchor)
-    → let x = c .anchor .given .0 in ValidSystem (lent (c .before .before .before .before .before)) (x .0 .0) (x .1 .0 .0) (x .1 .1 .0) (x .1 .1 .1 .0)
-system-here c = callable (c .before .before) (c .anchor .given .1)
-
-retuning-here : (c : tie.After-retuning)
-    → let x = c .retuning .given .0 in ValidRetuning (lent (c .before .before .before .before .before)) (x .0) (x .1 .0) (x .1 .1 .0)
-retuning-here c = callable (c .before .before) (c .retuning .given .1)
+part-row-at-end : tie.Need-part-row-at-end
+part-row-at-end c = search needs
 
 row-at-requires : tie.Need-row-at-requires
-row-at-requires c κs = search needs
+unfolding tablesIn
+row-at-requires c κs = c .before .before .pre .1 .1 .fields
 
 enum-known-anchor : tie.Need-enum-known-anchor
 enum-known-anchor c = search needs
@@ -46,16 +39,54 @@ cast-start c = search needs
 cast-end : tie.Need-cast-end
 cast-end c = search needs
 
+sub-sounding : tie.Need-sub-sounding
+sub-sounding c = search needs
+
+part-sounding-start : tie.Need-part-sounding-start
+part-sounding-start c = search needs
+
+part-sounding-end : tie.Need-part-sounding-end
+part-sounding-end c = search needs
+
+sub-tones : tie.Need-sub-tones
+sub-tones c = search needs
+
+part-tones-start : tie.Need-part-tones-start
+part-tones-start c = search needs
+
+part-tones-end : tie.Need-part-tones-end
+part-tones-end c = search needs
+
 system-at-requires : tie.Need-system-at-requires
-unfolding lent
-system-at-requires c κs = system-here (c .before) .part
+unfolding tablesIn
+system-at-requires c κs = let h : ValidSystem (tablesIn (c .before .before .before .before .before .before .before .before .args .numbers .now) (c .before .before .before .before .before .before .before .before .args .codes .now)) _ _ _ _ = row-callable (c .before .before .before .before .before .before .before .before .pre .1 .1) (c .before .before .before .before .before .row-at .ensures) (c .before .before .before .anchor .given .1) in
+    h .part
 
 take-system-requires : tie.Need-take-system-requires
-unfolding lent
-take-system-requires c κs = ap validState (c .system-at .ensures) ∙ system-here (c .before .before) .state
+unfolding tablesIn
+take-system-requires c κs = let h : ValidSystem (tablesIn (c .before .before .before .before .before .before .before .before .before .args .numbers .now) (c .before .before .before .before .before .before .before .before .before .args .codes .now)) _ _ _ _ = row-callable (c .before .before .before .before .before .before .before .before .before .pre .1 .1) (c .before .before .before .before .before .before .row-at .ensures) (c .before .before .before .before .anchor .given .1) in
+    ap validState (c .system-at .ensures) ∙ h .state
 
 enum-known-retuning : tie.Need-enum-known-retuning
 enum-known-retuning c = search needs
+
+sub-kinds : tie.Need-sub-kinds
+sub-kinds c = search needs
+
+part-kinds-start : tie.Need-part-kinds-start
+part-kinds-start c = search needs
+
+part-kinds-end : tie.Need-part-kinds-end
+part-kinds-end c = search needs
+
+sub-changes : tie.Need-sub-changes
+sub-changes c = search needs
+
+part-changes-start : tie.Need-part-changes-start
+part-changes-start c = search needs
+
+part-changes-end : tie.Need-part-changes-end
+part-changes-end c = search needs
 
 cast-changes-from : tie.Need-cast-changes-from
 cast-changes-from c = search needs
@@ -64,53 +95,64 @@ cast-changes-from-2 : tie.Need-cast-changes-from-2
 cast-changes-from-2 c = search needs
 
 changes-from-requires : tie.Need-changes-from-requires
-unfolding lent
-changes-from-requires c κs = retuning-here (c .before) .part
+unfolding tablesIn
+changes-from-requires c κs = let t = tablesIn (c .before .before .before .before .before .before .before .before .args .numbers .now) (c .before .before .before .before .before .before .before .before .args .codes .now) in
+    let h : ValidRetuning t _ _ _ = row-callable (c .before .before .before .before .before .before .before .before .pre .1 .1) (c .before .before .before .before .before .row-at .ensures) (c .before .before .before .retuning .given .1) in
+    subst (λ (l : List ℤ). Part (t .kinds) l (c .before .before .before .retuning .given .0 .1 .0) (c .before .before .before .retuning .given .0 .1 .1 .0)) (sym (section-last changesAt mostChanges (c .before .before .before .before .before .before .before .before .args .numbers .now) (c .before .before .before .before .before .before .before .before .pre .0 .all-numbers))) (h .part)
 
 retune-requires : tie.Need-retune-requires
-unfolding lent
-retune-requires c κs =
-    let r = retuning-here (c .before .before) in
-    (c .before .before .before .before .before .before .before .pre .0, r .modest, ap allModest (c .changes-from .ensures) ∙ r .list)
+unfolding tablesIn
+retune-requires c κs = let t = tablesIn (c .before .before .before .before .before .before .before .before .before .args .numbers .now) (c .before .before .before .before .before .before .before .before .before .args .codes .now) in
+    let h : ValidRetuning t _ _ _ = row-callable (c .before .before .before .before .before .before .before .before .before .pre .1 .1) (c .before .before .before .before .before .before .row-at .ensures) (c .before .before .before .before .retuning .given .1) in
+    let list = c .changes-from .ensures ∙ ap (λ (l : List ℤ). listed (joinedFrom changeOf (t .kinds) l (c .before .before .before .before .retuning .given .0 .1 .0) (c .before .before .before .before .retuning .given .0 .1 .1 .0))) (section-last changesAt mostChanges (c .before .before .before .before .before .before .before .before .before .args .numbers .now) (c .before .before .before .before .before .before .before .before .before .pre .0 .all-numbers)) in
+    (c .before .before .before .before .before .before .before .before .before .pre .1 .0, h .modest, ap allModest list ∙ h .list)
 
 returns : tie.Need-returns
-unfolding lent
-returns c =
-    let known = c .before .before .before in
-    let read = known .before .before in
-    let a = read .before .before .before in
+unfolding tablesIn
+returns c = let t = tablesIn (c .before .before .before .before .before .before .before .before .before .before .args .numbers .now) (c .before .before .before .before .before .before .before .before .before .before .args .codes .now) in
     c .take-system .ensures
-    ∙ ap (λ (y : Tuning cents). replied (a .args .s) (system y)) (ap held (c .before .system-at .ensures) ∙ held-coded _)
-    ∙ call-row (lent a) (a .args .s) (a .args .k) (sym (known .anchor .given .1) ∙ read .row-at .ensures)
+    ∙ ap (λ (y : Tuning cents). replied (c .before .before .before .before .before .before .before .before .before .before .args .s) (system y)) (ap held (c .before .system-at .ensures) ∙ held-coded _)
+    ∙ call-row t (c .before .before .before .before .before .before .before .before .before .before .args .s) (c .before .before .before .before .before .before .before .before .before .before .args .k) (sym (c .before .before .before .before .before .anchor .given .1) ∙ c .before .before .before .before .before .before .before .row-at .ensures)
 
 returns-2 : tie.Need-returns-2
-unfolding lent
-returns-2 c =
-    let known = c .before .before .before in
-    let read = known .before .before in
-    let a = read .before .before .before in
+unfolding tablesIn
+returns-2 c = let t = tablesIn (c .before .before .before .before .before .before .before .before .before .before .args .numbers .now) (c .before .before .before .before .before .before .before .before .before .before .args .codes .now) in
+    let list = c .before .changes-from .ensures ∙ ap (λ (l : List ℤ). listed (joinedFrom changeOf (t .kinds) l (c .before .before .before .before .before .retuning .given .0 .1 .0) (c .before .before .before .before .before .retuning .given .0 .1 .1 .0))) (section-last changesAt mostChanges (c .before .before .before .before .before .before .before .before .before .before .args .numbers .now) (c .before .before .before .before .before .before .before .before .before .before .pre .0 .all-numbers)) in
     c .retune .ensures
-    ∙ ap (λ (l : ToneChanges). replied (a .args .s) (meant (known .retuning .given .0 .0) l)) (c .before .changes-from .ensures)
-    ∙ call-row (lent a) (a .args .s) (a .args .k) (sym (known .retuning .given .1) ∙ read .row-at .ensures)
+    ∙ ap (λ (l : ToneChanges). replied (c .before .before .before .before .before .before .before .before .before .before .args .s) (meant (c .before .before .before .before .before .retuning .given .0 .0) l)) list
+    ∙ call-row t (c .before .before .before .before .before .before .before .before .before .before .args .s) (c .before .before .before .before .before .before .before .before .before .before .args .k) (sym (c .before .before .before .before .before .retuning .given .1) ∙ c .before .before .before .before .before .before .before .row-at .ensures)
 
 returns-3 : tie.Need-returns-3
-unfolding lent
-returns-3 c =
-    let read = c .before in
-    let a = read .before .before .before in
-    call-none (lent a) (a .args .s) (read .row-at .result) (c .match .keys3) ∙ call-row (lent a) (a .args .s) (a .args .k) (read .row-at .ensures)
+unfolding tablesIn
+returns-3 c = let t = tablesIn (c .before .before .before .before .args .numbers .now) (c .before .before .before .before .args .codes .now) in
+    call-none t (c .before .before .before .before .args .s) (c .before .row-at .result) (c .match .keys3) ∙ call-row t (c .before .before .before .before .args .s) (c .before .before .before .before .args .k) (c .before .row-at .ensures)
 
 pub call-declaration-spec : {M : Type 1} → statement M
 call-declaration-spec =
     tie.close
     (tie.spec
+    sub-row-at
+    part-row-at-start
+    part-row-at-end
     row-at-requires
     enum-known-anchor
     cast-start
     cast-end
+    sub-sounding
+    part-sounding-start
+    part-sounding-end
+    sub-tones
+    part-tones-start
+    part-tones-end
     system-at-requires
     take-system-requires
     enum-known-retuning
+    sub-kinds
+    part-kinds-start
+    part-kinds-end
+    sub-changes
+    part-changes-start
+    part-changes-end
     cast-changes-from
     cast-changes-from-2
     changes-from-requires

@@ -1,32 +1,45 @@
 -- `protocol::letters::gather_orders` meets its contract. The loop's invariant: with the records that are left stored, the array is the one that is
 -- asked for. Assumes nothing.
-use Prim.Native.Nat.{_-_}
+use Prim.Native.Nat.{_-_, _+_, _*_}
 use native.Mathlib.Omega.{arith}
+use Rattle.tables.specs.Layout.{orderWidth, lettersIn, callsIn}
+use Rattle.protocol.proofs.Records.{Gathering, gathering-starts, gathering-order, gathering-ends, letter-byte, codes-there}
 use borrow.Author.Needs.{needs}
-use Rattle.protocol.proofs.Records.{Gathering, gathering-starts, gathering-next, gathering-ends}
 use Rattle.protocol.proofs.letters.gather_orders.Statement.{statement}
 use Rattle.protocol.proofs.letters.gather_orders.Tie as tie
 
 abbrev Inv-loop : tie.InvT-loop
-Inv-loop rows letters calls from to all₀ i₀ all i = Gathering rows letters calls from to all i
+Inv-loop rows orders from to all₀ i₀ all i = Gathering rows (lettersIn orders) (callsIn orders) from to all i
 
 abbrev μ-loop : tie.MeasureT-loop
-μ-loop rows letters calls from to all₀ i₀ all i = to - i
+μ-loop rows orders from to all₀ i₀ all i = to - i
 
 loop-holds : tie.Need-loop-holds Inv-loop μ-loop
-loop-holds c = gathering-starts (c .before .before .pre)
+loop-holds c = gathering-starts (c .before .pre)
+
+mul-at : tie.Need-mul-at Inv-loop μ-loop
+mul-at c = omega (arith, codes-there (c .before .before .before .args .orders .now) (c .before .before .before .pre))
+
+mul-letter : tie.Need-mul-letter Inv-loop μ-loop
+mul-letter c = omega (arith, codes-there (c .before .before .before .args .orders .now) (c .before .before .before .pre))
 
 shared-slice-read-letter : tie.Need-shared-slice-read-letter Inv-loop μ-loop
-shared-slice-read-letter c = search needs
+shared-slice-read-letter c = omega (arith, codes-there (c .before .before .before .before .args .orders .now) (c .before .before .before .before .pre))
+
+cast-letter : tie.Need-cast-letter Inv-loop μ-loop
+cast-letter c = omega (arith, letter-byte (c .before .before .before .before .args .orders .now) (c .before .before .before .before .pre) (c .before .before .loop .i) (c .before .loop-test .taken))
+
+add-number : tie.Need-add-number Inv-loop μ-loop
+add-number c = omega (arith, codes-there (c .before .before .before .before .args .orders .now) (c .before .before .before .before .pre))
 
 mul-number : tie.Need-mul-number Inv-loop μ-loop
-mul-number c = search needs
+mul-number c = omega (arith, codes-there (c .before .before .before .before .args .orders .now) (c .before .before .before .before .pre))
 
 shared-slice-read-number : tie.Need-shared-slice-read-number Inv-loop μ-loop
-shared-slice-read-number c = search needs
+shared-slice-read-number c = omega (arith, codes-there (c .before .before .before .before .before .args .orders .now) (c .before .before .before .before .before .pre))
 
 cast-kind-of : tie.Need-cast-kind-of Inv-loop μ-loop
-cast-kind-of c = omega (arith, c .shared-slice-known4 .given (c .before .before .before .loop .i))
+cast-kind-of c = omega (arith, c .shared-slice-known3 .given (orderWidth * c .before .before .before .loop .i + 1))
 
 kind-of-requires : tie.Need-kind-of-requires Inv-loop μ-loop
 kind-of-requires c κs = search needs
@@ -38,7 +51,7 @@ mul-all : tie.Need-mul-all Inv-loop μ-loop
 mul-all c = search needs
 
 array-set-from-all : tie.Need-array-set-from-all Inv-loop μ-loop
-array-set-from-all c = omega (arith, c .before .before .before .before .before .before .before .pre .most)
+array-set-from-all c = omega (arith, c .before .before .before .before .before .before .pre .most)
 
 add-i : tie.Need-add-i Inv-loop μ-loop
 add-i c = search needs
@@ -47,13 +60,10 @@ loop-less : tie.Need-loop-less Inv-loop μ-loop
 loop-less c = search needs
 
 loop-again : tie.Need-loop-again Inv-loop μ-loop
-loop-again c =
-    let turn = c .before .before .before in
-    let l = turn .before in
-    gathering-next (l .before .before .before .pre) (l .loop .inv) (turn .loop-test .taken) (c .kind-of .ensures)
+loop-again c = gathering-order (c .before .before .before .before .before .before .args .orders .now) (c .before .before .before .before .before .before .pre) (c .before .before .before .before .loop .inv) (c .before .before .before .loop-test .taken) (c .kind-of .ensures)
 
 returns : tie.Need-returns Inv-loop μ-loop
-returns c = gathering-ends (c .before .before .before .before .pre) (c .before .loop .inv) (c .loop-test .left)
+returns c = gathering-ends (c .before .before .before .pre) (c .before .loop .inv) (c .loop-test .left)
 
 pub gather-orders-spec : {M : Type 1} → statement M
 gather-orders-spec =
@@ -62,7 +72,11 @@ gather-orders-spec =
     Inv-loop
     μ-loop
     loop-holds
+    mul-at
+    mul-letter
     shared-slice-read-letter
+    cast-letter
+    add-number
     mul-number
     shared-slice-read-number
     cast-kind-of

@@ -3,18 +3,16 @@ use mathlib.Core.Path.{_≡_, ap, _∙_}
 use mathlib.Core.Bool.{true}
 use mathlib.Core.List.{List}
 use Prim.Native.Nat.{ℕ}
-use borrow.Author.Needs.{needs}
 use mir.Facts.{toZ-ofZ}
 use mir.Syntax.{w32}
 use mir.Val.{SFits}
 use Rattle.integers.specs.Parts.{up}
 use Rattle.tables.specs.declared.Numbers.{Numbers}
-use Rattle.tables.specs.Layout.{readAt}
+use Rattle.tables.specs.Layout.{tablesIn}
 use Rattle.protocol.specs.declared.Active.the-variants as active
-use Rattle.protocol.specs.declared.letters.Called.{Called}
-use Rattle.protocol.specs.Letters.{startCalls, pressed}
-use Rattle.protocol.specs.Inner.{forLetters}
-use Rattle.protocol.proofs.Presses.{pressedAs, pressed-named}
+use Rattle.protocol.specs.Letters.{startCalls}
+use Rattle.protocol.proofs.Presses.{pressed-named}
+use borrow.Author.Needs.{needs}
 use Rattle.protocol.proofs.letters.press_letter.Statement.{statement}
 use Rattle.protocol.proofs.letters.press_letter.Tie as tie
 
@@ -30,6 +28,15 @@ enum-known-k c = search needs
 enum-known-k-2 : tie.Need-enum-known-k-2
 enum-known-k-2 c = search needs
 
+sub-numbers-at : tie.Need-sub-numbers-at
+sub-numbers-at c = search needs
+
+part-numbers-at-start : tie.Need-part-numbers-at-start
+part-numbers-at-start c = search needs
+
+part-numbers-at-end : tie.Need-part-numbers-at-end
+part-numbers-at-end c = search needs
+
 cast-numbers-at : tie.Need-cast-numbers-at
 cast-numbers-at c = search needs
 
@@ -42,37 +49,18 @@ natural-requires c κs = search needs
 find-start-requires : tie.Need-find-start-requires
 find-start-requires c κs = search needs
 
--- what was found comes to what the letter comes to
-pressed-here : (c : tie.After-find-called) {f : Called} → c .find-called .result ≡ f
-    → let x = c .before .before .before .args in
-    pressedAs (x .rows .now) (x .active) f ≡ pressed (forLetters (x .rows .now) (x .count) (x .letters .now) (x .calls .now)) (x .active) (x .letter)
-pressed-here c e =
-    let x = c .before .before .before .args in
-    pressed-named (forLetters (x .rows .now) (x .count) (x .letters .now) (x .calls .now)) (x .active) (x .letter) (c .find-called .ensures) e
-
-second-fits : (c : tie.After-natural) → SFits w32 (c .before .before .numbers-at .result .second)
-second-fits c = search needs
-
--- the start that was read
-start-here : (c : tie.After-natural)
-    → let known = c .before .before .before .before in
-    c .natural .result ≡ up (readAt (known .before .before .before .before .before .args .rows .now) (known .k2 .given .0 .0) .second)
-start-here c =
-    let f = second-fits c in
-    simp toZ-ofZ at (c .natural .ensures) ∙ ap (λ (n : Numbers). up (n .second)) (c .before .before .numbers-at .ensures)
-
 returns : tie.Need-returns
-returns c = pressed-here (c .before .before) (c .enum-told .given .1)
+returns c = pressed-named (tablesIn (c .before .before .before .before .args .numbers .now) (c .before .before .before .before .args .codes .now)) (c .before .before .before .before .args .active) (c .before .before .before .before .args .letter) (c .before .before .find-called .ensures) (c .enum-told .given .1)
 
 returns-2 : tie.Need-returns-2
-returns-2 c = pressed-here (c .before .before .before) (c .before .k .given .1)
+returns-2 c = pressed-named (tablesIn (c .before .before .before .before .before .args .numbers .now) (c .before .before .before .before .before .args .codes .now)) (c .before .before .before .before .before .args .active) (c .before .before .before .before .before .args .letter) (c .before .before .before .find-called .ensures) (c .before .k .given .1)
 
 returns-3 : tie.Need-returns-3
-returns-3 c =
-    let known = c .before .before .before .before .before in
-    ap (λ (l : List ℕ). record { bound = true; active = active.Logic (known .k2 .given .0 .0); calls = l })
-    (c .find-start .ensures ∙ ap startCalls (start-here (c .before)))
-    ∙ pressed-here (known .before .before) (known .k2 .given .1)
+unfolding tablesIn
+returns-3 c = let f : SFits w32 (c .before .before .before .numbers-at .result .second) = search needs in
+    let start = simp toZ-ofZ at (c .before .natural .ensures) ∙ ap (λ (n : Numbers). up (n .second)) (c .before .before .before .numbers-at .ensures) in
+    ap (λ (l : List ℕ). record { bound = true; active = active.Logic (c .before .before .before .before .before .before .k2 .given .0 .0); calls = l }) (c .find-start .ensures ∙ ap startCalls start)
+    ∙ pressed-named (tablesIn (c .before .before .before .before .before .before .before .before .before .before .args .numbers .now) (c .before .before .before .before .before .before .before .before .before .before .args .codes .now)) (c .before .before .before .before .before .before .before .before .before .before .args .active) (c .before .before .before .before .before .before .before .before .before .before .args .letter) (c .before .before .before .before .before .before .before .before .find-called .ensures) (c .before .before .before .before .before .before .k2 .given .1)
 
 pub press-letter-spec : {M : Type 1} → statement M
 press-letter-spec =
@@ -82,6 +70,9 @@ press-letter-spec =
     enum-told
     enum-known-k
     enum-known-k-2
+    sub-numbers-at
+    part-numbers-at-start
+    part-numbers-at-end
     cast-numbers-at
     numbers-at-requires
     natural-requires

@@ -8,19 +8,19 @@ use mir.Val.{SFits}
 use Rattle.tables.proofs.decode.tone_at.Statement.{statement}
 use Rattle.tables.proofs.decode.tone_at.Tie as tie
 
-byte-at-requires : tie.Need-byte-at-requires
-byte-at-requires c κs = search needs
+code-at-requires : tie.Need-code-at-requires
+code-at-requires c κs = search needs
 
 number-at-requires : tie.Need-number-at-requires
 number-at-requires c κs = search needs
 
 returns : tie.Need-returns
-returns c = rw (sym (c .before .byte-at .ensures) ∙ c .match .keys1)
+returns c = rw (sym (c .before .code-at .ensures) ∙ c .match .keys1)
 
 returns-2 : tie.Need-returns-2
 returns-2 c =
     let f : SFits w32 (c .number-at .result) = record { sfits = c .number-at .ok } in
-    rw (toZ-ofZ f, c .number-at .ensures, ne-eqb _ _ (λ x. c .before .match .rest .1 (c .before .before .byte-at .ensures ∙ x)))
+    rw (toZ-ofZ f, c .number-at .ensures, ne-eqb _ _ (λ x. c .before .match .rest .1 (c .before .before .code-at .ensures ∙ x)))
 
 pub tone-at-spec : {M : Type 1} → statement M
-tone-at-spec = tie.close (tie.spec byte-at-requires number-at-requires returns returns-2)
+tone-at-spec = tie.close (tie.spec code-at-requires number-at-requires returns returns-2)

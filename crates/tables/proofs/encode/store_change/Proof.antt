@@ -9,8 +9,8 @@ use Rattle.tables.proofs.encode.store_change.Tie as tie
 change-code-requires : tie.Need-change-code-requires
 change-code-requires c κs = search needs
 
-put-byte-requires : tie.Need-put-byte-requires
-put-byte-requires c κs = search needs
+put-code-requires : tie.Need-put-code-requires
+put-code-requires c κs = search needs
 
 change-number-requires : tie.Need-change-number-requires
 change-number-requires c κs = search needs
@@ -27,7 +27,7 @@ same-length-2 c = search needs
 returns : tie.Need-returns
 returns c =
     let f : SFits w32 (c .before .before .change-number .result) = record { sfits = c .before .before .change-number .ok } in (
-      rw (← (c .before .before .before .before .before .before .before .change-code .ensures)) (c .before .before .before .before .before .before .put-byte .ensures),
+      rw (← (c .before .before .before .before .before .before .before .change-code .ensures)) (c .before .before .before .before .before .before .put-code .ensures),
       rw (← (c .before .before .change-number .ensures)) (simp toZ-ofZ at (c .before .put-number .ensures)),
     )
 
@@ -36,7 +36,7 @@ store-change-spec =
     tie.close
     (tie.spec
     change-code-requires
-    put-byte-requires
+    put-code-requires
     change-number-requires
     put-number-requires
     same-length

@@ -9,8 +9,8 @@ use Rattle.tables.proofs.encode.store_tone.Tie as tie
 tone-code-requires : tie.Need-tone-code-requires
 tone-code-requires c κs = search needs
 
-put-byte-requires : tie.Need-put-byte-requires
-put-byte-requires c κs = search needs
+put-code-requires : tie.Need-put-code-requires
+put-code-requires c κs = search needs
 
 tone-pitch-requires : tie.Need-tone-pitch-requires
 tone-pitch-requires c κs = search needs
@@ -27,7 +27,7 @@ same-length-2 c = search needs
 returns : tie.Need-returns
 returns c =
     let f : SFits w32 (c .before .before .tone-pitch .result) = record { sfits = c .before .before .tone-pitch .ok } in (
-      rw (← (c .before .before .before .before .before .before .before .tone-code .ensures)) (c .before .before .before .before .before .before .put-byte .ensures),
+      rw (← (c .before .before .before .before .before .before .before .tone-code .ensures)) (c .before .before .before .before .before .before .put-code .ensures),
       rw (← (c .before .before .tone-pitch .ensures)) (simp toZ-ofZ at (c .before .put-number .ensures)),
     )
 
@@ -36,7 +36,7 @@ store-tone-spec =
     tie.close
     (tie.spec
     tone-code-requires
-    put-byte-requires
+    put-code-requires
     tone-pitch-requires
     put-number-requires
     same-length

@@ -1,4 +1,4 @@
--- The measure is what is left of the tables.
+-- The measure is what is left of the slices.
 use Prim.Native.Nat.{_-_}
 use borrow.Author.Needs.{needs}
 use Rattle.damaged_tables.proofs.tally.Tally.try_sizes.Statement.{statement}
@@ -8,7 +8,7 @@ abbrev Inv-loop : tie.InvT-loop
 Inv-loop tally₀ k₀ tally k = Unit
 
 abbrev μ-loop : tie.MeasureT-loop
-μ-loop tally₀ k₀ tally k = 8 - k
+μ-loop tally₀ k₀ tally k = 2 - k
 
 loop-holds : tie.Need-loop-holds Inv-loop μ-loop
 loop-holds c = search needs

@@ -1,4 +1,4 @@
--- `validity::are_zero_bytes` meets its contract. The loop's invariant: what is left gives the answer. Assumes nothing.
+-- `validity::are_zero_codes` meets its contract. The loop's invariant: what is left gives the answer. Assumes nothing.
 use mathlib.Core.Path.{_≡_, refl, sym, _∙_}
 use Prim.Native.Nat.{_+_, _-_, _≤_}
 use native.Mathlib.Omega.{arith}
@@ -7,8 +7,8 @@ use borrow.Author.Tests.{not-true, not-false}
 use lib.ListN.{length, drop}
 use Rattle.validity.proofs.Runs.{isNought, nought-each, blockSize, run-split, run-end}
 use Rattle.validity.specs.Valid.{allNought}
-use Rattle.validity.proofs.are_zero_bytes.Statement.{statement}
-use Rattle.validity.proofs.are_zero_bytes.Tie as tie
+use Rattle.validity.proofs.are_zero_codes.Statement.{statement}
+use Rattle.validity.proofs.are_zero_codes.Tie as tie
 
 abbrev Inv-loop : tie.InvT-loop
 Inv-loop table from i₀ i = (i ≤ length table) × (allNought (drop i table) ≡ allNought (drop from table))
@@ -60,7 +60,7 @@ returns-2 c =
     let a = l .before .before .args in
     run-end isNought allNought nought-each (a .table .now) (l .loop .i) (l .loop .i + (length (a .table .now) - l .loop .i)) (c .are-noughts2 .ensures) (omega (arith, l .loop .inv .0)) ∙ l .loop .inv .1
 
-pub are-zero-bytes-spec : {M : Type 1} → statement M
-are-zero-bytes-spec =
+pub are-zero-codes-spec : {M : Type 1} → statement M
+are-zero-codes-spec =
     tie.close
     (tie.spec Inv-loop μ-loop loop-holds sub-loop are-noughts-requires returns add-i loop-less loop-again sub-are-noughts are-noughts-requires-2 returns-2)

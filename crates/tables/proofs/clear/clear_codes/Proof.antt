@@ -1,12 +1,12 @@
--- `tables::clear::clear_calls` meets its contract. The loop's invariant: what is passed is zero, and the rest as it was. Assumes nothing.
+-- `tables::clear::clear_codes` meets its contract. The loop's invariant: what is passed is zero, and the rest as it was. Assumes nothing.
 use mathlib.Core.Path.{_≡_}
 use Prim.Native.Nat.{_-_}
 use native.Mathlib.Omega.{arith}
 use borrow.Author.Needs.{needs}
 use lib.ListN.{length}
 use Rattle.tables.proofs.Lists.{Clearing, clearing-starts, clearing-length, clearing-next, clearing-ends}
-use Rattle.tables.proofs.clear.clear_calls.Statement.{statement}
-use Rattle.tables.proofs.clear.clear_calls.Tie as tie
+use Rattle.tables.proofs.clear.clear_codes.Statement.{statement}
+use Rattle.tables.proofs.clear.clear_codes.Tie as tie
 
 abbrev Inv-loop : tie.InvT-loop
 Inv-loop table₀ i₀ table i = Clearing 0 table₀ table i
@@ -41,8 +41,8 @@ same-length c = same (c .before)
 returns : tie.Need-returns Inv-loop μ-loop
 returns c = clearing-ends 0 (c .before .before .args .table .now) (c .before .loop .table) (c .before .loop .i) (c .before .loop .inv) (c .loop-test .left)
 
-pub clear-calls-spec : {M : Type 1} → statement M
-clear-calls-spec =
+pub clear-codes-spec : {M : Type 1} → statement M
+clear-codes-spec =
     tie.close
     (tie.spec
     Inv-loop
