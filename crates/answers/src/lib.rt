@@ -6,7 +6,6 @@ use frames::KEY_KIND;
 use frames::LETTER_KIND;
 use hexadecimal::LINE_FEED;
 use hexadecimal::bits_of;
-use hexadecimal::put;
 use hexadecimal::put_byte;
 use hexadecimal::put_four;
 use status::BAD_FRAME;
@@ -58,6 +57,7 @@ fn interval_bits(d: Interval) -> u32
 
 // The frame, and the number.
 fn put_head(buf: &mut [u8], house: u8, kind: u8, value: u8, number: u8)
+    requires { ⌜ smallestBuffer ≤ length (now buf) ⌝ }
     ensures { λ _. ⌜ now (buf .exit) ≡ written (now (buf .entry)) 0 (head house kind value number) ⌝ }
 {
     put_byte(buf, 0, house);
@@ -68,7 +68,7 @@ fn put_head(buf: &mut [u8], house: u8, kind: u8, value: u8, number: u8)
 
 // Anchor, width and period.
 fn put_state(buf: &mut [u8], s: State)
-    requires { ⌜ validState s ≡ true ⌝ }
+    requires { ⌜ (smallestBuffer ≤ length (now buf)) × (validState s ≡ true) ⌝ }
     ensures { λ _. ⌜ now (buf .exit) ≡ written (now (buf .entry)) 4 (stateBytes (held s)) ⌝ }
 {
     put_byte(buf, STATE_AT, s.anchor.0);
@@ -78,7 +78,7 @@ fn put_state(buf: &mut [u8], s: State)
 
 // Each tone.
 fn put_tones(buf: &mut [u8], s: State)
-    requires { ⌜ validState s ≡ true ⌝ }
+    requires { ⌜ (smallestBuffer ≤ length (now buf)) × (validState s ≡ true) ⌝ }
     ensures { λ _. ⌜ now (buf .exit) ≡ written (now (buf .entry)) 10 (tonesBytes (held s .tones)) ⌝ }
 {
     let width = s.width as usize;
@@ -96,7 +96,7 @@ fn end_line(buf: &mut [u8], bytes: usize) -> usize
     requires { ⌜ (bytes ≤ 250) × (smallestBuffer ≤ length (now buf)) ⌝ }
     ensures { λ r. ⌜ (r ≡ 2 * bytes + 1) × (now (buf .exit) ≡ set (now (buf .entry)) (2 * bytes) lineFeed) ⌝ }
 {
-    put(buf, 2 * bytes, LINE_FEED);
+    buf[2 * bytes] = LINE_FEED;
     2 * bytes + 1
 }
 

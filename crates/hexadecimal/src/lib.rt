@@ -5,7 +5,8 @@ use digits::RADIX;
 use digits::hex_digit;
 ghost use mathlib.Core.Path.{_≡_};
 ghost use mathlib.Core.List.{[], _∷_};
-ghost use lib.ListN.{set};
+ghost use Prim.Native.Nat.{_+_, _*_, _<_};
+ghost use lib.ListN.{length, set};
 ghost use Rattle.hexadecimal.specs.Numbers.{twos, fourOf};
 ghost use Rattle.hexadecimal.specs.Lines.{written};
 
@@ -22,24 +23,22 @@ pub fn put(buf: &mut [u8], at: usize, b: u8)
 
 // Writes byte `at` of an answer, as two digits.
 pub fn put_byte(buf: &mut [u8], at: usize, b: u8)
+    requires { ⌜ 2 * at + 1 < length (now buf) ⌝ }
     ensures { λ _. ⌜ now (buf .exit) ≡ written (now (buf .entry)) at (b ∷ []) ⌝ }
 {
-    if at < buf.len() {
-        put(buf, 2 * at, hex_digit(b / RADIX));
-        put(buf, 2 * at + 1, hex_digit(b % RADIX));
-    }
+    buf[2 * at] = hex_digit(b / RADIX);
+    buf[2 * at + 1] = hex_digit(b % RADIX);
 }
 
 // Writes a number as four bytes of an answer, from byte `at` on.
 pub fn put_four(buf: &mut [u8], at: usize, n: u32)
+    requires { ⌜ 2 * at + 7 < length (now buf) ⌝ }
     ensures { λ _. ⌜ now (buf .exit) ≡ written (now (buf .entry)) at (fourOf n) ⌝ }
 {
-    if at < buf.len() {
-        put_byte(buf, at, (n / 0x100_0000 % 0x100) as u8);
-        put_byte(buf, at + 1, (n / 0x1_0000 % 0x100) as u8);
-        put_byte(buf, at + 2, (n / 0x100 % 0x100) as u8);
-        put_byte(buf, at + 3, (n % 0x100) as u8);
-    }
+    put_byte(buf, at, (n / 0x100_0000 % 0x100) as u8);
+    put_byte(buf, at + 1, (n / 0x1_0000 % 0x100) as u8);
+    put_byte(buf, at + 2, (n / 0x100 % 0x100) as u8);
+    put_byte(buf, at + 3, (n % 0x100) as u8);
 }
 
 // The two's complement of a signed number.

@@ -1,6 +1,7 @@
 -- What a letter calls, the calls, and the ways through a frame.
 pub mod Forms
 pub mod Searches
+pub mod Index
 pub mod Records
 pub mod Presses
 pub mod Pressable

@@ -8,8 +8,10 @@ use native.Mathlib.Decide.{decLt}
 use native.Mathlib.Omega.{arith}
 use borrow.Author.Tests.{lt-ltb, eq-eqb, eqb-true}
 use lib.Dec.{eqb}
+use lib.ListN.{length}
 use Rattle.tuning.specs.Tuning.{start}
 use Rattle.tuning.specs.Desk.{cents}
+use Rattle.tuning.specs.State.{places}
 use Rattle.tuning.proofs.Lists.{both}
 use Rattle.tuning.proofs.Held.{length-coded}
 use Rattle.tuning.proofs.Laws.{start-valid, start-state-valid}
@@ -26,6 +28,7 @@ use Rattle.protocol.specs.declared.Active.the-variants as active
 use Rattle.protocol.specs.declared.Desk.{Desk}
 use Rattle.protocol.specs.Letters.{isLogicOf, callsBy, unlessUnbound, pressed}
 use Rattle.protocol.specs.Answers.{startDesk, Outcome, letterOutcome, keyOutcome, frameOutcome, activeRight, validDesk, answerOf}
+use Rattle.protocol.specs.Inner.{Ready}
 use Rattle.protocol.specs.Streams.{Lent, deskAfter}
 use Rattle.protocol.proofs.Forms.{logic-by}
 use Rattle.protocol.proofs.Presses.{named}
@@ -95,3 +98,9 @@ module _ (t : Tables) (v : validTables t ≡ true) where
   unfolding deskAfter
   stream-right d r [] = r
   stream-right d r (l ∷ ls) = stream-right _ (answer-right d r (l .frame) (l .room)) ls
+
+-- the same of a desk that is ready for a frame
+pub letter-valid : (t : Tables) (d : Desk) {buffer : List ℕ} → Ready t d buffer → length (d .tuning .tones) ≡ places → (house letter : ℕ)
+    → validDesk t (letterOutcome t d house letter .desk) ≡ true
+letter-valid t d r n house letter =
+    right-valid t (r .tables) _ (letter-right t (r .tables) d (record { tuning = (r .state, n); active = r .active }) house letter)

@@ -1,11 +1,13 @@
 -- The ways through a frame. Assumes nothing.
 use mathlib.Core.Path.{_≡_, refl, sym, ap, _∙_, subst}
 use mathlib.Core.Bool.{Bool, true, false, cond, _&&_, and-true, and-false}
-use mathlib.Core.List.{List, []}
+use mathlib.Core.List.{List, [], _∷_}
 use Prim.Native.Nat.{ℕ, _≤_, _<_}
 use native.Mathlib.Decide.{decLt}
 use native.Mathlib.Omega.{arith}
 use borrow.Author.Tests.{lt-ltb, le-ltb, le-leb, lt-leb, leb-true, eqb-true, eqb-false}
+use types.Run.{OneOf, miss}
+use denote.Enum.Declared.{tagOf}
 use lib.Dec.{eqb, leb}
 use lib.ListN.{length}
 use Rattle.status.specs.Status.{bufferTooSmall, letterUnbound, tableDamaged}
@@ -20,14 +22,16 @@ use Rattle.frames.specs.Frames.{frameOf, inside, isHouse, isKey, lastKey}
 use Rattle.frames.specs.declared.Frame.{Frame}
 use Rattle.frames.specs.declared.Frame.the-variants.{Bad, Letter, Key, Dump}
 use Rattle.hexadecimal.specs.Lines.{lineOf}
+use Rattle.frames.proofs.Frame as variants
 use Rattle.answers.specs.Answer.{letterBytes, keyBytes, smallestBuffer}
 use Rattle.protocol.specs.declared.Desk.{Desk}
 use Rattle.protocol.specs.declared.Answered.{Answered}
+use Rattle.protocol.specs.declared.Told.{Told}
 use Rattle.protocol.specs.declared.letters.Press.{Press}
 use Rattle.protocol.specs.Letters.{Pressed, pressed}
 use Rattle.protocol.specs.Answers.{badOutcome, dumpOutcome, tuningFrom, madeFrom, lastNumber, Outcome, letterOutcome, soundAt, keyNumber, keyOutcome, frameOutcome}
 use Rattle.protocol.specs.Answers.{activeRight, validDesk, unchanged, answerOf, Gives}
-use Rattle.protocol.specs.Inner.{callsOf, pressedBy, Ready}
+use Rattle.protocol.specs.Inner.{callsOf, pressedBy, Ready, toldOutcome, Tells}
 
 -- what gives an outcome gives an equal one
 pub gives : {r : Answered} {before after : List ℕ} {o q : Outcome} → o ≡ q → Gives o r before after → Gives q r before after
@@ -67,6 +71,9 @@ module _ (t : Tables) (d : Desk) where
       let a = both (validTables t && validState (d .tuning)) (activeRight t (d .active)) h in
       let b = both (validTables t) (validState (d .tuning)) (a .0) in
       record { tables = b .0; state = b .1; active = a .1; room = l }
+
+  pub tables-right : validDesk t d ≡ true → validTables t ≡ true
+  tables-right h = both (validTables t) (validState (d .tuning)) (both (validTables t && validState (d .tuning)) (activeRight t (d .active)) h .0) .0
 
 -- ---- by the buffer, the tables and the desk
 
@@ -109,6 +116,30 @@ module _ (t : Tables) (d : Desk) (frame : List ℕ) {f : Frame} (e : f ≡ frame
   pub on-dump : (house : ℕ) → f ≡ Dump house → dumpOutcome d house ≡ frameOutcome t d (frameOf frame)
   unfolding frameOutcome
   on-dump house h = on-frame h
+
+-- ---- what a frame is told that is no letter
+
+pub outcome-tells : {o q : Outcome} {r : Told} {before after : List ℕ} → o ≡ q → Tells o r before after → Tells q r before after
+outcome-tells {r = r} {before = before} {after = after} e h = subst (λ (x : Outcome). Tells x r before after) e h
+
+pub tells : (d : Desk) {f g : Frame} {r : Told} {before after : List ℕ} → f ≡ g → Tells (toldOutcome d g) r before after → Tells (toldOutcome d f) r before after
+tells d e h = outcome-tells (ap (toldOutcome d) (sym e)) h
+
+-- the variants of a frame that is no letter
+abbrev pub noLetter : List ℕ
+noLetter = 0 ∷ 2 ∷ 3 ∷ []
+
+-- what is told is what the frame does
+abbrev pub toldBy : Desk → Told → Answered
+toldBy d r = record { desk = d; number = r .number; length = r .length }
+
+pub told-gives : (t : Tables) (d : Desk) (f : Frame) {r : Told} {before after : List ℕ} → OneOf noLetter (tagOf variants.the-type f)
+    → Tells (toldOutcome d f) r before after → Gives (frameOutcome t d f) (toldBy d r) before after
+unfolding frameOutcome keyOutcome
+told-gives t d Bad h r = record { desk = refl; number = r .number; size = r .size; buffer = r .buffer }
+told-gives t d (Letter house letter) h r = absurd (miss noLetter 1 tt h)
+told-gives t d (Key house key) h r = record { desk = refl; number = r .number; size = r .size; buffer = r .buffer }
+told-gives t d (Dump house) h r = record { desk = refl; number = r .number; size = r .size; buffer = r .buffer }
 
 -- ---- a letter
 

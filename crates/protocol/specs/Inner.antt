@@ -3,33 +3,40 @@ use mathlib.Core.Path.{_≡_}
 use mathlib.Core.Bool.{true, cond}
 use mathlib.Core.List.{List, [], _∷_, zipWith}
 use mathlib.Core.Option.{Option, some, none}
-use Prim.Native.Nat.{ℕ, _+_, _≤_, _<_, _^_}
+use Prim.Native.Nat.{ℕ, zero, suc, _+_, _≤_, _<_, _^_}
 use lib.Dec.{eqb}
 use lib.IntN.{ℤ}
 use lib.ListN.{length, getD}
 use lib.Seq.{slice}
 use Rattle.orders.specs.declared.Order.{Order}
 use Rattle.orders.specs.Orders.{noOrder}
+use Rattle.status.specs.Status.{done}
 use Rattle.tuning.specs.State.{validState}
 use Rattle.tuning.specs.declared.Reply.{Reply}
 use Rattle.tuning.specs.declared.State.{State}
 use Rattle.tables.specs.declared.Row.{Row as TableRow}
 use Rattle.tables.specs.declared.Row.the-variants.{Unused, Interval, Tone, System, Retuning, Logic}
-use Rattle.tables.specs.Layout.{Tables, rowCount, mostOrders, readAt, rowOf, rowAt, full}
+use Rattle.integers.specs.Parts.{up}
+use Rattle.tables.specs.declared.Numbers.{Numbers}
+use Rattle.tables.specs.Layout.{Tables, logicForm, rowCount, mostOrders, readAt, rowOf, rowAt, full}
 use Rattle.tables.specs.Values.{FieldsFit}
 use Rattle.validity.specs.Valid.{validTables}
 use Rattle.validity.specs.Inner.{ValidSystem, ValidRetuning}
+use Rattle.frames.specs.declared.Frame.{Frame}
+use Rattle.frames.specs.declared.Frame.the-variants.{Bad, Letter, Key, Dump}
+use Rattle.hexadecimal.specs.Lines.{begunWith}
 use Rattle.answers.specs.Answer.{smallestBuffer}
 use Rattle.protocol.specs.declared.Active.{Active}
 use Rattle.protocol.specs.declared.Active.the-variants as active
 use Rattle.protocol.specs.declared.Found.{Found}
 use Rattle.protocol.specs.declared.Found.the-variants.{Nothing, Row}
 use Rattle.protocol.specs.declared.Desk.{Desk}
+use Rattle.protocol.specs.declared.Told.{Told}
 use Rattle.protocol.specs.declared.letters.Press.{Press}
 use Rattle.protocol.specs.declared.letters.Called.{Called}
 use Rattle.protocol.specs.declared.letters.Called.the-variants as called
 use Rattle.protocol.specs.Letters.{Pressed, firstLogic, elseOrder}
-use Rattle.protocol.specs.Answers.{tuningFrom, madeFrom, lastNumber, activeRight}
+use Rattle.protocol.specs.Answers.{tuningFrom, madeFrom, lastNumber, activeRight, Outcome, unchanged, keyOutcome, dumpOutcome, badOutcome}
 
 -- ---- the code's values
 
@@ -37,6 +44,34 @@ use Rattle.protocol.specs.Answers.{tuningFrom, madeFrom, lastNumber, act
 abbrev pub found : Option ℕ → Found
 found none = Nothing
 found (some k) = Row k
+
+-- a declaration in an index: 1 more than its number, or 0 for none
+abbrev pub oneMore : Option ℕ → ℕ
+oneMore none = 0
+oneMore (some k) = suc k
+
+abbrev pub decoded : ℕ → Option ℕ
+decoded zero = none
+decoded (suc k) = some k
+
+-- how many codes of triggers there are
+abbrev pub triggers : ℕ
+triggers = 256
+
+-- the trigger of a row that is a logic; what is no trigger, of any other row
+abbrev pub logicTrigger : Numbers → ℕ
+logicTrigger n = cond (eqb (n .form) logicForm) (up (n .first)) triggers
+
+-- of each trigger the first logic with it
+pub record Indexed (rows : List ℤ) (count : ℕ) (index : List ℕ) : Type 0 where
+  pub first : (letter : ℕ) → letter < triggers → getD index letter 0 ≡ oneMore (firstLogic rows letter 0 count)
+
+abbrev pub IndexOf : Tables → List ℕ → Type 0
+IndexOf t index = Indexed (t .rows) (rowCount t) index
+
+-- the first logic with a letter
+abbrev pub logicFor : Tables → ℕ → Found
+logicFor t letter = found (firstLogic (t .rows) letter 0 (rowCount t))
 
 -- the kinds of what is called
 abbrev pub noKind : ℕ
@@ -148,3 +183,16 @@ pub record Ready (t : Tables) (d : Desk) (buffer : List ℕ) : Type 0 where
   pub state : validState (d .tuning) ≡ true
   pub active : activeRight t (d .active) ≡ true
   pub room : smallestBuffer ≤ length buffer
+
+-- what a frame is told that changes nothing; a letter nothing
+abbrev pub toldOutcome : Desk → Frame → Outcome
+toldOutcome d Bad = badOutcome d
+toldOutcome d (Letter house letter) = unchanged d done
+toldOutcome d (Key house key) = keyOutcome d house key
+toldOutcome d (Dump house) = dumpOutcome d house
+
+-- its number is told, its line written, and the line's length told
+pub record Tells (o : Outcome) (r : Told) (before after : List ℕ) : Type 0 where
+  pub number : r .number ≡ o .number
+  pub size : r .length ≡ length (o .line)
+  pub buffer : after ≡ begunWith (o .line) before

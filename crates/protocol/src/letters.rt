@@ -1,6 +1,7 @@
 // What a letter calls: logics are tried in declared order, else the active logic's orders; and the call of a declaration.
 use crate::Active;
 use crate::Found;
+use crate::TRIGGERS;
 use orders::Order;
 use status::DONE;
 use tables::ANCHOR_FORM;
@@ -32,7 +33,10 @@ ghost use Rattle.tables.specs.Layout.{tablesIn, lettersIn, callsIn, rowOf};
 ghost use Rattle.tables.specs.Values.{Slices};
 ghost use Rattle.protocol.specs.Letters.{isLogicOf, firstLogic, firstOrder, startCalls, pressed};
 ghost use Rattle.protocol.specs.Answers.{callOn};
-ghost use Rattle.protocol.specs.Inner.{found, kindAt, calledIn, calledBy, gathered, callsOf, pressedBy, OrderPart, ActiveReadable, Callable, CallableFound, CallsFound};
+ghost use Rattle.protocol.specs.Inner.{found, logicFor, logicTrigger, Indexed, kindAt, calledIn, calledBy, gathered, callsOf, pressedBy, OrderPart, ActiveReadable, Callable, CallableFound, CallsFound};
+
+// What is no trigger.
+const NO_TRIGGER: u32 = 256;
 
 // Kinds of what is called.
 const NO_KIND: u8 = 0;
@@ -76,6 +80,42 @@ fn find_logic(rows: &[i32], count: u32, letter: u8) -> Found
         }
     }
     Found::Nothing
+}
+
+// The first logic with this letter, from the rows.
+pub fn first_logic(numbers: &[i32], codes: &[u16], letter: u8) -> Found
+    requires { ⌜ Slices (now numbers) (now codes) ⌝ }
+    ensures { λ r. ⌜ r ≡ logicFor (tablesIn (now (numbers .entry)) (now (codes .entry))) letter ⌝ }
+{
+    let used = Counts::read(&codes[0..SOUNDING_AT]);
+    find_logic(&numbers[0..TONES_AT], used.rows, letter)
+}
+
+// The trigger of a row that is a logic; what is no trigger, of any other row.
+fn logic_trigger(n: Numbers) -> u32
+    ensures { λ r. ⌜ r ≡ logicTrigger n ⌝ }
+{
+    let form = n.form;
+    if form != LOGIC_FORM {
+        return NO_TRIGGER;
+    }
+    decode::natural(n.first)
+}
+
+// Of each trigger the first of the rows that is a logic with it, as 1 more than its number; 0 for none. The last rows come first.
+pub fn index_rows(rows: &[i32], count: u32) -> [u32; TRIGGERS]
+    ensures { λ r. ⌜ Indexed (now (rows .entry)) count r ⌝ }
+{
+    let mut index = [0u32; TRIGGERS];
+    let mut i = count;
+    while 0 < i {
+        i -= 1;
+        let key = logic_trigger(decode::numbers_at(rows, i as usize));
+        if key < NO_TRIGGER {
+            index[key as usize] = i + 1;
+        }
+    }
+    index
 }
 
 // The kind of declaration k.
@@ -133,20 +173,20 @@ fn find_order(rows: &[i32], orders: &[u16], from: usize, to: usize, letter: u8) 
     Called::Other(number)
 }
 
-// The first logic with this letter, else what the active logic's first order with it calls.
-fn find_called(numbers: &[i32], codes: &[u16], active: Active, letter: u8) -> Called
+// `logic`, the first with this letter, else what the active logic's first order with it calls.
+fn find_called(numbers: &[i32], codes: &[u16], active: Active, letter: u8, logic: Found) -> Called
     requires { ⌜ Slices (now numbers) (now codes) ⌝ }
+    requires { ⌜ logic ≡ logicFor (tablesIn (now numbers) (now codes)) letter ⌝ }
     requires { ⌜ ActiveReadable (tablesIn (now numbers) (now codes)) active ⌝ }
     ensures { λ r. ⌜ r ≡ calledBy (tablesIn (now (numbers .entry)) (now (codes .entry))) active letter ⌝ }
 {
-    let rows = &numbers[0..TONES_AT];
-    let used = Counts::read(&codes[0..SOUNDING_AT]);
-    if let Found::Row(i) = find_logic(rows, used.rows, letter) {
+    if let Found::Row(i) = logic {
         return Called::Logic(i);
     }
     let Active::Logic(i) = active else {
         return Called::Nothing;
     };
+    let rows = &numbers[0..TONES_AT];
     let Row::Logic {
         letter: _,
         start: _,
@@ -171,12 +211,19 @@ fn find_start(start: u32) -> Found
 }
 
 // What a letter comes to. A called logic becomes active, and its start is called.
-pub fn press_letter(numbers: &[i32], codes: &[u16], active: Active, letter: u8) -> Press
+pub fn press_letter(
+    numbers: &[i32],
+    codes: &[u16],
+    active: Active,
+    letter: u8,
+    logic: Found,
+) -> Press
     requires { ⌜ Slices (now numbers) (now codes) ⌝ }
+    requires { ⌜ logic ≡ logicFor (tablesIn (now numbers) (now codes)) letter ⌝ }
     requires { ⌜ ActiveReadable (tablesIn (now numbers) (now codes)) active ⌝ }
     ensures { λ r. ⌜ pressedBy r ≡ pressed (tablesIn (now (numbers .entry)) (now (codes .entry))) active letter ⌝ }
 {
-    match find_called(numbers, codes, active, letter) {
+    match find_called(numbers, codes, active, letter, logic) {
         Called::Nothing => Press {
             bound: false,
             active,

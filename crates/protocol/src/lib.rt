@@ -21,15 +21,18 @@ use validity::valid_tables;
 ghost use mathlib.Core.Path.{_≡_};
 ghost use mathlib.Core.Bool.{true, cond};
 ghost use Prim.Native.Nat.{_≤_};
-ghost use lib.ListN.{length};
+ghost use lib.ListN.{length, getD};
 ghost use Rattle.status.specs.Status.{letterUnbound};
 ghost use Rattle.tuning.specs.State.{heard, validState};
 ghost use Rattle.tables.specs.Layout.{tablesIn};
 ghost use Rattle.tables.specs.Values.{Slices};
-ghost use Rattle.frames.specs.Frames.{frameOf, lastKey};
+ghost use Rattle.frames.specs.Frames.{frameOf, inside};
 ghost use Rattle.answers.specs.Answer.{smallestBuffer};
-ghost use Rattle.protocol.specs.Answers.{badOutcome, dumpOutcome, startDesk, letterOutcome, keyNumber, keyOutcome, frameOutcome, activeRight, validDesk, answerOf, Gives};
-ghost use Rattle.protocol.specs.Inner.{Ready};
+ghost use Rattle.protocol.specs.Answers.{startDesk, letterOutcome, keyNumber, frameOutcome, activeRight, validDesk, answerOf, Gives};
+ghost use Rattle.protocol.specs.Inner.{found, decoded, logicFor, IndexOf, Ready, toldOutcome, Tells};
+
+// How many codes of triggers there are. A letter's code is its byte.
+pub const TRIGGERS: usize = 256;
 
 // The active logic, by the number of its declaration.
 pub enum Active {
@@ -46,6 +49,12 @@ pub struct Desk {
 // The desk after a frame, the number, and how many bytes of the buffer are the answer.
 pub struct Answered {
     pub desk: Desk,
+    pub number: u8,
+    pub length: usize,
+}
+
+// The number of an answer that changes nothing, and how many bytes of the buffer it is.
+pub struct Told {
     pub number: u8,
     pub length: usize,
 }
@@ -79,7 +88,7 @@ fn has_logic(numbers: &[i32], codes: &[u16], i: u32) -> bool
 }
 
 // Whether the tables and the desk are right.
-fn is_valid(numbers: &[i32], codes: &[u16], desk: Desk) -> bool
+pub fn is_valid(numbers: &[i32], codes: &[u16], desk: Desk) -> bool
     ensures { λ r. ⌜ r ≡ validDesk (tablesIn (now (numbers .entry)) (now (codes .entry))) desk ⌝ }
 {
     if !valid_tables(numbers, codes) {
@@ -94,6 +103,26 @@ fn is_valid(numbers: &[i32], codes: &[u16], desk: Desk) -> bool
         return true;
     };
     has_logic(numbers, codes, i)
+}
+
+// Of each trigger the first logic that it calls, as 1 more than its number; 0 for none. No frame changes it, so a stream makes it once.
+pub fn index_logics(numbers: &[i32], codes: &[u16]) -> [u32; TRIGGERS]
+    requires { ⌜ Slices (now numbers) (now codes) ⌝ }
+    ensures { λ r. ⌜ IndexOf (tablesIn (now (numbers .entry)) (now (codes .entry))) r ⌝ }
+{
+    let used = Counts::read(&codes[0..SOUNDING_AT]);
+    letters::index_rows(&numbers[0..TONES_AT], used.rows)
+}
+
+// The first logic with this letter, from the index.
+pub fn find_indexed(index: &[u32; TRIGGERS], letter: u8) -> Found
+    ensures { λ r. ⌜ r ≡ found (decoded (getD (now (index .entry)) letter 0)) ⌝ }
+{
+    let k = index[letter as usize];
+    if k == 0 {
+        return Found::Nothing;
+    }
+    Found::Row(k - 1)
 }
 
 // Nothing is answered but a number.
@@ -114,21 +143,24 @@ fn letter_number(bound: bool, number: u8) -> u8
     if bound { number } else { LETTER_UNBOUND }
 }
 
-// A letter: what it calls is called, and the state after it answered.
-fn answer_letter(
+// A letter: what it calls is called, and the state after it answered. `logic` is the first logic with the letter.
+pub fn answer_letter(
     numbers: &[i32],
     codes: &[u16],
     desk: Desk,
     house: u8,
     letter: u8,
+    logic: Found,
     buffer: &mut [u8],
 ) -> Answered
     requires { ⌜ Ready (tablesIn (now numbers) (now codes)) desk (now buffer) ⌝ }
-    ensures { λ r. ⌜ Gives (letterOutcome (tablesIn (now (numbers .entry)) (now (codes .entry))) desk house letter) r (now (buffer .entry)) (now (buffer .exit)) ⌝ }
+    requires { ⌜ logic ≡ logicFor (tablesIn (now numbers) (now codes)) letter ⌝ }
+    ensures gives { λ r. ⌜ Gives (letterOutcome (tablesIn (now (numbers .entry)) (now (codes .entry))) desk house letter) r (now (buffer .entry)) (now (buffer .exit)) ⌝ }
+    ensures stays { λ r. ⌜ validDesk (tablesIn (now (numbers .entry)) (now (codes .entry))) (r .desk) ≡ true ⌝ }
 {
     let s = desk.tuning;
     let before = desk.active;
-    let press = letters::press_letter(numbers, codes, before, letter);
+    let press = letters::press_letter(numbers, codes, before, letter, logic);
     let called = press.called;
     let reply = letters::make_call(numbers, codes, s, called);
     let number = letter_number(press.bound, reply.number);
@@ -152,45 +184,34 @@ fn key_number(tone: Tone) -> u8
     }
 }
 
-// A key: its pitch is answered.
-fn answer_key(desk: Desk, house: u8, key: u8, buffer: &mut [u8]) -> Answered
-    requires { ⌜ (validState (desk .tuning) ≡ true) × (smallestBuffer ≤ length (now buffer)) × (key ≤ lastKey) ⌝ }
-    ensures { λ r. ⌜ Gives (keyOutcome desk house key) r (now (buffer .entry)) (now (buffer .exit)) ⌝ }
+// The answer to a frame that is no letter, and so changes nothing. A letter is told nothing.
+pub fn tell(desk: Desk, frame: Frame, buffer: &mut [u8]) -> Told
+    requires { ⌜ (validState (desk .tuning) ≡ true) × (smallestBuffer ≤ length (now buffer)) × (inside frame ≡ true) ⌝ }
+    ensures { λ r. ⌜ Tells (toldOutcome desk frame) r (now (buffer .entry)) (now (buffer .exit)) ⌝ }
 {
     let s = desk.tuning;
-    let tone = s.sound_of(KeyNumber(key));
-    let number = key_number(tone);
-    let length = answers::answer_key(buffer, house, key, number, tone);
-    Answered {
-        desk,
-        number,
-        length,
-    }
-}
-
-// All tones: anchor, width, period and each tone are answered.
-fn answer_dump(desk: Desk, house: u8, buffer: &mut [u8]) -> Answered
-    requires { ⌜ (validState (desk .tuning) ≡ true) × (smallestBuffer ≤ length (now buffer)) ⌝ }
-    ensures { λ r. ⌜ Gives (dumpOutcome desk house) r (now (buffer .entry)) (now (buffer .exit)) ⌝ }
-{
-    let s = desk.tuning;
-    let length = answers::answer_dump(buffer, house, s);
-    Answered {
-        desk,
-        number: DONE,
-        length,
-    }
-}
-
-fn answer_bad(desk: Desk, buffer: &mut [u8]) -> Answered
-    requires { ⌜ smallestBuffer ≤ length (now buffer) ⌝ }
-    ensures { λ r. ⌜ Gives (badOutcome desk) r (now (buffer .entry)) (now (buffer .exit)) ⌝ }
-{
-    let length = answers::answer_bad(buffer);
-    Answered {
-        desk,
-        number: BAD_FRAME,
-        length,
+    match frame {
+        Frame::Bad => Told {
+            number: BAD_FRAME,
+            length: answers::answer_bad(buffer),
+        },
+        Frame::Letter {
+            house: _,
+            letter: _,
+        } => Told {
+            number: DONE,
+            length: 0,
+        },
+        Frame::Key { house, key } => {
+            let tone = s.sound_of(KeyNumber(key));
+            let number = key_number(tone);
+            let length = answers::answer_key(buffer, house, key, number, tone);
+            Told { number, length }
+        }
+        Frame::Dump { house } => Told {
+            number: DONE,
+            length: answers::answer_dump(buffer, house, s),
+        },
     }
 }
 
@@ -205,13 +226,16 @@ fn take_frame(
     requires { ⌜ Ready (tablesIn (now numbers) (now codes)) desk (now buffer) ⌝ }
     ensures { λ r. ⌜ Gives (frameOutcome (tablesIn (now (numbers .entry)) (now (codes .entry))) desk (frameOf (now (frame .entry)))) r (now (buffer .entry)) (now (buffer .exit)) ⌝ }
 {
-    match frames::decode(frame) {
-        Frame::Bad => answer_bad(desk, buffer),
-        Frame::Letter { house, letter } => {
-            answer_letter(numbers, codes, desk, house, letter, buffer)
-        }
-        Frame::Key { house, key } => answer_key(desk, house, key, buffer),
-        Frame::Dump { house } => answer_dump(desk, house, buffer),
+    let taken = frames::decode(frame);
+    if let Frame::Letter { house, letter } = taken {
+        let logic = letters::first_logic(numbers, codes, letter);
+        return answer_letter(numbers, codes, desk, house, letter, logic, buffer);
+    }
+    let told = tell(desk, taken, buffer);
+    Answered {
+        desk,
+        number: told.number,
+        length: told.length,
     }
 }
 

@@ -7,10 +7,13 @@ use libc::EINTR;
 use libc::ENOENT;
 use libc::STDIN_FILENO;
 use libc::STDOUT_FILENO;
-use mutabor::read_text;
+use opening::open_text;
 use protocol::Desk;
+use protocol::TRIGGERS;
+use protocol::index_logics;
 use status::DONE;
-use stream::fill;
+use stream::Cursor;
+use stream::fill_ready;
 use tables::CODES;
 use tables::NUMBERS;
 ghost use mathlib.Core.Path.{_≡_};
@@ -22,6 +25,8 @@ ghost use Rattle.libc.specs.Io.{Moved};
 ghost use Rattle.tables.specs.Layout.{tablesIn};
 ghost use Rattle.frames.specs.Frames.{enough};
 ghost use Rattle.answers.specs.Answer.{smallestBuffer};
+ghost use Rattle.protocol.specs.Answers.{validDesk};
+ghost use Rattle.protocol.specs.Inner.{IndexOf};
 ghost use Rattle.sitedesk.specs.Serving.{Within, Ending, Came};
 
 // The longest text, and a byte more, which shows that a text is too long.
@@ -107,15 +112,6 @@ fn load(text: &mut [u8]) -> Loaded
     fail_to_load()
 }
 
-// "A refused text gives one line, `EE`, number, place in four bytes, and no more."
-fn tell_refusal(number: u8, place: u32) {
-    let mut line = [0u8; SMALLEST_BUFFER];
-    let n = answers::answer_refusal(&mut line, number, place);
-    if !io::write_all(STDOUT_FILENO, &line[..n]) {
-        os::fail(b"standard output");
-    }
-}
-
 fn fail_to_write(desk: Desk) -> Served
     ensures { λ r. ⌜ (r .held ≡ 0) × (r .written ≡ false) ⌝ }
 {
@@ -131,6 +127,7 @@ fn fail_to_write(desk: Desk) -> Served
 fn serve_chunk(
     numbers: &[i32],
     codes: &[u16],
+    index: &[u32; TRIGGERS],
     desk: Desk,
     held: &mut [u8],
     count: usize,
@@ -138,14 +135,17 @@ fn serve_chunk(
     out: &mut [u8],
 ) -> Served
     requires { ⌜ (count ≤ enough) × (length (now held) ≡ enough) × (smallestBuffer ≤ length (now out)) ⌝ }
+    requires { ⌜ (validDesk (tablesIn (now numbers) (now codes)) desk ≡ true) × IndexOf (tablesIn (now numbers) (now codes)) (now index) ⌝ }
     ensures within { λ r. ⌜ r .held ≤ enough ⌝ }
     ensures came { λ r. ⌜ (r .written ≡ true → Came (tablesIn (now (numbers .entry)) (now (codes .entry))) desk (take count (now (held .entry))) (now (chunk .entry)) (r .desk) (take (r .held) (now (held .exit))) []) ⌝ }
+    ensures stays { λ r. ⌜ (r .written ≡ true → validDesk (tablesIn (now (numbers .entry)) (now (codes .entry))) (r .desk) ≡ true) ⌝ }
 {
     let mut d = desk;
     let mut n = count;
     let mut i: usize = 0;
     while i < chunk.len() {
-        let r = fill(numbers, codes, d, held, n, chunk, i, out);
+        let start = Cursor { held: n, next: i };
+        let r = fill_ready(numbers, codes, index, d, held, start, chunk, out);
         d = r.desk;
         n = r.held;
         i = r.next;
@@ -197,9 +197,13 @@ fn take_input(chunk: &mut [u8], held: usize) -> Input
     }
 }
 
-// Serves the input to its end. A proved loop has to end, and nothing says that the input does: it counts down from a number that no run uses up.
-fn serve_all(numbers: &[i32], codes: &[u16]) {
-    let mut desk = Desk::start();
+// Serves the input to its end, with tables and a desk that are right. A proved loop has to end, and nothing says that the input does: it counts down
+// from a number that no run uses up.
+fn serve_all(numbers: &[i32], codes: &[u16], start: Desk)
+    requires { ⌜ validDesk (tablesIn (now numbers) (now codes)) start ≡ true ⌝ }
+{
+    let index = index_logics(numbers, codes);
+    let mut desk = start;
     let mut held = [0u8; ENOUGH];
     let mut count: usize = 0;
     let mut chunk = io::large_buffer();
@@ -211,6 +215,7 @@ fn serve_all(numbers: &[i32], codes: &[u16]) {
         let r = serve_chunk(
             numbers,
             codes,
+            &index,
             desk,
             &mut held,
             count,
@@ -226,16 +231,25 @@ fn serve_all(numbers: &[i32], codes: &[u16]) {
     }
 }
 
-// Reads the text, and serves the input by its tables.
+fn write_line(line: &[u8]) {
+    if !io::write_all(STDOUT_FILENO, line) {
+        os::fail(b"standard output");
+    }
+}
+
+// Opens the text, and serves the input by its tables, or writes the line of its refusal.
 fn run(text: &[u8]) {
     let mut numbers = [0i32; NUMBERS];
     let mut codes = [0u16; CODES];
-    let reading = read_text(text, &mut numbers, &mut codes);
-    if reading.number != DONE {
-        tell_refusal(reading.number, reading.place);
+    let mut line = [0u8; SMALLEST_BUFFER];
+    let opened = open_text(text, &mut numbers, &mut codes, &mut line);
+    let n = opened.length;
+    if opened.number != DONE {
+        write_line(&line[..n]);
         return;
     }
-    serve_all(&numbers, &codes);
+    let desk = opened.desk;
+    serve_all(&numbers, &codes, desk);
 }
 
 fn main() {

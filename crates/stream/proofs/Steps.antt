@@ -1,21 +1,32 @@
 -- One byte further in a stream: a byte that is held, and a line that is answered.
 use Prim.Native.Nat.{ℕ, _+_, _≤_, _<_}
-use mathlib.Core.Path.{_≡_, refl, sym, ap, _∙_}
-use mathlib.Core.List.{List, [], _∷_, _++_, append-assoc}
+use mathlib.Core.Path.{_≡_, refl, sym, ap, _∙_, subst}
+use mathlib.Core.Bool.{true}
+use mathlib.Core.List.{List, [], _∷_, _++_, append-assoc, append-nil}
 use native.Mathlib.Numerals.{add-one}
 use native.Mathlib.Omega.{arith}
-use borrow.Author.Tests.{le-ltb, eq-eqb, ne-eqb}
+use borrow.Author.Tests.{le-ltb, eq-eqb, ne-eqb, leb-true}
+use types.Run.{OneOf}
+use denote.Enum.Declared.{tagOf}
+use lib.Dec.{leb}
 use lib.ListN.{length, getD, take, drop, set, take-append-drop, length-append, length-take, length-drop}
 use lib.Seq.{drop-cons, take-suc-set, take-all, take-at, drop-at, drop-drop, drop-append-le, length-take-le}
 use Rattle.hexadecimal.specs.Lines.{lineFeed}
-use Rattle.frames.specs.Frames.{enough}
+use Rattle.tuning.proofs.Lists.{both}
+use Rattle.frames.specs.Frames.{firstLetter, lastLetter, isHouse, isLetter, frameOf, inside, enough}
+use Rattle.frames.specs.declared.Frame.{Frame}
+use Rattle.frames.specs.declared.Frame.the-variants.{Bad, Letter, Key, Dump}
+use Rattle.frames.proofs.Frame as variants
 use Rattle.answers.specs.Answer.{smallestBuffer}
 use Rattle.tables.specs.Layout.{Tables}
 use Rattle.protocol.specs.declared.Desk.{Desk}
 use Rattle.protocol.specs.declared.Answered.{Answered}
-use Rattle.protocol.specs.Answers.{Outcome, answerOf, Gives}
+use Rattle.protocol.specs.declared.Told.{Told}
+use Rattle.protocol.specs.Answers.{Outcome, letterOutcome, frameOutcome, validDesk, answerOf, Gives}
+use Rattle.protocol.specs.Inner.{triggers, toldOutcome, Tells}
+use Rattle.protocol.proofs.Ways.{gives, damaged, taken, on-letter, noLetter, toldBy, told-gives}
 use Rattle.stream.specs.Feed.{Fed, feed, fedByte, fed, finished, streamed, SameStream}
-use Rattle.stream.specs.Inner.{SameLine}
+use Rattle.stream.specs.Inner.{SameLine, SameSkipped}
 use Rattle.stream.proofs.Whole.{enough-held}
 
 -- at the end of a stream a line feed behind a line that is not empty changes nothing
@@ -112,3 +123,31 @@ module _ (chunk : List ℕ) (i : ℕ) (k : i < length chunk) where
       (λ x. feed (g .desk x) [] (out-law out after (o .line) (drop (length (o .line)) before) post used (r .length) u (g .buffer) (g .size) x))
       ∙ ap (λ (q : Outcome). streamed t (feed (q .desk) [] (take used out ++ q .line)) rest) (room-law t d l room m)
       ∙ sym (ap (finished t) (fed-on t (feed d l (take used out)) more ∙ rw (eq-eqb (getD chunk i 0) lineFeed b)))
+
+  -- it is a line feed, and the line gets no answer, since the tables or the desk are damaged
+  pub on-skip : (l : List ℕ) → getD chunk i 0 ≡ lineFeed → SameSkipped l (drop i chunk) [] (drop (i + 1) chunk)
+  unfolding fedByte
+  on-skip l b t d v out more =
+      let rest = drop (i + 1) chunk ++ more in
+      ap (λ (w : List ℕ). streamed t (feed d [] w) rest) (sym (append-nil out))
+      ∙ ap (λ (o : Outcome). streamed t (feed (o .desk) [] (out ++ o .line)) rest) (damaged t d l smallestBuffer (omega arith) refl v)
+      ∙ sym (ap (finished t) (fed-on t (feed d l out) more ∙ rw (eq-eqb (getD chunk i 0) lineFeed b)))
+
+-- ---- the answer to a frame, by its kind
+
+pub letter-byte : {f : Frame} (house letter : ℕ) → f ≡ Letter house letter → inside f ≡ true → letter < triggers
+letter-byte house letter e h =
+    let b = both (isHouse house) (isLetter letter) (ap inside (sym e) ∙ h) .1 in
+    omega (arith, leb-true letter lastLetter (both (leb firstLetter letter) (leb letter lastLetter) b .1))
+
+module _ (t : Tables) (d : Desk) (line : List ℕ) (room : ℕ) (m : smallestBuffer ≤ room) (v : validDesk t d ≡ true) {f : Frame} (e : f ≡ frameOf line) where
+  here : frameOutcome t d f ≡ answerOf t d line room
+  here = ap (frameOutcome t d) e ∙ taken t d line room m refl v
+
+  pub letter-answered : (house letter : ℕ) {r : Answered} {before after : List ℕ} → f ≡ Letter house letter
+      → Gives (letterOutcome t d house letter) r before after → Gives (answerOf t d line room) r before after
+  letter-answered house letter h g = gives (on-letter t d line e house letter h ∙ taken t d line room m refl v) g
+
+  pub told-answered : {r : Told} {before after : List ℕ} → OneOf noLetter (tagOf variants.the-type f) → Tells (toldOutcome d f) r before after
+      → Gives (answerOf t d line room) (toldBy d r) before after
+  told-answered h r = gives here (told-gives t d f h r)

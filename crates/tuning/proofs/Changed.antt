@@ -49,14 +49,11 @@ module _ (f : ℕ → Position → Position) (s : State) where
 abbrev pub shifted : ℤ → Position → Position
 shifted d p = positionOf (raised cents d (heardAt p))
 
-module _ (d : ℤ) where
-  shifted-muted : (n : ℕ) → map (shifted d) (map positionOf (replicate n muted)) ≡ map positionOf (replicate n muted)
-  shifted-muted zero = refl
-  shifted-muted (suc n) = ap (λ (k : List Position). none ∷ k) (shifted-muted n)
-
-  pub shifted-places : (l : List (Sound ℤ)) (n : ℕ) → map (shifted d) (map positionOf (l ++ replicate n muted)) ≡ map positionOf (map (raised cents d) l ++ replicate n muted)
-  shifted-places [] n = shifted-muted n
-  shifted-places (t ∷ l) n = rw (heard-tone t, shifted-places l n)
+pub shifted-places : (d : ℤ) (l us : List (Sound ℤ))
+    → part (λ k. shifted d) (length l) (map positionOf (l ++ us)) ≡ map positionOf (map (raised cents d) l ++ us)
+unfolding part
+shifted-places d [] us = refl
+shifted-places d (t ∷ l) us = rw (heard-tone t, shifted-places d l us)
 
 -- ---- the keys from x on as the tones
 
@@ -133,13 +130,14 @@ module _ (s : State) (h : validState s ≡ true) (n : length (s .tones) ≡ plac
       → _≡_ {A = State} (record { anchor = record { 0 = a }; width = s .width; tones = p; period = record { 0 = d } }) (coded (record { anchor = a; tones = l; period = d }))
   coded-places l e p q a d = rw (q, e, held-width s h n)
 
-  pub anchored-state : (b : ℕ) (d : ℤ) → _≡_ {A = State} (record { anchor = record { 0 = b }; width = s .width; tones = part (λ k. shifted d) places (s .tones); period = s .period })
+  pub anchored-state : (b : ℕ) (d : ℤ) (i : ℕ) → i ≡ s .width
+      → _≡_ {A = State} (record { anchor = record { 0 = b }; width = s .width; tones = part (λ k. shifted d) i (s .tones); period = s .period })
       (coded (anchoredBy cents (held s) b (sounds d)))
-  anchored-state b d =
+  anchored-state b d i e =
       coded-places (map (raised cents d) (held s .tones)) (length-map (held s .tones) (raised cents d)) _
-      (part-all (shifted d) places (s .tones) (omega arith)
-      ∙ ap (map (shifted d)) (sym (places-held s h n))
-      ∙ shifted-places d (held s .tones) (places - length (held s .tones)))
+      (ap (part (λ k. shifted d) i) (sym (places-held s h n))
+      ∙ ap (λ (k : ℕ). part (λ m. shifted d) k (map positionOf (held s .tones ++ unused (held s .tones)))) (e ∙ sym (held-width s h n))
+      ∙ shifted-places d (held s .tones) (unused (held s .tones)))
       b (s .period .0)
 
   pub retoned-state : (l : ToneChanges) → length (l .positions) ≡ places → (i : ℕ) → i ≡ min (s .width) (l .count)

@@ -104,9 +104,10 @@ impl State {
         requires { ⌜ (validState self ≡ true) × (natAbs (by .0) ≤ 1_724_000_000) ⌝ }
         ensures { λ r. ⌜ r ≡ coded (anchoredBy cents (held self) b (Sound.sounds (by .0))) ⌝ }
     {
+        let width = self.width as usize;
         let mut s = self;
         let mut i: usize = 0;
-        while i < PLACES {
+        while i < width {
             let p = s.tones[i];
             let old = p.tone;
             let tone = old.raise(by);

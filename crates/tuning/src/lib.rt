@@ -199,16 +199,19 @@ impl State {
         ensures { λ r. ⌜ r ≡ not (anyBeyond (map heardAt (take (self .width) (self .tones)))) ⌝ }
     {
         let width = self.width as usize;
-        let mut ok = true;
         let mut i: usize = 0;
-        while i < PLACES {
+        while i < width {
+            if PLACES <= i {
+                return true;
+            }
             let p = self.tones[i];
             let tone = p.tone;
-            let allowed = tone.is_allowed();
-            ok = ok & (allowed | (width <= i));
+            if !tone.is_allowed() {
+                return false;
+            }
             i += 1;
         }
-        ok
+        true
     }
 
     // Whether the places past the width are unused.

@@ -18,7 +18,7 @@ use Rattle.answers.proofs.put_state.Tie as tie
 
 -- the width is the number of tones held
 wide : (c : tie.Start) → width cents (held (c .args .s)) ≡ c .args .s .width
-wide c = let long : length (c .args .s .tones) ≡ places = search length-mapped in held-width (c .args .s) (c .pre) long
+wide c = let long : length (c .args .s .tones) ≡ places = search length-mapped in held-width (c .args .s) (c .pre .1) long
 
 put-byte-requires : tie.Need-put-byte-requires
 put-byte-requires c κs = search needs

@@ -27,10 +27,10 @@ abbrev μ-loop : tie.MeasureT-loop
 -- the state has as many tones as it is wide, at most sixty
 module _ (c : tie.Start Inv-loop μ-loop) where
   wide : length (held (c .args .t2) .tones) ≡ c .args .t2 .width
-  wide = let long : length (c .args .t2 .tones) ≡ places = search length-mapped in held-width (c .args .t2) (c .pre) long
+  wide = let long : length (c .args .t2 .tones) ≡ places = search length-mapped in held-width (c .args .t2) (c .pre .1) long
 
   most : c .args .t2 .width ≤ places
-  most = valid-of (c .args .t2) (c .pre) .most
+  most = valid-of (c .args .t2) (c .pre .1) .most
 
 cast-width : tie.Need-cast-width Inv-loop μ-loop
 cast-width c = search needs
@@ -54,7 +54,10 @@ sound-bits-requires : tie.Need-sound-bits-requires Inv-loop μ-loop
 sound-bits-requires c κs = search needs
 
 put-four-requires : tie.Need-put-four-requires Inv-loop μ-loop
-put-four-requires c κs = search needs
+put-four-requires c κs =
+    let l = c .before .before .before .before in
+    let start = l .before .before in
+    omega (arith, most start, l .loop .inv .1, start .pre .0, c .before .before .before .loop-test .taken)
 
 add-i : tie.Need-add-i Inv-loop μ-loop
 add-i c = search needs

@@ -1,7 +1,7 @@
--- Four bytes after each other are all four; past the end nothing is written.
-use mathlib.Core.Path.{refl, sym}
+-- Four bytes after each other are all four.
+use mathlib.Core.Path.{refl}
 use Rattle.hexadecimal.specs.Numbers.{fourOf}
-use Rattle.hexadecimal.proofs.Written.{written-then, written-out}
+use Rattle.hexadecimal.proofs.Written.{written-then}
 use borrow.Author.Needs.{needs}
 use Rattle.hexadecimal.proofs.put_four.Statement.{statement}
 use Rattle.hexadecimal.proofs.put_four.Tie as tie
@@ -50,9 +50,6 @@ returns c =
     let three = written-then _ _ _ _ _ two (c .before .before .before .before .before .before .put-byte3 .ensures) refl in
     written-then _ _ _ _ _ three (c .before .before .put-byte4 .ensures) refl
 
-returns-2 : tie.Need-returns-2
-returns-2 c = sym (written-out _ _ _ (c .if1 .left))
-
 pub put-four-spec : {M : Type 1} → statement M
 put-four-spec =
     tie.close
@@ -69,5 +66,4 @@ put-four-spec =
     cast-put-byte-4
     put-byte-requires-4
     same-length
-    returns
-    returns-2)
+    returns)

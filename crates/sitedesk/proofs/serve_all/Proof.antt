@@ -1,24 +1,34 @@
--- The loop counts down from a number that no run uses up.
-use mathlib.Core.Path.{_≡_, sym}
-use Prim.Native.Nat.{_≤_}
+-- `sitedesk::serve_all` is safe and ends. The loop counts down from a number that no run uses up.
+use mathlib.Core.Path.{_≡_, sym, _∙_}
+use mathlib.Core.Bool.{true}
+use Prim.Native.Nat.{ℕ, _≤_}
 use native.Mathlib.Omega.{arith}
 use lib.ListN.{length}
 use lib.Seq.{length-take-le}
+use Rattle.tables.specs.Layout.{tablesIn}
 use Rattle.frames.specs.Frames.{enough}
+use Rattle.protocol.specs.Answers.{validDesk}
+use Rattle.tuning.proofs.Lists.{both}
+use Rattle.validity.proofs.Laws.{slices-valid}
+use Rattle.protocol.proofs.Ways.{tables-right}
+use borrow.Author.Tests.{not-false}
 use borrow.Author.Needs.{needs}
 use Rattle.sitedesk.proofs.serve_all.Statement.{statement}
 use Rattle.sitedesk.proofs.serve_all.Tie as tie
 
 abbrev Inv-loop : tie.InvT-loop
-Inv-loop numbers codes desk₀ held₀ count₀ chunk₀ out₀ turns₀ desk held count chunk out turns =
+Inv-loop numbers codes index desk₀ held₀ count₀ chunk₀ out₀ turns₀ desk held count chunk out turns =
     (count ≤ enough) × (length held ≡ enough) × (length chunk ≡ length chunk₀) × (length out ≡ length out₀)
+    × (validDesk (tablesIn numbers codes) desk ≡ true)
 
 abbrev μ-loop : tie.MeasureT-loop
-μ-loop numbers codes desk₀ held₀ count₀ chunk₀ out₀ turns₀ desk held count chunk out turns =
+μ-loop numbers codes index desk₀ held₀ count₀ chunk₀ out₀ turns₀ desk held count chunk out turns =
     turns
 
-start-requires : tie.Need-start-requires Inv-loop μ-loop
-start-requires c κs = search needs
+index-logics-requires : tie.Need-index-logics-requires Inv-loop μ-loop
+index-logics-requires c κs =
+    let a = c .before .before in
+    slices-valid (a .args .numbers .now) (a .args .codes .now) (tables-right (tablesIn (a .args .numbers .now) (a .args .codes .now)) (a .args .start) (a .pre))
 
 large-buffer-requires : tie.Need-large-buffer-requires Inv-loop μ-loop
 large-buffer-requires c κs = search needs
@@ -27,7 +37,7 @@ large-buffer-requires-2 : tie.Need-large-buffer-requires-2 Inv-loop μ-loop
 large-buffer-requires-2 c κs = search needs
 
 loop-holds : tie.Need-loop-holds Inv-loop μ-loop
-loop-holds c = search needs
+loop-holds c = (search needs, search needs, search needs, search needs, c .before .before .before .before .before .pre)
 
 slice-aggregate-take-input : tie.Need-slice-aggregate-take-input Inv-loop μ-loop
 slice-aggregate-take-input c = search needs
@@ -43,14 +53,16 @@ array-share-prefix-chunk c = search needs
 
 slice-aggregate-serve-chunk-2 : tie.Need-slice-aggregate-serve-chunk-2 Inv-loop μ-loop
 slice-aggregate-serve-chunk-2 c =
-    let taken = c .before .before .before in
+    let taken = c .before .before .before .before in
     sym (length-take-le _ _ (omega (arith, taken .take-input .ensures, taken .take-input .kept)))
 
 slice-aggregate-serve-chunk-3 : tie.Need-slice-aggregate-serve-chunk-3 Inv-loop μ-loop
 slice-aggregate-serve-chunk-3 c = search needs
 
 serve-chunk-requires : tie.Need-serve-chunk-requires Inv-loop μ-loop
-serve-chunk-requires c κs = search needs
+serve-chunk-requires c κs =
+    let l = c .before .before .before .before .before .before .before .before in
+    (search needs, (l .loop .inv .4, l .before .before .before .index-logics .ensures))
 
 returns : tie.Need-returns Inv-loop μ-loop
 returns c = search needs
@@ -62,7 +74,11 @@ loop-less : tie.Need-loop-less Inv-loop μ-loop
 loop-less c = search needs
 
 loop-again : tie.Need-loop-again Inv-loop μ-loop
-loop-again c = search needs
+loop-again c =
+    let served = c .before .before .before .before .before .before in
+    let taken = served .before .before .before .before .before .before in
+    let v = taken .before .before .before .loop .inv in
+    (search needs, search needs, omega (arith, taken .take-input .kept, v), omega (arith, served .serve-chunk .kept, v), served .serve-chunk .ensures .1 .1 (both (taken .take-input .result .more) (served .serve-chunk .result .written) (not-false _ (c .if1 .left)) .1))
 
 returns-2 : tie.Need-returns-2 Inv-loop μ-loop
 returns-2 c = search needs
@@ -73,7 +89,7 @@ serve-all-spec =
     (tie.spec
     Inv-loop
     μ-loop
-    start-requires
+    index-logics-requires
     large-buffer-requires
     large-buffer-requires-2
     loop-holds

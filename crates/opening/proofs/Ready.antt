@@ -1,0 +1,89 @@
+-- A text whose number is 0 was accepted, so that its tables are valid, and with the start's desk over them no frame is answered 23. Assumes nothing.
+use mathlib.Core.Path.{_≡_, refl, sym, ap, _∙_}
+use mathlib.Core.Bool.{Bool, true, false, cond}
+use mathlib.Core.List.{List, []}
+use Prim.Native.Nat.{ℕ, zero, suc, _≤_}
+use native.Mathlib.Omega.{arith}
+use lib.Dec.{ltb, eqb}
+use lib.ListN.{length}
+use Rattle.status.specs.Status.{done, textTooLong, bufferTooSmall}
+use Rattle.values.specs.declared.Outcome.{Outcome}
+use Rattle.values.specs.declared.Outcome.the-variants.{Done, Circular, OutOfRange}
+use Rattle.tables.specs.Layout.{Tables, fullSize}
+use Rattle.grammar.specs.Reading.{readItems}
+use Rattle.names.specs.Names.{Meant, meanings}
+use Rattle.program.specs.Program.{Program, programOf}
+use Rattle.program.specs.Meaning.{valued}
+use Rattle.program.specs.Text.{Verdict, refused, accepted, byValue, ifZero, byMeaning, readText}
+use Rattle.program.proofs.AllowedText.{accepted-allowed}
+use Rattle.filling.specs.Tables.{tablesOf}
+use Rattle.hexadecimal.specs.Digits.{hexes}
+use Rattle.hexadecimal.specs.Numbers.{fourOf}
+use Rattle.hexadecimal.specs.Lines.{lineOf}
+use Rattle.answers.specs.Answer.{refusalBytes, smallestBuffer}
+use Rattle.mutabor.specs.Reading.{Left, byVerdict, reading}
+use Rattle.mutabor.proofs.ValidTables.{accepted-valid}
+use Rattle.protocol.specs.Answers.{startDesk, validDesk}
+use Rattle.protocol.proofs.Stays.{right-valid, start-right}
+use Rattle.opening.specs.Opening.{openedBy, opening}
+
+-- a refusal has a number
+abbrev numbered : Verdict → Type 0
+numbered (refused n p) = (n ≡ done → ⊥)
+numbered (accepted p) = Unit
+
+if-zero : (n place : ℕ) (v : Verdict) → numbered v → numbered (ifZero n place v)
+if-zero zero place v h = h
+if-zero (suc n) place v h = λ e. omega arith
+
+by-value : (p : Program) (o : Outcome) → numbered (byValue p o)
+by-value p (Circular i) = λ e. omega arith
+by-value p (OutOfRange i) = λ e. omega arith
+by-value p Done = tt
+
+by-meaning : (m : Meant) → numbered (byMeaning m)
+by-meaning m = if-zero (m .number) (m .place) _ (by-value (programOf (m .items)) (valued (programOf (m .items))))
+
+text-numbered : (text : List ℕ) → numbered (readText text)
+unfolding readText
+text-numbered text =
+    let r = readItems text in
+    if-zero (r .number) (r .place) _ (by-meaning (meanings text (r .items)))
+
+-- number 0: the tables are those of an accepted text
+pub ready : (text : List ℕ) (t : Tables) → reading text t .number ≡ done → validDesk (reading text t .tables) startDesk ≡ true
+unfolding reading
+ready text t h = sized (fullSize t) h
+  where
+    verdict : (v : Verdict) → readText text ≡ v → numbered v → byVerdict t v .number ≡ done → validDesk (byVerdict t v .tables) startDesk ≡ true
+    verdict (refused n p) e k h = absurd (k h)
+    verdict (accepted p) e k h =
+        let v = accepted-valid text p (accepted-allowed text p e) e in
+        right-valid (tablesOf p) v startDesk (start-right (tablesOf p) v)
+
+    sized : (b : Bool) → byVerdict t (cond b (readText text) (refused textTooLong 0)) .number ≡ done
+        → validDesk (byVerdict t (cond b (readText text) (refused textTooLong 0)) .tables) startDesk ≡ true
+    sized true h = verdict (readText text) refl (text-numbered text) h
+    sized false h = absurd (omega (arith, h))
+
+-- ---- the line of a refusal is short
+
+refusal-length : (number place : ℕ) → length (lineOf (refusalBytes number place)) ≡ 13
+unfolding hexes fourOf
+refusal-length number place = refl
+
+-- every line that a text gets fits a buffer that is long enough for any answer
+pub line-fits : (text : List ℕ) (t : Tables) (room : ℕ) → length (opening text t room .line) ≤ smallestBuffer
+unfolding opening
+line-fits text t room = small (ltb room smallestBuffer)
+  where
+    l : Left
+    l = reading text t
+
+    told : (b : Bool) → length (cond b [] (lineOf (refusalBytes (l .number) (l .place)))) ≤ smallestBuffer
+    told true = omega arith
+    told false = omega (arith, refusal-length (l .number) (l .place))
+
+    small : (b : Bool) → length (cond b (record { number = bufferTooSmall; line = []; tables = t }) (openedBy l) .line) ≤ smallestBuffer
+    small true = omega arith
+    small false = told (eqb (l .number) done)

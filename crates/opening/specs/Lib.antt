@@ -1,0 +1,2 @@
+-- What a text gives before its first frame.
+pub mod Opening

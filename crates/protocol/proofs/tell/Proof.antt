@@ -1,0 +1,79 @@
+-- `protocol::tell` meets its contract, by the frame's kind. Assumes nothing.
+use mathlib.Core.Path.{refl}
+use native.Mathlib.Omega.{arith}
+use Rattle.protocol.proofs.Ways.{key-inside, tells, outcome-tells, key-gives}
+use borrow.Author.Needs.{needs}
+use Rattle.protocol.proofs.tell.Statement.{statement}
+use Rattle.protocol.proofs.tell.Tie as tie
+
+enum-told : tie.Need-enum-told
+enum-told c = search needs
+
+answer-bad-requires : tie.Need-answer-bad-requires
+answer-bad-requires c κs = search needs
+
+enum-told-2 : tie.Need-enum-told-2
+enum-told-2 c = search needs
+
+enum-known-frame : tie.Need-enum-known-frame
+enum-known-frame c = search needs
+
+sound-of-requires : tie.Need-sound-of-requires
+sound-of-requires c κs = let within = key-inside _ _ (c .before .frame .given .1) (c .before .before .before .before .before .pre .2) in (c .before .before .before .before .before .pre .0, omega arith)
+
+key-number-requires : tie.Need-key-number-requires
+key-number-requires c κs = search needs
+
+answer-key-requires : tie.Need-answer-key-requires
+answer-key-requires c κs = search needs
+
+enum-known-frame-2 : tie.Need-enum-known-frame-2
+enum-known-frame-2 c = search needs
+
+answer-dump-requires : tie.Need-answer-dump-requires
+answer-dump-requires c κs = search needs
+
+same-length : tie.Need-same-length
+same-length c = search needs
+
+returns : tie.Need-returns
+returns c = let r = c .before .before .answer-bad .ensures in tells _ (c .before .before .before .before .enum-told .given .1) (record { number = refl; size = r .0; buffer = r .1 })
+
+returns-2 : tie.Need-returns-2
+returns-2 c = tells _ (c .enum-told2 .given .1) (record { number = refl; size = refl; buffer = refl })
+
+same-length-2 : tie.Need-same-length-2
+same-length-2 c = search needs
+
+returns-3 : tie.Need-returns-3
+returns-3 c =
+    let r = c .before .before .answer-key .ensures in
+    tells (c .before .before .before .before .before .before .before .before .before .before .before .args .desk) (c .before .before .before .before .before .before .before .frame .given .1)
+    (outcome-tells (key-gives (c .before .before .before .before .before .before .before .before .before .before .before .args .desk) _ _ _ _ (c .before .before .before .before .before .sound-of .ensures .0) (c .before .before .before .before .key-number .ensures)) (record { number = refl; size = r .0; buffer = r .1 }))
+
+same-length-3 : tie.Need-same-length-3
+same-length-3 c = search needs
+
+returns-4 : tie.Need-returns-4
+returns-4 c = let r = c .before .before .answer-dump .ensures in tells _ (c .before .before .before .before .before .frame2 .given .1) (record { number = refl; size = r .0; buffer = r .1 })
+
+pub tell-spec : {M : Type 1} → statement M
+tell-spec =
+    tie.close
+    (tie.spec
+    enum-told
+    answer-bad-requires
+    enum-told-2
+    enum-known-frame
+    sound-of-requires
+    key-number-requires
+    answer-key-requires
+    enum-known-frame-2
+    answer-dump-requires
+    same-length
+    returns
+    returns-2
+    same-length-2
+    returns-3
+    same-length-3
+    returns-4)
