@@ -1,9 +1,10 @@
 -- A text whose number is 0 was accepted, so that its tables are valid, and with the start's desk over them no frame is answered 23. Assumes nothing.
-use mathlib.Core.Path.{_≡_, refl, sym, ap, _∙_}
+use mathlib.Core.Path.{_≡_, refl, subst}
 use mathlib.Core.Bool.{Bool, true, false, cond}
 use mathlib.Core.List.{List, []}
-use Prim.Native.Nat.{ℕ, zero, suc, _≤_}
+use Prim.Native.Nat.{ℕ, zero, suc, _≤_, _<_}
 use native.Mathlib.Omega.{arith}
+use borrow.Author.Tests.{lt-ltb, le-ltb, ne-eqb}
 use lib.Dec.{ltb, eqb}
 use lib.ListN.{length}
 use Rattle.status.specs.Status.{done, textTooLong, bufferTooSmall}
@@ -25,7 +26,8 @@ use Rattle.mutabor.specs.Reading.{Left, byVerdict, reading}
 use Rattle.mutabor.proofs.ValidTables.{accepted-valid}
 use Rattle.protocol.specs.Answers.{startDesk, validDesk}
 use Rattle.protocol.proofs.Stays.{right-valid, start-right}
-use Rattle.opening.specs.Opening.{openedBy, opening}
+use Rattle.opening.specs.Opening.{Opening, refusalLine, openedBy, opening, Opens}
+use Rattle.opening.specs.declared.Opened.{Opened}
 
 -- a refusal has a number
 abbrev numbered : Verdict → Type 0
@@ -65,6 +67,26 @@ ready text t h = sized (fullSize t) h
         → validDesk (byVerdict t (cond b (readText text) (refused textTooLong 0)) .tables) startDesk ≡ true
     sized true h = verdict (readText text) refl (text-numbered text) h
     sized false h = absurd (omega (arith, h))
+
+-- ---- the ways through a call
+
+pub opens : {o q : Opening} {r : Opened} {lent : Tables} {before after : List ℕ} → o ≡ q → Opens o r lent before after → Opens q r lent before after
+opens {r = r} {lent = lent} {before = before} {after = after} e h = subst (λ (x : Opening). Opens x r lent before after) e h
+
+module _ (text : List ℕ) (t : Tables) (room : ℕ) where
+  pub opens-small : room < smallestBuffer → record { number = bufferTooSmall; line = []; tables = t } ≡ opening text t room
+  unfolding opening
+  opens-small h = rw (lt-ltb room smallestBuffer h)
+
+  pub opens-read : smallestBuffer ≤ room → openedBy (reading text t) ≡ opening text t room
+  unfolding opening
+  opens-read h = rw (le-ltb room smallestBuffer h)
+
+pub accepted-line : (l : Left) → l .number ≡ done → refusalLine (l .number) (l .place) ≡ []
+accepted-line l e = rw e
+
+pub refused-line : (l : Left) → (l .number ≡ done → ⊥) → refusalLine (l .number) (l .place) ≡ lineOf (refusalBytes (l .number) (l .place))
+refused-line l e = rw (ne-eqb (l .number) done e)
 
 -- ---- the line of a refusal is short
 

@@ -31,9 +31,9 @@ unfoldable pub opening : List ℕ → Tables → ℕ → Opening
 opening text t room = cond (ltb room smallestBuffer) (record { number = bufferTooSmall; line = []; tables = t }) (openedBy (reading text t))
 
 -- the whole result of a call, with the lent tables and the buffer after it
-pub record Opens (o : Opening) (r : Opened) (tables : Tables) (before after : List ℕ) : Type 0 where
+pub record Opens (o : Opening) (r : Opened) (lent : Tables) (before after : List ℕ) : Type 0 where
   pub number : r .number ≡ o .number
   pub desk : r .desk ≡ startDesk
   pub size : r .length ≡ length (o .line)
-  pub tables : tables ≡ o .tables
+  pub tables : lent ≡ o .tables
   pub buffer : after ≡ begunWith (o .line) before
