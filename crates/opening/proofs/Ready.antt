@@ -95,7 +95,7 @@ unfolding hexes fourOf
 refusal-length number place = refl
 
 -- every line that a text gets fits a buffer that is long enough for any answer
-pub line-fits : (text : List ℕ) (t : Tables) (room : ℕ) → length (opening text t room .line) ≤ smallestBuffer
+line-fits : (text : List ℕ) (t : Tables) (room : ℕ) → length (opening text t room .line) ≤ smallestBuffer
 unfolding opening
 line-fits text t room = small (ltb room smallestBuffer)
   where
@@ -109,3 +109,7 @@ line-fits text t room = small (ltb room smallestBuffer)
     small : (b : Bool) → length (cond b (record { number = bufferTooSmall; line = []; tables = t }) (openedBy l) .line) ≤ smallestBuffer
     small true = omega arith
     small false = told (eqb (l .number) done)
+
+pub opened-fits : (text : List ℕ) (t : Tables) (room : ℕ) {r : Opened} {lent : Tables} {before after : List ℕ} → Opens (opening text t room) r lent before after
+    → r .length ≤ smallestBuffer
+opened-fits text t room g = omega (arith, g .size, line-fits text t room)

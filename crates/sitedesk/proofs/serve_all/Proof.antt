@@ -27,7 +27,7 @@ abbrev μ-loop : tie.MeasureT-loop
 
 index-logics-requires : tie.Need-index-logics-requires Inv-loop μ-loop
 index-logics-requires c κs =
-    let a = c .before .before in
+    let a = c .before in
     slices-valid (a .args .numbers .now) (a .args .codes .now) (tables-right (tablesIn (a .args .numbers .now) (a .args .codes .now)) (a .args .start) (a .pre))
 
 large-buffer-requires : tie.Need-large-buffer-requires Inv-loop μ-loop
@@ -37,7 +37,7 @@ large-buffer-requires-2 : tie.Need-large-buffer-requires-2 Inv-loop μ-loop
 large-buffer-requires-2 c κs = search needs
 
 loop-holds : tie.Need-loop-holds Inv-loop μ-loop
-loop-holds c = (search needs, search needs, search needs, search needs, c .before .before .before .before .before .pre)
+loop-holds c = (search needs, search needs, search needs, search needs, c .before .before .before .before .pre)
 
 slice-aggregate-take-input : tie.Need-slice-aggregate-take-input Inv-loop μ-loop
 slice-aggregate-take-input c = search needs
