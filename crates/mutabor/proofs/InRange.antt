@@ -6,13 +6,13 @@ use native.Mathlib.Omega.{arith}
 use borrow.Author.Tests.{leb-false, le-leb}
 use lib.Dec.{leb, leb·zero}
 use lib.IntN.{ℤ, pos, negsuc}
+use Rattle.limits.specs.Limits.{leastDivisor, mostAmount, firstLetter, lastLetter}
 use Rattle.tuning.specs.Desk.{isAnchor}
 use Rattle.tuning.specs.declared.Operator.the-variants.{Plus, Minus, Times, Divide}
 use Rattle.tuning.specs.declared.Amount.{Amount}
 use Rattle.tuning.specs.declared.Amount.the-variants.{Kept, Absolute, Relative}
-use Rattle.tables.specs.Layout.{amountCode, amountNumber, minusCode, divideCode}
 use Rattle.tables.specs.Layout.{farthestSum}
-use Rattle.validity.specs.Valid.{isSum, mostAmount, isAmount, firstLetter, lastLetter, isLetter, isPart}
+use Rattle.validity.specs.Valid.{isSum, isAnchorAmount, isWidthAmount, isLetter, isPart}
 use Rattle.program.specs.Allowed.{AnchorAmount, WidthAmount, Letter}
 use Rattle.filling.specs.Tables.{capped}
 
@@ -32,29 +32,24 @@ sum-right (negsuc n) = go (leb (farthestSum - 1) n) refl
 pub key-right : (a : ℕ) → a ≤ 127 → isAnchor (pos a) ≡ true
 key-right a h = rw (leb·zero a, le-leb a 127 h)
 
-pub anchor-right : (m : Amount) → AnchorAmount m → isAmount minusCode (pos (amountCode m)) (pos (amountNumber m)) ≡ true
+pub anchor-right : (m : Amount) → AnchorAmount m → isAnchorAmount m ≡ true
 anchor-right Kept h = refl
-anchor-right (Absolute n) h = rw (leb·zero n, le-leb n mostAmount h)
-anchor-right (Relative Plus n) h = rw (leb·zero n, le-leb n mostAmount h)
-anchor-right (Relative Minus n) h = rw (leb·zero n, le-leb n mostAmount h)
+anchor-right (Absolute n) h = le-leb n mostAmount h
+anchor-right (Relative Plus n) h = le-leb n mostAmount h
+anchor-right (Relative Minus n) h = le-leb n mostAmount h
 anchor-right (Relative Times n) h = absurd h
 anchor-right (Relative Divide n) h = absurd h
 
-pub width-right : (m : Amount) → WidthAmount m → isAmount divideCode (pos (amountCode m)) (pos (amountNumber m)) ≡ true
+pub width-right : (m : Amount) → WidthAmount m → isWidthAmount m ≡ true
 width-right Kept h = refl
-width-right (Absolute n) h = rw (leb·zero n, le-leb n mostAmount h)
-width-right (Relative Plus n) h = rw (leb·zero n, le-leb n mostAmount h)
-width-right (Relative Minus n) h = rw (leb·zero n, le-leb n mostAmount h)
-width-right (Relative Times n) h = rw (leb·zero n, le-leb n mostAmount h)
-width-right (Relative Divide n) h = rw (leb·zero n, le-leb n mostAmount (h .1), le-leb 1 n (h .0))
+width-right (Absolute n) h = le-leb n mostAmount h
+width-right (Relative Plus n) h = le-leb n mostAmount h
+width-right (Relative Minus n) h = le-leb n mostAmount h
+width-right (Relative Times n) h = le-leb n mostAmount h
+width-right (Relative Divide n) h = rw (le-leb leastDivisor n (h .0), le-leb n mostAmount (h .1))
 
-pub letter-right : (c : ℕ) → Letter c → isLetter (pos c) ≡ true
+pub letter-right : (c : ℕ) → Letter c → isLetter c ≡ true
 letter-right c h = rw (le-leb firstLetter c (h .least), le-leb c lastLetter (h .most))
 
-pub part-right : (least most count from n : ℕ) → least ≤ n → n ≤ most → from + n ≤ count → isPart least most count from (from + n) ≡ true
-part-right least most count from n h k m =
-    rw (
-      le-leb (from + least) (from + n) (omega arith),
-      le-leb (from + n) (from + most) (omega arith),
-      le-leb (from + n) count m,
-    )
+pub part-right : (least most from n : ℕ) → least ≤ n → n ≤ most → isPart least most from (from + n) ≡ true
+part-right least most from n h k = rw (le-leb (from + least) (from + n) (omega arith), le-leb (from + n) (from + most) (omega arith))

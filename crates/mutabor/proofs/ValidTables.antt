@@ -4,12 +4,11 @@ use mathlib.Core.Path.{_≡_, refl, sym, ap, _∙_, subst}
 use mathlib.Core.Bool.{Bool, true, not, _&&_}
 use mathlib.Core.List.{List, [], _∷_, map, flatMap}
 use mathlib.Core.Option.{Option, some, none}
-use Prim.Native.Nat.{ℕ, suc, _*_, _-_, _<_}
+use Prim.Native.Nat.{ℕ, _*_, _-_, _<_}
 use native.Mathlib.Omega.{arith}
 use borrow.Author.Tests.{lt-ltb}
-use lib.Dec.{leb, leb·suc-zero}
 use lib.IntN.{ℤ, pos, _+ℤ_}
-use lib.ListN.{length, length-map, getD, replicate}
+use lib.ListN.{length, length-map, getD}
 use Rattle.names.specs.Parts as parts
 use Rattle.names.specs.Names.{meant}
 use Rattle.values.specs.declared.Outcome.the-variants.{Done}
@@ -19,15 +18,14 @@ use Rattle.tuning.specs.declared.Tone.{Tone}
 use Rattle.tuning.specs.declared.ToneChange.{ToneChange}
 use Rattle.tuning.proofs.Lists.{every}
 use Rattle.tables.specs.declared.Counts.{Counts}
-use Rattle.tables.specs.declared.Numbers.{Numbers}
+use Rattle.tables.specs.declared.Row.{Row}
 use Rattle.tables.specs.declared.Row.the-variants.{Unused}
-use Rattle.tables.specs.Layout.{Tables, used, rowWidth, mostRows, mostTones, mostChanges, mostOrders, numbersOf, readAt, writtenAll, soundingOf, pitchOf, changeCode, changeNumber, systemForm, tonesForm, logicForm}
+use Rattle.tables.specs.Layout.{Tables, used, rowWidth, mostRows, mostTones, mostChanges, mostOrders, rowAt, writtenAll, soundingOf, pitchOf, changeCode, changeNumber}
 use Rattle.tables.proofs.Lists.{full-length}
-use Rattle.tables.proofs.Stored.{written-length, numbers-read}
-use Rattle.validity.specs.Valid.{isSum, isLetter, isForm, isStart, rowRight, validTables}
+use Rattle.tables.proofs.Stored.{written-length}
+use Rattle.validity.specs.Valid.{isSum, isLetter, isSystemOrRetuning, isCalled, refersTo, isStart, declarationRight, validTables}
 use Rattle.validity.proofs.Sizes.{Sizes}
-use Rattle.validity.proofs.Runs.{start-some}
-use Rattle.validity.proofs.Laid.{valid-is, rows-laid, tones-laid, changes-laid, orders-laid, zeros-after, noughts-after}
+use Rattle.validity.proofs.Laid.{valid-is, row-laid, rows-laid, declarations-laid, tones-laid, changes-laid, orders-laid, zeros-after, noughts-after}
 use Rattle.program.specs.Program.{Declaration, ratio, root, sequence, frequency, from, system, anchor, width, freshPeriod, onwardPeriod, tones, logic, Placed, Program, Position, mute, same, named, Order}
 use Rattle.program.specs.Meaning.{declarationAt, valueOf, valued}
 use Rattle.program.specs.Allowed.{kindOf, isKind, Each, FitPlace, FitStart, FitOrder, Fits, Allowed}
@@ -36,30 +34,27 @@ use Rattle.program.proofs.AcceptedText.{steps, fits-at, value-tone, value-perio
 use Rattle.filling.specs.Tables.{sumOf, toneOf, tonesOf, changeOf, changesOf, startCode, rowOf, ordersOf, laidOut, tablesOf}
 use Rattle.mutabor.proofs.Lists.{every-append, every-within, stored-length, stored-at}
 use Rattle.mutabor.proofs.Filled.{gathered, part-stands, only-systems, only-retunings, only-logics, filled, filled-lists, tonesBefore, changesBefore, ordersBefore, rowFor, row-at}
-use Rattle.mutabor.proofs.Counted.{room}
+use Rattle.mutabor.proofs.Counted.{room, kinds-few, parts-laid}
 use Rattle.mutabor.proofs.InRange.{sum-right, key-right, anchor-right, width-right, letter-right, part-right}
 
--- ---- forms: the kinds that a name may mean are the forms of the rows that it may refer to
+-- ---- references: the kinds that a name may mean are those of the rows that it may refer to
 
 module _ (value : ℕ → ℤ) (i t c o : ℕ) where
-  abbrev form : Declaration → ℕ
-  form d = numbersOf (rowOf value i t c o d) .form
-
   -- what a start may mean, and what an order may mean
-  kind-form : (d : Declaration) → (isKind (kindOf d) (meant parts.start) ≡ leb systemForm (form d) && leb (form d) tonesForm)
-      × (isKind (kindOf d) (meant parts.order) ≡ leb systemForm (form d) && leb (form d) logicForm)
-  kind-form (ratio a b) = (refl, refl)
-  kind-form (root a b) = (refl, refl)
-  kind-form (sequence ts) = (refl, refl)
-  kind-form (frequency f) = (refl, refl)
-  kind-form (from k ts) = (refl, refl)
-  kind-form (system a l ts) = (refl, refl)
-  kind-form (anchor m) = (refl, refl)
-  kind-form (width m) = (refl, refl)
-  kind-form (freshPeriod ts) = (refl, refl)
-  kind-form (onwardPeriod ts) = (refl, refl)
-  kind-form (tones l) = (refl, refl)
-  kind-form (logic x s os) = (refl, refl)
+  kind-row : (d : Declaration) → (isKind (kindOf d) (meant parts.start) ≡ isSystemOrRetuning (rowOf value i t c o d))
+      × (isKind (kindOf d) (meant parts.order) ≡ isCalled (rowOf value i t c o d))
+  kind-row (ratio a b) = (refl, refl)
+  kind-row (root a b) = (refl, refl)
+  kind-row (sequence ts) = (refl, refl)
+  kind-row (frequency f) = (refl, refl)
+  kind-row (from k ts) = (refl, refl)
+  kind-row (system a l ts) = (refl, refl)
+  kind-row (anchor m) = (refl, refl)
+  kind-row (width m) = (refl, refl)
+  kind-row (freshPeriod ts) = (refl, refl)
+  kind-row (onwardPeriod ts) = (refl, refl)
+  kind-row (tones l) = (refl, refl)
+  kind-row (logic x s os) = (refl, refl)
 
 -- ---- tables that are laid out
 
@@ -81,56 +76,43 @@ module _ (p : Program) (a : Allowed p) (v : valued p ≡ Done) where
 
   -- ---- rows
 
-  numbers-at : (k : ℕ) → k < length p → readAt (laid .rows) k ≡ numbersOf (rowFor p k)
-  numbers-at k h =
-      let l = writtenAll (filled p .rows) in
-      numbers-read (filled p .rows) (replicate (rowWidth * mostRows - length l) (pos 0)) k (rw (filled-lists p .rows) h) ∙ ap numbersOf (row-at p k h)
+  row-decoded : (k : ℕ) → k < length p → rowAt laid k ≡ rowFor p k
+  row-decoded k h = row-laid laid (rowWidth * mostRows) (filled p .rows) refl k (rw (filled-lists p .rows) h) ∙ row-at p k h
 
-  refers-right : (low high k : ℕ) → k < length p → leb low (numbersOf (rowFor p k) .form) && leb (numbersOf (rowFor p k) .form) high ≡ true
-      → isForm (laid .rows) (counts .rows) low high k ≡ true
-  refers-right low high k h w = rw (filled-lists p .rows, lt-ltb k (length p) h, ap (λ (n : Numbers). n .form) (numbers-at k h)) w
+  refers-right : (is : Row → Bool) (k : ℕ) → k < length p → is (rowFor p k) ≡ true → refersTo is laid k ≡ true
+  refers-right is k h w = rw (filled-lists p .rows, lt-ltb k (length p) h, row-decoded k h) w
 
-  start-right : (s : Option ℕ) → FitStart p s → isStart (laid .rows) (counts .rows) (pos (startCode s)) ≡ true
+  start-right : (s : Option ℕ) → FitStart p s → isStart laid (startCode s) ≡ true
   start-right none h = refl
   start-right (some k) h =
-      let e : suc k - 1 ≡ k = omega arith in
-      let w = kind-form value k (tonesBefore p k) (changesBefore p k) (ordersBefore p k) (declarationAt p k) in
-      sym (start-some (pos (suc k)) (isForm (laid .rows) (counts .rows) systemForm tonesForm (suc k - 1)) (leb·suc-zero k))
-      ∙ rw e (refers-right systemForm tonesForm k (h .within) (sym (w .0) ∙ h .kind))
+      let w = kind-row value k (tonesBefore p k) (changesBefore p k) (ordersBefore p k) (declarationAt p k) in
+      refers-right isSystemOrRetuning k (h .within) (sym (w .0) ∙ h .kind)
 
-  row-right : (k : ℕ) → k < length p → rowRight (laid .rows) counts (numbersOf (rowFor p k)) ≡ true
-  unfolding rowRight
-  row-right k h = by-form (declarationAt p k) refl (fits-at a k h)
+  row-right : (k : ℕ) → k < length p → declarationRight laid (rowFor p k) ≡ true
+  unfolding declarationRight
+  row-right k h = by-declaration (declarationAt p k) refl (fits-at a k h)
     where
-      by-form : (d : Declaration) → declarationAt p k ≡ d → Fits p d
-          → rowRight (laid .rows) counts (numbersOf (rowOf value k (tonesBefore p k) (changesBefore p k) (ordersBefore p k) d)) ≡ true
-      by-form (ratio x y) e fit = rw (value-tone p v k h)
-      by-form (root x y) e fit = rw (value-tone p v k h)
-      by-form (sequence ts) e fit = rw (value-tone p v k h)
-      by-form (frequency f) e fit = rw (value-tone p v k h)
-      by-form (from j ts) e fit = rw (value-tone p v k h)
-      by-form (system b l ts) e fit =
-          let t = part-stands (tonesOf value) p k h (filled-lists p .tones) (ap (tonesOf value) e) (length-map l (toneOf value)) in
+      by-declaration : (d : Declaration) → declarationAt p k ≡ d → Fits p d
+          → declarationRight laid (rowOf value k (tonesBefore p k) (changesBefore p k) (ordersBefore p k) d) ≡ true
+      by-declaration (ratio x y) e fit = value-tone p v k h
+      by-declaration (root x y) e fit = value-tone p v k h
+      by-declaration (sequence ts) e fit = value-tone p v k h
+      by-declaration (frequency f) e fit = value-tone p v k h
+      by-declaration (from j ts) e fit = value-tone p v k h
+      by-declaration (system b l ts) e fit =
           let n = fit .positions in
-          rw (
-            key-right b (fit .anchor),
-            value-period p v k h e,
-            part-right 1 places (counts .tones) (tonesBefore p k) (length l) (n .some) (n .few) (t .0),
-          )
-      by-form (anchor m) e fit = rw (anchor-right m fit)
-      by-form (width m) e fit = rw (width-right m fit)
-      by-form (freshPeriod ts) e fit = rw (sum-right (sumOf value ts))
-      by-form (onwardPeriod ts) e fit = rw (sum-right (sumOf value ts))
-      by-form (tones l) e fit =
-          let t = part-stands (changesOf value) p k h (filled-lists p .changes) (ap (changesOf value) e) (length-map l (changeOf value)) in
-          let n = fit .positions in
-          part-right 1 places (counts .changes) (changesBefore p k) (length l) (n .some) (n .few) (t .0)
-      by-form (logic c s os) e fit =
+          rw (key-right b (fit .anchor), value-period p v k h e, part-right 1 places (tonesBefore p k) (length l) (n .some) (n .few))
+      by-declaration (anchor m) e fit = rw (anchor-right m fit)
+      by-declaration (width m) e fit = rw (width-right m fit)
+      by-declaration (freshPeriod ts) e fit = rw (sum-right (sumOf value ts))
+      by-declaration (onwardPeriod ts) e fit = rw (sum-right (sumOf value ts))
+      by-declaration (tones l) e fit = let n = fit .positions in part-right 1 places (changesBefore p k) (length l) (n .some) (n .few)
+      by-declaration (logic c s os) e fit =
           let t = part-stands ordersOf p k h (filled-lists p .orders) (ap ordersOf e) refl in
           rw (
             letter-right c (fit .letter),
             start-right s (fit .start),
-            part-right 0 mostOrders (counts .orders) (ordersBefore p k) (length os) (omega arith) (omega (arith, t .0, room p a .orders)) (t .0),
+            part-right 0 mostOrders (ordersBefore p k) (length os) (omega arith) (omega (arith, t .0, room p a .orders)),
           )
 
   -- ---- tones, changes and orders
@@ -174,13 +156,13 @@ module _ (p : Program) (a : Allowed p) (v : valued p ≡ Done) where
       own d fit = only-retunings value (λ xs. every changeRight xs ≡ true) d (positions-right []) (λ l e. positions-right l)
 
   abbrev orderRight : Order → Bool
-  orderRight x = isLetter (pos (x .letter)) && isForm (laid .rows) (counts .rows) systemForm logicForm (x .calls)
+  orderRight x = isLetter (x .letter) && refersTo isCalled laid (x .calls)
 
   order-right : (x : Order) → FitOrder p x → orderRight x ≡ true
   order-right x fit =
       let k = x .calls in
-      let w = kind-form value k (tonesBefore p k) (changesBefore p k) (ordersBefore p k) (declarationAt p k) in
-      rw (letter-right (x .letter) (fit .letter), refers-right systemForm logicForm k (fit .calls .within) (sym (w .1) ∙ fit .calls .kind))
+      let w = kind-row value k (tonesBefore p k) (changesBefore p k) (ordersBefore p k) (declarationAt p k) in
+      rw (letter-right (x .letter) (fit .letter), refers-right isCalled k (fit .calls .within) (sym (w .1) ∙ fit .calls .kind))
 
   logic-right : (os : List Order) → Each (FitOrder p) os → every orderRight os ≡ true
   unfolding every
@@ -194,7 +176,7 @@ module _ (p : Program) (a : Allowed p) (v : valued p ≡ Done) where
       own d fit = only-logics (λ os. every orderRight os ≡ true) d (logic-right [] tt) (λ c s os e. logic-right os (subst (Fits p) e fit .orders))
 
   order-at : (i : ℕ) → i < length (filled p .orders)
-      → isLetter (pos (getD (laid .letters) i 0)) && isForm (laid .rows) (counts .rows) systemForm logicForm (getD (laid .calls) i 0) ≡ true
+      → isLetter (getD (laid .letters) i 0) && refersTo isCalled laid (getD (laid .calls) i 0) ≡ true
   order-at i h =
       let os = filled p .orders in
       let nought : Order = record { letter = 0; calls = 0 } in
@@ -223,16 +205,18 @@ module _ (p : Program) (a : Allowed p) (v : valued p ≡ Done) where
       valid-is laid (record {
         sizes = sizes;
         room = room p a;
-        rows = rows-laid (rowWidth * mostRows) (f .rows) counts row-at-right;
+        rows = rows-laid laid (rowWidth * mostRows) (f .rows) refl row-at-right;
+        kinds = rw (declarations-laid laid (rowWidth * mostRows) (f .rows) refl) (kinds-few p a);
+        parts = rw (declarations-laid laid (rowWidth * mostRows) (f .rows) refl) (parts-laid p);
         rowsAfter = zeros-after (rowWidth * mostRows) (rowWidth * length (f .rows)) (writtenAll (f .rows)) (written-length (f .rows));
         tones = tones-laid mostTones (length (f .tones)) (f .tones) refl tones-right;
         changes = changes-laid mostChanges (length (f .changes)) (f .changes) refl changes-right;
-        orders = orders-laid (laid .rows) (counts .rows) (laid .letters) (laid .calls) (length (f .orders)) order-at;
+        orders = orders-laid laid (length (f .orders)) order-at;
         lettersAfter = noughts-after mostOrders (length (f .orders)) (map letterOf (f .orders)) (length-map (f .orders) letterOf);
         callsAfter = noughts-after mostOrders (length (f .orders)) (map callOf (f .orders)) (length-map (f .orders) callOf);
       })
     where
-      row-at-right : (i : ℕ) → i < length (filled p .rows) → rowRight (laid .rows) counts (numbersOf (getD (filled p .rows) i Unused)) ≡ true
+      row-at-right : (i : ℕ) → i < length (filled p .rows) → declarationRight laid (getD (filled p .rows) i Unused) ≡ true
       row-at-right i h = let k = rw (filled-lists p .rows) at h in rw (row-at p i k) (row-right i k)
 
 -- ---- the theorems

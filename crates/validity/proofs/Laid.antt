@@ -1,15 +1,14 @@
 -- Tables that are laid out from rows, tones, changes and orders: each test holds where it holds of each of them. Assumes nothing.
 use mathlib.Core.Path.{_≡_, refl, sym, ap, _∙_}
-use mathlib.Core.Bool.{Bool, true, not, _&&_, _||_}
+use mathlib.Core.Bool.{Bool, true, not, _&&_}
 use mathlib.Core.List.{List, [], _∷_, map}
 use Prim.Native.Nat.{ℕ, zero, suc, _+_, _-_, _*_, _<_}
 use native.Mathlib.Nat.{zero-add}
 use native.Mathlib.Omega.{arith}
 use borrow.Author.Tests.{not-true, not-false}
-use lib.Dec.{leb, eqb, leb·zero}
 use lib.IntN.{ℤ, pos}
 use lib.ListN.{length, length-map, length-replicate, getD, drop, replicate}
-use lib.Seq.{take-at, drop-at}
+use lib.Seq.{take-at, drop-at, drop-cons, drop-length}
 use Rattle.tuning.specs.Desk.{isTone, beyond}
 use Rattle.tuning.specs.State.{heard}
 use Rattle.tuning.specs.declared.Tone.{Tone}
@@ -17,34 +16,38 @@ use Rattle.tuning.specs.declared.Tone.the-variants.{Muted, At}
 use Rattle.tuning.specs.declared.ToneChange.{ToneChange}
 use Rattle.tuning.specs.declared.ToneChange.the-variants.{Mute, Move, Set}
 use Rattle.tuning.proofs.Lists.{every, both}
-use Rattle.tables.specs.declared.Counts.{Counts}
 use Rattle.tables.specs.declared.Row.{Row}
 use Rattle.tables.specs.declared.Row.the-variants.{Unused}
-use Rattle.tables.specs.Layout.{Tables, used, rowCount, toneCount, changeCount, orderCount, rowWidth, mostRows, mostTones, mostChanges, mostOrders, countsSize, numbersOf, writtenAll, soundingOf, pitchOf, changeCode, changeNumber, soundsCode, setCode, systemForm, logicForm, full}
-use Rattle.tables.proofs.Stored.{number-read, numbers-read}
-use Rattle.validity.specs.Valid.{isZero, isSum, isLetter, isForm, rowRight, hasNaturals, rowsRight, ordersRight, eachRight, allZero, allNought, poolRight, validTables}
-use Rattle.validity.proofs.Sizes.{Sizes, sizes-is, Room, room-is, valid-contents}
+use Rattle.tables.specs.Layout.{Tables, used, rowCount, toneCount, changeCount, orderCount, rowWidth, mostRows, mostTones, mostChanges, mostOrders, countsSize, numbersOf, rowAt, writtenAll, soundingOf, pitchOf, changeCode, changeNumber, full}
+use Rattle.tables.proofs.Stored.{number-read, row-read}
+use Rattle.validity.specs.Valid.{isSum, isLetter, isCalled, refersTo, declarationRight, isOwn, rowsRight, declarations, kinds, kindsFrom, kindsRight, ends, partsFollow, ordersRight, toneRight, changeRight, eachRight, allZero, allNought, listRight, validTables}
+use Rattle.validity.proofs.Same.{same-both}
+use Rattle.validity.proofs.Sizes.{Sizes, sizes-is, Room, room-is}
 
 -- ---- the test put together
 
 pub record Parts (t : Tables) : Type 0 where
   pub sizes : Sizes t
   pub room : Room (used t)
-  pub rows : rowsRight (t .rows) (used t) 0 (rowCount t) ≡ true
+  pub rows : rowsRight t 0 (rowCount t) ≡ true
+  pub kinds : kindsRight (kindsFrom (kinds 0 0 0 0 0) (declarations (t .rows) 0 (rowCount t))) ≡ true
+  pub parts : partsFollow (used t) (ends 0 0 0) (declarations (t .rows) 0 (rowCount t)) ≡ true
   pub rowsAfter : allZero (drop (rowWidth * rowCount t) (t .rows)) ≡ true
-  pub tones : poolRight soundsCode isTone (toneCount t) (t .sounding) (t .tones) ≡ true
-  pub changes : poolRight setCode isSum (changeCount t) (t .kinds) (t .changes) ≡ true
-  pub orders : ordersRight (t .rows) (rowCount t) (t .letters) (t .calls) 0 (orderCount t) ≡ true
+  pub tones : listRight toneRight (toneCount t) (t .sounding) (t .tones) ≡ true
+  pub changes : listRight changeRight (changeCount t) (t .kinds) (t .changes) ≡ true
+  pub orders : ordersRight t 0 (orderCount t) ≡ true
   pub lettersAfter : allNought (drop (orderCount t) (t .letters)) ≡ true
   pub callsAfter : allNought (drop (orderCount t) (t .calls)) ≡ true
 
-all-true : {a b c d e f g : Bool} → a ≡ true → b ≡ true → c ≡ true → d ≡ true → e ≡ true → f ≡ true → g ≡ true → a && b && c && d && e && f && g ≡ true
-all-true ha hb hc hd he hf hg = rw (ha, hb, hc, hd, he, hf, hg)
-
 pub valid-is : (t : Tables) → Parts t → validTables t ≡ true
+unfolding validTables
 valid-is t p =
-    sym (valid-contents t (used t) (sizes-is t (p .sizes)) refl (room-is (used t) (p .room)))
-    ∙ all-true (p .rows) (p .rowsAfter) (p .tones) (p .changes) (p .orders) (p .lettersAfter) (p .callsAfter)
+    rw (sizes-is t (p .sizes))
+    (all-true (room-is (used t) (p .room)) (p .rows) (p .kinds) (p .parts) (p .rowsAfter) (p .tones) (p .changes) (p .orders) (p .lettersAfter) (p .callsAfter))
+  where
+    all-true : {a b c d e f g h i j : Bool} → a ≡ true → b ≡ true → c ≡ true → d ≡ true → e ≡ true → f ≡ true → g ≡ true → h ≡ true → i ≡ true → j ≡ true
+        → a && b && c && d && e && f && g && h && i && j ≡ true
+    all-true ha hb hc hd he hf hg hh hi hj = rw (ha, hb, hc, hd, he, hf, hg, hh, hi, hj)
 
 -- ---- zeros after what is used
 
@@ -66,18 +69,18 @@ noughts-after size n l e = rw (drop-at l (replicate (size - length l) 0) n e) (n
 
 -- ---- tones and changes
 
-module _ {A : Type 0} (last : ℕ) (ok : ℤ → Bool) (g : A → ℕ) (h : A → ℤ) where
+module _ {A : Type 0} (ok : ℕ → ℤ → Bool) (g : A → ℕ) (h : A → ℤ) where
   -- the test of one of them
   abbrev right : A → Bool
-  right x = leb (g x) last && ok (h x) && (not (eqb (g x) 0) || isZero (h x))
+  right x = ok (g x) (h x)
 
-  each-laid : (l : List A) → eachRight last ok (map g l) (map h l) ≡ every right l
+  each-laid : (l : List A) → eachRight ok (map g l) (map h l) ≡ every right l
   unfolding eachRight every
   each-laid [] = refl
   each-laid (x ∷ l) = ap (λ (b : Bool). right x && b) (each-laid l)
 
-  pool-laid : (size n : ℕ) (l : List A) → length l ≡ n → every right l ≡ true → poolRight last ok n (full 0 size (map g l)) (full (pos 0) size (map h l)) ≡ true
-  pool-laid size n l e k =
+  list-laid : (size n : ℕ) (l : List A) → length l ≡ n → every right l ≡ true → listRight ok n (full 0 size (map g l)) (full (pos 0) size (map h l)) ≡ true
+  list-laid size n l e k =
       let ks = map g l in
       let zs = map h l in
       let m : length ks ≡ n = length-map l g ∙ e in
@@ -97,56 +100,82 @@ every-implied p q [] h k = refl
 every-implied p q (x ∷ l) h k = let a = both (p x) (every p l) k in rw (h x (a .0), every-implied p q l h (a .1))
 
 pub tones-laid : (size n : ℕ) (l : List Tone) → length l ≡ n → every (λ (x : Tone). not (beyond (heard x))) l ≡ true
-    → poolRight soundsCode isTone n (full 0 size (map soundingOf l)) (full (pos 0) size (map pitchOf l)) ≡ true
-tones-laid size n l e h = pool-laid soundsCode isTone soundingOf pitchOf size n l e (every-implied (λ (x : Tone). not (beyond (heard x))) (right soundsCode isTone soundingOf pitchOf) l one h)
+    → listRight toneRight n (full 0 size (map soundingOf l)) (full (pos 0) size (map pitchOf l)) ≡ true
+tones-laid size n l e h =
+    list-laid toneRight soundingOf pitchOf size n l e
+    (every-implied (λ (x : Tone). not (beyond (heard x))) (right toneRight soundingOf pitchOf) l one h)
   where
-    one : (x : Tone) → not (beyond (heard x)) ≡ true → right soundsCode isTone soundingOf pitchOf x ≡ true
+    one : (x : Tone) → not (beyond (heard x)) ≡ true → right toneRight soundingOf pitchOf x ≡ true
     one Muted h = refl
-    one (At p) h = rw (not-false (isTone (p .0)) (not-true (beyond (heard (At p))) h))
+    one (At p) h = rw (same-both (p .0), not-false (isTone (p .0)) (not-true (beyond (heard (At p))) h))
 
 pub changes-laid : (size n : ℕ) (l : List ToneChange) → length l ≡ n → every (λ (x : ToneChange). isSum (changeNumber x)) l ≡ true
-    → poolRight setCode isSum n (full 0 size (map changeCode l)) (full (pos 0) size (map changeNumber l)) ≡ true
-changes-laid size n l e h = pool-laid setCode isSum changeCode changeNumber size n l e (every-implied (λ (x : ToneChange). isSum (changeNumber x)) (right setCode isSum changeCode changeNumber) l one h)
+    → listRight changeRight n (full 0 size (map changeCode l)) (full (pos 0) size (map changeNumber l)) ≡ true
+changes-laid size n l e h =
+    list-laid changeRight changeCode changeNumber size n l e
+    (every-implied (λ (x : ToneChange). isSum (changeNumber x)) (right changeRight changeCode changeNumber) l one h)
   where
-    one : (x : ToneChange) → isSum (changeNumber x) ≡ true → right setCode isSum changeCode changeNumber x ≡ true
+    one : (x : ToneChange) → isSum (changeNumber x) ≡ true → right changeRight changeCode changeNumber x ≡ true
     one Mute h = refl
-    one (Move d) h = rw h
-    one (Set p) h = rw h
+    one (Move d) h = rw (same-both (d .0), h)
+    one (Set p) h = rw (same-both (p .0), h)
 
 -- ---- rows
 
-module _ (size : ℕ) (rs : List Row) (c : Counts) where
-  abbrev rows : List ℤ
-  rows = full (pos 0) size (writtenAll rs)
+module _ (t : Tables) (size : ℕ) (rs : List Row) (e : t .rows ≡ full (pos 0) size (writtenAll rs)) where
+  pub row-laid : (i : ℕ) → i < length rs → rowAt t i ≡ getD rs i Unused
+  row-laid i h = rw e (row-read size rs i h)
 
-  naturals : (i : ℕ) → i < length rs → hasNaturals rows i ≡ true
-  naturals i h =
+  own-laid : (i : ℕ) → i < length rs → isOwn (t .rows) i ≡ true
+  unfolding isOwn
+  own-laid i h =
       let n = numbersOf (getD rs i Unused) in
       let rest = replicate (size - length (writtenAll rs)) (pos 0) in
-      rw (number-read rs rest i 0 h (omega arith), number-read rs rest i 3 h (omega arith), number-read rs rest i 4 h (omega arith), leb·zero (n .form), leb·zero (n .from), leb·zero (n .to))
+      rw (
+        row-laid i h,
+        e,
+        number-read rs rest i 0 h (omega arith),
+        number-read rs rest i 1 h (omega arith),
+        number-read rs rest i 2 h (omega arith),
+        number-read rs rest i 3 h (omega arith),
+        number-read rs rest i 4 h (omega arith),
+        same-both (pos (n .form)),
+        same-both (n .first),
+        same-both (n .second),
+        same-both (pos (n .from)),
+        same-both (pos (n .to)),
+      )
 
-  pub rows-laid : ((i : ℕ) → i < length rs → rowRight rows c (numbersOf (getD rs i Unused)) ≡ true) → rowsRight rows c 0 (length rs) ≡ true
+  pub rows-laid : ((i : ℕ) → i < length rs → declarationRight t (getD rs i Unused) ≡ true) → rowsRight t 0 (length rs) ≡ true
   unfolding rowsRight
   rows-laid right = go (length rs) 0 (zero-add (length rs))
     where
-      go : (n i : ℕ) → i + n ≡ length rs → rowsRight rows c i n ≡ true
-      go zero i e = refl
-      go (suc n) i e =
+      go : (n i : ℕ) → i + n ≡ length rs → rowsRight t i n ≡ true
+      go zero i q = refl
+      go (suc n) i q =
           rw (
-            naturals i (omega arith),
-            ap (rowRight rows c) (numbers-read rs (replicate (size - length (writtenAll rs)) (pos 0)) i (omega arith)) ∙ right i (omega arith),
+            own-laid i (omega arith),
+            ap (declarationRight t) (row-laid i (omega arith)) ∙ right i (omega arith),
             go n (suc i) (omega arith),
           )
 
+  -- the declarations are the rows
+  pub declarations-laid : declarations (t .rows) 0 (length rs) ≡ rs
+  unfolding declarations
+  declarations-laid = go (length rs) 0 (zero-add (length rs))
+    where
+      go : (n i : ℕ) → i + n ≡ length rs → declarations (t .rows) i n ≡ drop i rs
+      go zero i q = let s : i ≡ length rs = omega arith in rw s (sym (drop-length rs))
+      go (suc n) i q = rw (drop-cons rs i Unused (omega arith), row-laid i (omega arith), go n (suc i) (omega arith))
+
 -- ---- orders
 
-pub orders-laid : (rows : List ℤ) (count : ℕ) (letters calls : List ℕ) (n : ℕ)
-    → ((i : ℕ) → i < n → isLetter (pos (getD letters i 0)) && isForm rows count systemForm logicForm (getD calls i 0) ≡ true)
-    → ordersRight rows count letters calls 0 n ≡ true
+pub orders-laid : (t : Tables) (n : ℕ)
+    → ((i : ℕ) → i < n → isLetter (getD (t .letters) i 0) && refersTo isCalled t (getD (t .calls) i 0) ≡ true) → ordersRight t 0 n ≡ true
 unfolding ordersRight
-orders-laid rows count letters calls n right = go n 0 (zero-add n)
+orders-laid t n right = go n 0 (zero-add n)
   where
-    go : (m i : ℕ) → i + m ≡ n → ordersRight rows count letters calls i m ≡ true
+    go : (m i : ℕ) → i + m ≡ n → ordersRight t i m ≡ true
     go zero i e = refl
     go (suc m) i e = rw (right i (omega arith), go m (suc i) (omega arith))
 
@@ -164,12 +193,12 @@ nothing = record {
   counts = replicate countsSize 0;
 }
 
-none-laid : (last : ℕ) (ok : ℤ → Bool) (n : ℕ) → poolRight last ok 0 (replicate n 0) (replicate n (pos 0)) ≡ true
+none-laid : (ok : ℕ → ℤ → Bool) (n : ℕ) → listRight ok 0 (replicate n 0) (replicate n (pos 0)) ≡ true
 unfolding eachRight
-none-laid last ok n = rw (noughts n, zeros n)
+none-laid ok n = rw (noughts n, zeros n)
 
 pub nothing-valid : validTables nothing ≡ true
-unfolding rowsRight ordersRight
+unfolding rowsRight ordersRight declarations kindsFrom partsFollow
 nothing-valid = valid-is nothing (record {
   sizes = record {
     rows = length-replicate (rowWidth * mostRows) (pos 0);
@@ -183,9 +212,11 @@ nothing-valid = valid-is nothing (record {
   };
   room = record { rows = omega arith; tones = omega arith; changes = omega arith; orders = omega arith };
   rows = refl;
+  kinds = refl;
+  parts = refl;
   rowsAfter = zeros (rowWidth * mostRows);
-  tones = none-laid soundsCode isTone mostTones;
-  changes = none-laid setCode isSum mostChanges;
+  tones = none-laid toneRight mostTones;
+  changes = none-laid changeRight mostChanges;
   orders = refl;
   lettersAfter = noughts mostOrders;
   callsAfter = noughts mostOrders;

@@ -1,35 +1,42 @@
 -- What the rows, tones, changes and orders of valid tables are, as those who decode them need it. Assumes nothing.
 use mathlib.Core.Path.{_≡_, refl, sym, _∙_, subst}
-use mathlib.Core.Bool.{Bool, true, false, not, cond, _&&_, _||_, false≢true}
+use mathlib.Core.Bool.{Bool, true, false, cond, _&&_, false≢true}
 use mathlib.Core.List.{List, map}
 use Prim.Native.Nat.{ℕ, zero, suc, _+_, _*_, _-_, _≤_, _<_}
 use native.Mathlib.Decide.{decLt}
 use native.Mathlib.Omega.{arith}
-use borrow.Author.Tests.{ne-eqb, eqb-true, leb-true, ltb-true, lt-leb}
+use borrow.Author.Tests.{eqb-true, leb-true, ltb-true}
 use lib.Dec.{leb, ltb, eqb}
-use lib.IntN.{ℤ, pos, negsuc}
+use lib.IntN.{ℤ, pos}
 use lib.Signed.{leZ}
 use lib.ListN.{length, length-map, getD, take, drop}
 use Rattle.integers.specs.Parts.{up}
 use Rattle.integers.proofs.Signed.{signed, abs}
-use Rattle.tuning.specs.Desk.{between, isAnchor, isPeriod, isTone}
-use Rattle.tuning.specs.State.{places, heard, coded, validState}
-use Rattle.tuning.specs.Inner.{modest, modestPeriod, modestRetuning, allModest}
+use Rattle.limits.specs.Limits.{leastDivisor, mostAmount, mostPositions, firstLetter, lastLetter}
+use Rattle.tuning.specs.Desk.{isAnchor, isPeriod, isTone}
+use Rattle.tuning.specs.State.{heard}
+use Rattle.tuning.specs.Inner.{modest, modestPeriod, modestRetuning}
+use Rattle.tuning.specs.declared.Operator.the-variants.{Plus, Minus, Times, Divide}
+use Rattle.tuning.specs.declared.Amount.{Amount}
+use Rattle.tuning.specs.declared.Amount.the-variants.{Kept, Absolute, Relative}
+use Rattle.tuning.specs.declared.PeriodChange.{PeriodChange}
 use Rattle.tuning.specs.declared.PeriodChange.the-variants.{Fresh, Onward}
 use Rattle.tuning.specs.declared.Retuning.{Retuning as RetuningForm}
+use Rattle.tuning.specs.declared.Retuning.the-variants.{Anchor, Width, Period, Tones}
 use Rattle.tuning.proofs.Held.{valid-coded}
 use Rattle.tuning.proofs.Lists.{both}
 use Rattle.tables.specs.declared.Counts.{Counts}
 use Rattle.tables.specs.declared.Numbers.{Numbers}
 use Rattle.tables.specs.declared.Row.{Row}
 use Rattle.tables.specs.declared.Row.the-variants.{Unused, Interval, Tone, System, Retuning, Logic}
-use Rattle.tables.specs.Layout.{Tables, tablesIn, fullSize, used, rowCount, toneCount, changeCount, orderCount, rowWidth, mostOrders, numbers, readAt, rowOf, rowAt, tonesFrom, changesFrom, toneOf, intervalForm, toneForm, systemForm, anchorForm, widthForm, periodForm, tonesForm, logicForm, soundsCode, setCode, keptCode, freshCode, onwardCode, minusCode, divideCode}
-use Rattle.tables.specs.Values.{system, listed, Part, FieldsFit, Slices}
+use Rattle.tables.specs.Layout.{Tables, tablesIn, fullSize, used, rowCount, toneCount, changeCount, orderCount, rowWidth, mostOrders, numbers, numberAt, readAt, numbersOf, rowOf, rowAt, tonesFrom, toneOf, periodSum, amountOf, amountNumber, systemForm, anchorForm, widthForm, tonesForm, logicForm}
+use Rattle.tables.specs.Values.{system, FieldsFit, Slices}
 use Rattle.tables.proofs.Lists.{part-length}
 use Rattle.tables.proofs.Sizes.{sizes-is, slices-of}
-use Rattle.validity.specs.Valid.{isLetter, isStart, isForm, isPart, noPart, isZero, isSum, isAmount, mostAmount, firstLetter, lastLetter, hasNaturals, rowRight, rowsRight, ordersRight, eachRight, allZero, allNought, poolRight, countsRight, validTables}
+use Rattle.validity.specs.declared.Ends.{Ends}
+use Rattle.validity.specs.Valid.{same, isSum, isLetter, isAnchorAmount, isWidthAmount, isSystemOrRetuning, isCalled, refersTo, isStart, isPart, noPart, declarationRight, isOwn, rowsRight, declarations, kinds, kindsFrom, kindsRight, Belonging, nothing, tones, changes, orders, belonging, ends, follows, endsAfter, partsFollow, ordersRight, toneRight, changeRight, eachRight, allZero, allNought, listRight, countsRight, validTables}
 use Rattle.validity.specs.Inner.{ValidSystem, ValidRetuning}
-use Rattle.validity.proofs.Runs.{form-right, start-some}
+use Rattle.validity.proofs.Same.{started, called}
 use Rattle.validity.proofs.Sizes.{Sizes, sizes-of, Room, room-of}
 use Rattle.validity.proofs.Pools.{each-slice, tones-right, sum-modest, listed-modest}
 
@@ -38,29 +45,34 @@ use Rattle.validity.proofs.Pools.{each-slice, tones-right, sum-modest, 
 pub record Valid (t : Tables) : Type 0 where
   pub sizes : Sizes t
   pub room : Room (used t)
-  pub rows : rowsRight (t .rows) (used t) 0 (rowCount t) ≡ true
-  pub tones : eachRight soundsCode isTone (take (toneCount t) (t .sounding)) (take (toneCount t) (t .tones)) ≡ true
-  pub changes : eachRight setCode isSum (take (changeCount t) (t .kinds)) (take (changeCount t) (t .changes)) ≡ true
-  pub orders : ordersRight (t .rows) (rowCount t) (t .letters) (t .calls) 0 (orderCount t) ≡ true
+  pub rows : rowsRight t 0 (rowCount t) ≡ true
+  pub parts : partsFollow (used t) (ends 0 0 0) (declarations (t .rows) 0 (rowCount t)) ≡ true
+  pub tones : eachRight toneRight (take (toneCount t) (t .sounding)) (take (toneCount t) (t .tones)) ≡ true
+  pub changes : eachRight changeRight (take (changeCount t) (t .kinds)) (take (changeCount t) (t .changes)) ≡ true
+  pub orders : ordersRight t 0 (orderCount t) ≡ true
 
 pub valid-of : (t : Tables) → validTables t ≡ true → Valid t
 unfolding validTables
 valid-of t h =
     let c = used t in
+    let rs = declarations (t .rows) 0 (c .rows) in
     let whole = taken (fullSize t) _ h in
     let a = both _ (allNought (drop (c .orders) (t .calls))) (whole .1) in
     let b = both _ (allNought (drop (c .orders) (t .letters))) (a .0) in
-    let d = both _ (ordersRight (t .rows) (c .rows) (t .letters) (t .calls) 0 (c .orders)) (b .0) in
-    let e = both _ (poolRight setCode isSum (c .changes) (t .kinds) (t .changes)) (d .0) in
-    let f = both _ (poolRight soundsCode isTone (c .tones) (t .sounding) (t .tones)) (e .0) in
+    let d = both _ (ordersRight t 0 (c .orders)) (b .0) in
+    let e = both _ (listRight changeRight (c .changes) (t .kinds) (t .changes)) (d .0) in
+    let f = both _ (listRight toneRight (c .tones) (t .sounding) (t .tones)) (e .0) in
     let g = both _ (allZero (drop (rowWidth * c .rows) (t .rows))) (f .0) in
-    let k = both (countsRight c) (rowsRight (t .rows) c 0 (c .rows)) (g .0) in
+    let k = both _ (partsFollow c (ends 0 0 0) rs) (g .0) in
+    let l = both (countsRight c && rowsRight t 0 (c .rows)) (kindsRight (kindsFrom (kinds 0 0 0 0 0) rs)) (k .0) in
+    let m = both (countsRight c) (rowsRight t 0 (c .rows)) (l .0) in
     record {
       sizes = sizes-of t (whole .0);
-      room = room-of c (k .0);
-      rows = k .1;
-      tones = ranged soundsCode isTone (c .tones) (t .sounding) (t .tones) (f .1);
-      changes = ranged setCode isSum (c .changes) (t .kinds) (t .changes) (e .1);
+      room = room-of c (m .0);
+      rows = m .1;
+      parts = k .1;
+      tones = ranged toneRight (c .tones) (t .sounding) (t .tones) (f .1);
+      changes = ranged changeRight (c .changes) (t .kinds) (t .changes) (e .1);
       orders = d .1;
     }
   where
@@ -68,39 +80,139 @@ valid-of t h =
     taken true x h = (refl, h)
     taken false x h = absurd (false≢true h)
 
-    ranged : (last : ℕ) (ok : ℤ → Bool) (n : ℕ) (ks : List ℕ) (zs : List ℤ) → poolRight last ok n ks zs ≡ true → eachRight last ok (take n ks) (take n zs) ≡ true
-    ranged last ok n ks zs h =
+    ranged : (ok : ℕ → ℤ → Bool) (n : ℕ) (ks : List ℕ) (zs : List ℤ) → listRight ok n ks zs ≡ true → eachRight ok (take n ks) (take n zs) ≡ true
+    ranged ok n ks zs h =
         let a = both _ (allZero (drop n zs)) h in
-        both (eachRight last ok (take n ks) (take n zs)) (allNought (drop n ks)) (a .0) .0
+        both (eachRight ok (take n ks) (take n zs)) (allNought (drop n ks)) (a .0) .0
 
 -- ---- each row and each order is right
 
-rows-at : (rows : List ℤ) (c : Counts) (i n j : ℕ) → rowsRight rows c i n ≡ true → i ≤ j → j < i + n → rowRight rows c (readAt rows j) ≡ true
-unfolding rowsRight
-rows-at rows c i zero j h k m = let e : ⊥ = omega arith in absurd e
-rows-at rows c i (suc n) j h k m =
-    let a = both (hasNaturals rows i && rowRight rows c (readAt rows i)) (rowsRight rows c (suc i) n) h in
-    elim (decLt i j) [
-      | yes l ↦ rows-at rows c (suc i) n j (a .1) l (omega arith)
-      | no l ↦
-          let e : i ≡ j = omega arith in
-          subst (λ (x : ℕ). rowRight rows c (readAt rows x) ≡ true) e (both (hasNaturals rows i) (rowRight rows c (readAt rows i)) (a .0) .1)
-    ]
+module _ (t : Tables) where
+  abbrev RowRight : ℕ → Type 0
+  RowRight j = (isOwn (t .rows) j ≡ true) × (declarationRight t (rowAt t j) ≡ true)
 
-orders-at : (rows : List ℤ) (count : ℕ) (letters calls : List ℕ) (i n j : ℕ) → ordersRight rows count letters calls i n ≡ true → i ≤ j → j < i + n
-    → (isLetter (pos (getD letters j 0)) ≡ true) × (isForm rows count systemForm logicForm (getD calls j 0) ≡ true)
-unfolding ordersRight
-orders-at rows count letters calls i zero j h k m = let e : ⊥ = omega arith in absurd e
-orders-at rows count letters calls i (suc n) j h k m =
-    let letter = isLetter (pos (getD letters i 0)) in
-    let known = isForm rows count systemForm logicForm (getD calls i 0) in
-    let a = both (letter && known) (ordersRight rows count letters calls (suc i) n) h in
-    elim (decLt i j) [
-      | yes l ↦ orders-at rows count letters calls (suc i) n j (a .1) l (omega arith)
-      | no l ↦
-          let e : i ≡ j = omega arith in
-          subst (λ (x : ℕ). (isLetter (pos (getD letters x 0)) ≡ true) × (isForm rows count systemForm logicForm (getD calls x 0) ≡ true)) e (both letter known (a .0))
-    ]
+  rows-at : (i n j : ℕ) → rowsRight t i n ≡ true → i ≤ j → j < i + n → RowRight j
+  unfolding rowsRight
+  rows-at i zero j h k m = let e : ⊥ = omega arith in absurd e
+  rows-at i (suc n) j h k m =
+      let a = both (isOwn (t .rows) i && declarationRight t (rowAt t i)) (rowsRight t (suc i) n) h in
+      elim (decLt i j) [
+        | yes l ↦ rows-at (suc i) n j (a .1) l (omega arith)
+        | no l ↦ let e : i ≡ j = omega arith in subst RowRight e (both (isOwn (t .rows) i) (declarationRight t (rowAt t i)) (a .0))
+      ]
+
+  abbrev OrderRight : ℕ → Type 0
+  OrderRight j = (isLetter (getD (t .letters) j 0) ≡ true) × (refersTo isCalled t (getD (t .calls) j 0) ≡ true)
+
+  orders-at : (i n j : ℕ) → ordersRight t i n ≡ true → i ≤ j → j < i + n → OrderRight j
+  unfolding ordersRight
+  orders-at i zero j h k m = let e : ⊥ = omega arith in absurd e
+  orders-at i (suc n) j h k m =
+      let letter = isLetter (getD (t .letters) i 0) in
+      let known = refersTo isCalled t (getD (t .calls) i 0) in
+      let a = both (letter && known) (ordersRight t (suc i) n) h in
+      elim (decLt i j) [
+        | yes l ↦ orders-at (suc i) n j (a .1) l (omega arith)
+        | no l ↦ let e : i ≡ j = omega arith in subst OrderRight e (both letter known (a .0))
+      ]
+
+-- ---- what belongs to a row ends within the counts: rows only add to it, and the last ends at the counts
+
+record Upto (e : Ends) (x y z : ℕ) : Type 0 where
+  tones : e .tones ≤ x
+  changes : e .changes ≤ y
+  orders : e .orders ≤ z
+
+-- where it ends
+abbrev EndsWithin : Counts → Belonging → Type 0
+EndsWithin c nothing = Unit
+EndsWithin c (tones from to) = to ≤ c .tones
+EndsWithin c (changes from to) = to ≤ c .changes
+EndsWithin c (orders from to) = to ≤ c .orders
+
+-- from one place to another
+record InPart (least most from to : ℕ) : Type 0 where
+  low : from + least ≤ to
+  high : to ≤ from + most
+
+in-part : (least most from to : ℕ) → isPart least most from to ≡ true → InPart least most from to
+in-part least most from to h =
+    let a = both (leb (from + least) to) (leb to (from + most)) h in
+    record { low = leb-true _ _ (a .0); high = leb-true _ _ (a .1) }
+
+module _ (t : Tables) where
+  abbrev c : Counts
+  c = used t
+
+  -- the ends after a row are no less than those before it
+  grows : (e : Ends) (r : Row) → declarationRight t r ≡ true → follows e (belonging r) ≡ true
+      → let f = endsAfter e (belonging r) in Upto e (f .tones) (f .changes) (f .orders)
+  unfolding declarationRight
+  grows e Unused h k = absurd (false≢true h)
+  grows e (Interval d) h k = record { tones = omega arith; changes = omega arith; orders = omega arith }
+  grows e (Tone p) h k = record { tones = omega arith; changes = omega arith; orders = omega arith }
+  grows e (System a P from to) h k =
+      let p = in-part 1 mostPositions from to (both (isAnchor (pos (a .0)) && isPeriod (P .0)) (isPart 1 mostPositions from to) h .1) in
+      record { tones = omega (arith, p, eqb-true from (e .tones) k); changes = omega arith; orders = omega arith }
+  grows e (Retuning (Anchor m) from to) h k = record { tones = omega arith; changes = omega arith; orders = omega arith }
+  grows e (Retuning (Width m) from to) h k = record { tones = omega arith; changes = omega arith; orders = omega arith }
+  grows e (Retuning (Period m) from to) h k = record { tones = omega arith; changes = omega arith; orders = omega arith }
+  grows e (Retuning Tones from to) h k =
+      let p = in-part 1 mostPositions from to h in
+      record { tones = omega arith; changes = omega (arith, p, eqb-true from (e .changes) k); orders = omega arith }
+  grows e (Logic x s from to) h k =
+      let p = in-part 0 mostOrders from to (both (isLetter x && isStart t s) (isPart 0 mostOrders from to) h .1) in
+      record { tones = omega arith; changes = omega arith; orders = omega (arith, p, eqb-true from (e .orders) k) }
+
+  -- the first of the rows, and those after it
+  record First (e : Ends) (i n : ℕ) : Type 0 where
+    right : declarationRight t (rowAt t i) ≡ true
+    follows : follows e (belonging (rowAt t i)) ≡ true
+    rows : rowsRight t (suc i) n ≡ true
+    parts : partsFollow c (endsAfter e (belonging (rowAt t i))) (declarations (t .rows) (suc i) n) ≡ true
+
+  first : (e : Ends) (i n : ℕ) → rowsRight t i (suc n) ≡ true → partsFollow c e (declarations (t .rows) i (suc n)) ≡ true → First e i n
+  unfolding rowsRight declarations partsFollow
+  first e i n h k =
+      let r = rowAt t i in
+      let a = both (isOwn (t .rows) i && declarationRight t r) (rowsRight t (suc i) n) h in
+      let b = both (follows e (belonging r)) (partsFollow c (endsAfter e (belonging r)) (declarations (t .rows) (suc i) n)) k in
+      record { right = both (isOwn (t .rows) i) (declarationRight t r) (a .0) .1; follows = b .0; rows = a .1; parts = b .1 }
+
+  upto : (e : Ends) (i n : ℕ) → rowsRight t i n ≡ true → partsFollow c e (declarations (t .rows) i n) ≡ true → Upto e (c .tones) (c .changes) (c .orders)
+  unfolding declarations partsFollow
+  upto e i zero h k =
+      let a = both (eqb (e .tones) (c .tones) && eqb (e .changes) (c .changes)) (eqb (e .orders) (c .orders)) k in
+      let b = both (eqb (e .tones) (c .tones)) (eqb (e .changes) (c .changes)) (a .0) in
+      record {
+        tones = omega (arith, eqb-true (e .tones) (c .tones) (b .0));
+        changes = omega (arith, eqb-true (e .changes) (c .changes) (b .1));
+        orders = omega (arith, eqb-true (e .orders) (c .orders) (a .1));
+      }
+  upto e i (suc n) h k =
+      let f = first e i n h k in
+      let g = grows e (rowAt t i) (f .right) (f .follows) in
+      let u = upto (endsAfter e (belonging (rowAt t i))) (suc i) n (f .rows) (f .parts) in
+      record { tones = omega (arith, g .tones, u .tones); changes = omega (arith, g .changes, u .changes); orders = omega (arith, g .orders, u .orders) }
+
+  own-end : (e : Ends) (b : Belonging) → Upto (endsAfter e b) (c .tones) (c .changes) (c .orders) → EndsWithin c b
+  own-end e nothing u = tt
+  own-end e (tones from to) u = u .tones
+  own-end e (changes from to) u = u .changes
+  own-end e (orders from to) u = u .orders
+
+  ends-at : (e : Ends) (i n j : ℕ) → rowsRight t i n ≡ true → partsFollow c e (declarations (t .rows) i n) ≡ true → i ≤ j → j < i + n
+      → EndsWithin c (belonging (rowAt t j))
+  ends-at e i zero j h k l m = let q : ⊥ = omega arith in absurd q
+  ends-at e i (suc n) j h k l m =
+      let f = first e i n h k in
+      let after = endsAfter e (belonging (rowAt t i)) in
+      elim (decLt i j) [
+        | yes q ↦ ends-at after (suc i) n j (f .rows) (f .parts) q (omega arith)
+        | no q ↦
+            let s : i ≡ j = omega arith in
+            subst (λ (x : ℕ). EndsWithin c (belonging (rowAt t x))) s (own-end e (belonging (rowAt t i)) (upto after (suc i) n (f .rows) (f .parts)))
+      ]
 
 -- ---- what a row of each form has
 
@@ -111,7 +223,7 @@ pub record Refers (t : Tables) (low high i : ℕ) : Type 0 where
   pub most : readAt (t .rows) i .form ≤ high
 
 pub record ValidLogic (t : Tables) (key number from to : ℕ) : Type 0 where
-  pub letter : isLetter (pos key) ≡ true
+  pub letter : isLetter key ≡ true
   pub start : 1 ≤ number → Refers t systemForm tonesForm (number - 1)
   pub order : from ≤ to
   pub within : to ≤ orderCount t
@@ -124,156 +236,152 @@ ValidRow t (System a P from to) = ValidSystem t (a .0) (P .0) from to
 ValidRow t (Retuning r from to) = ValidRetuning t r from to
 ValidRow t (Logic c s from to) = ValidLogic t c s from to
 
-refers : (t : Tables) (low high i : ℕ) → isForm (t .rows) (rowCount t) low high i ≡ true → Refers t low high i
-refers t low high i h =
+-- by the test of the row that is referred to, which is that of its form
+refers : (t : Tables) (is : Row → Bool) (low high i : ℕ) → (is (rowAt t i) ≡ leb low (readAt (t .rows) i .form) && leb (readAt (t .rows) i .form) high)
+    → refersTo is t i ≡ true → Refers t low high i
+refers t is low high i e h =
     let form = readAt (t .rows) i .form in
-    let a = both (ltb i (rowCount t) && leb low form) (leb form high) h in
-    let b = both (ltb i (rowCount t)) (leb low form) (a .0) in
-    record { within = ltb-true _ _ (b .0); least = leb-true _ _ (b .1); most = leb-true _ _ (a .1) }
-
--- from one place to another
-record InPart (least most count from to : ℕ) : Type 0 where
-  low : from + least ≤ to
-  high : to ≤ from + most
-  within : to ≤ count
-
-in-part : (least most count from to : ℕ) → isPart least most count from to ≡ true → InPart least most count from to
-in-part least most count from to h =
-    let a = both (leb (from + least) to && leb to (from + most)) (leb to count) h in
-    let b = both (leb (from + least) to) (leb to (from + most)) (a .0) in
-    record { low = leb-true _ _ (b .0); high = leb-true _ _ (b .1); within = leb-true _ _ (a .1) }
-
-in-none : (count from to : ℕ) → noPart from to ≡ true → InPart 0 places count from to
-in-none count from to h =
-    let a = both (eqb from 0) (eqb to 0) h in
-    let e = eqb-true from 0 (a .0) in
-    let f = eqb-true to 0 (a .1) in
-    record { low = omega arith; high = omega arith; within = omega arith }
-
--- signed numbers that are no less than a natural one
-natural-is : (k : ℕ) (z : ℤ) → leZ (pos k) z ≡ true → pos (up z) ≡ z
-natural-is k (pos n) h = refl
-natural-is k (negsuc n) h = absurd (false≢true h)
-
-above : (z : ℤ) → 1 ≤ up z → leZ z (pos 0) ≡ false
-above (pos n) h = lt-leb n 0 h
-above (negsuc n) h = let e : ⊥ = omega arith in absurd e
-
-other-form : (rows : List ℤ) (c : Counts) (f : ℕ) (a b : ℤ) (m n : ℕ) → logicForm < f → rowRight rows c (numbers f a b m n) ≡ false
-unfolding rowRight
-other-form rows c f a b m n h =
-    simp (
-      ne-eqb f intervalForm (omega arith),
-      ne-eqb f toneForm (omega arith),
-      ne-eqb f systemForm (omega arith),
-      ne-eqb f anchorForm (omega arith),
-      ne-eqb f widthForm (omega arith),
-      ne-eqb f periodForm (omega arith),
-      ne-eqb f tonesForm (omega arith),
-      ne-eqb f logicForm (omega arith),
-    )
-
-up-small : (z : ℤ) (n : ℕ) → leZ z (pos n) ≡ true → up z ≤ n
-up-small z n h = omega (signed, abs z)
-
-amount-small : (last : ℕ) (a b : ℤ) → isAmount last a b ≡ true → up b ≤ mostAmount
-amount-small last a b h =
-    let bare = not (leZ a (pos keptCode)) || leZ b (pos 0) in
-    let divided = not (leZ (pos divideCode) a) || leZ (pos 1) b in
-    let known = between (pos keptCode) (pos last) a in
-    let whole = between (pos 0) (pos mostAmount) b in
-    let c = both (known && whole) bare (both (known && whole && bare) divided h .0) in
-    up-small b mostAmount (both (leZ (pos 0) b) (leZ b (pos mostAmount)) (both known whole (c .0) .1) .1)
-
-fields : (rows : List ℤ) (c : Counts) (r : Numbers) → rowRight rows c r ≡ true → FieldsFit r
-unfolding rowRight
-fields rows c r h =
-    let a = r .first in
-    let b = r .second in
-    let none = noPart (r .from) (r .to) in
-    record {
-      anchor = λ e.
-          let g = both (isAnchor a && isPeriod b) (isPart 1 places (c .tones) (r .from) (r .to)) (form-right rows c r systemForm e ∙ h) in
-          omega (arith, up-small a 127 (both (leZ (pos 0) a) (leZ a (pos 127)) (both (isAnchor a) (isPeriod b) (g .0) .0) .1));
-      anchorBy = λ e. omega (arith, amount-small minusCode a b (both (isAmount minusCode a b) none (form-right rows c r anchorForm e ∙ h) .0));
-      widthBy = λ e. omega (arith, amount-small divideCode a b (both (isAmount divideCode a b) none (form-right rows c r widthForm e ∙ h) .0));
-      letter = λ e.
-          let g = both (isLetter a && isStart rows (c .rows) b) (isPart 0 mostOrders (c .orders) (r .from) (r .to)) (form-right rows c r logicForm e ∙ h) in
-          omega (arith, up-small a lastLetter (both (leZ (pos firstLetter) a) (leZ a (pos lastLetter)) (both (isLetter a) (isStart rows (c .rows) b) (g .0) .0) .1));
-    }
+    let a = both (ltb i (rowCount t)) (is (rowAt t i)) h in
+    let b = both (leb low form) (leb form high) (sym e ∙ a .1) in
+    record { within = ltb-true _ _ (a .0); least = leb-true _ _ (b .0); most = leb-true _ _ (b .1) }
 
 module _ (t : Tables) (v : Valid t) where
-  system-valid : (a b : ℤ) (m n : ℕ) → isAnchor a ≡ true → isPeriod b ≡ true → InPart 1 places (toneCount t) m n → ValidSystem t (up a) b m n
-  system-valid a b m n h k p =
-      let c = both (leZ (pos 0) a) (leZ a (pos 127)) h in
+  system-valid : (a : ℕ) (b : ℤ) (m n : ℕ) → isAnchor (pos a) ≡ true → isPeriod b ≡ true → InPart 1 mostPositions m n → n ≤ toneCount t
+      → ValidSystem t a b m n
+  system-valid a b m n h k p w =
       let s = v .sizes in
       let r = v .room .tones in
-      let ks : n ≤ length (t .sounding) = omega (arith, p .within, s .sounding, r) in
-      let zs : n ≤ length (t .tones) = omega (arith, p .within, s .tones, r) in
+      let ks : n ≤ length (t .sounding) = omega (arith, w, s .sounding, r) in
+      let zs : n ≤ length (t .tones) = omega (arith, w, s .tones, r) in
       let l = tonesFrom t m n in
-      let w : length (map heard l) ≡ n - m = length-map l heard ∙ part-length toneOf (t .sounding) (t .tones) m n ks zs in
+      let size : length (map heard l) ≡ n - m = length-map l heard ∙ part-length toneOf (t .sounding) (t .tones) m n ks zs in
       record {
         part = record { order = omega (arith, p); most = p .high; kinds = ks; numbers = zs };
         state =
-            valid-coded (system (up a) l b)
+            valid-coded (system a l b)
             (record {
-              anchor = omega (signed, c .1, abs a);
-              least = omega (arith, w, p);
-              most = omega (arith, w, p);
+              anchor = leb-true a 127 (both (leb 0 a) (leb a 127) h .1);
+              least = omega (arith, size, p);
+              most = omega (arith, size, p);
               period = k;
-              tones = tones-right _ _ (each-slice soundsCode isTone m n (toneCount t) (t .sounding) (t .tones) (p .within) (v .tones));
+              tones = tones-right _ _ (each-slice toneRight m n (toneCount t) (t .sounding) (t .tones) w (v .tones));
             });
       }
 
-  retuning-valid : (r : RetuningForm) (least m n : ℕ) → modestRetuning r ≡ true → InPart least places (changeCount t) m n → ValidRetuning t r m n
-  retuning-valid r least m n h p =
+  retuning-valid : (r : RetuningForm) (least m n : ℕ) → modestRetuning r ≡ true → InPart least mostPositions m n → n ≤ changeCount t → ValidRetuning t r m n
+  retuning-valid r least m n h p w =
       let s = v .sizes in
       let k = v .room .changes in
       record {
         modest = h;
-        part = record { order = omega (arith, p); most = p .high; kinds = omega (arith, p .within, s .kinds, k); numbers = omega (arith, p .within, s .changes, k) };
-        list = listed-modest _ _ (each-slice setCode isSum m n (changeCount t) (t .kinds) (t .changes) (p .within) (v .changes));
+        part = record { order = omega (arith, p); most = p .high; kinds = omega (arith, w, s .kinds, k); numbers = omega (arith, w, s .changes, k) };
+        list = listed-modest _ _ (each-slice changeRight m n (changeCount t) (t .kinds) (t .changes) w (v .changes));
       }
 
-  period-modest : (b : Bool) (z : ℤ) → isSum z ≡ true → modestPeriod (cond b (Fresh (record { 0 = z })) (Onward (record { 0 = z }))) ≡ true
-  period-modest true z h = refl
-  period-modest false z h = sum-modest z h
+  -- one to which nothing belongs
+  bare-valid : (r : RetuningForm) (m n : ℕ) → modestRetuning r ≡ true → noPart m n ≡ true → ValidRetuning t r m n
+  bare-valid r m n h k =
+      let a = both (eqb m 0) (eqb n 0) k in
+      let e = eqb-true m 0 (a .0) in
+      let f = eqb-true n 0 (a .1) in
+      retuning-valid r 0 m n h (record { low = omega arith; high = omega arith }) (omega arith)
 
-  logic-valid : (a b : ℤ) (m n : ℕ) → isLetter a ≡ true → isStart (t .rows) (rowCount t) b ≡ true → InPart 0 mostOrders (orderCount t) m n
-      → ValidLogic t (up a) (up b) m n
-  logic-valid a b m n h k p =
+  period-modest : (m : PeriodChange) → isSum (periodSum m) ≡ true → modestPeriod m ≡ true
+  period-modest (Fresh d) h = refl
+  period-modest (Onward d) h = sum-modest (d .0) h
+
+  start-valid : (s : ℕ) → isStart t s ≡ true → 1 ≤ s → Refers t systemForm tonesForm (s - 1)
+  start-valid zero h l = let e : ⊥ = omega arith in absurd e
+  start-valid (suc k) h l =
+      let e : suc k - 1 ≡ k = omega arith in
+      let r = readAt (t .rows) k in
+      rw e (refers t isSystemOrRetuning systemForm tonesForm k (started (r .first) (r .second) (r .from) (r .to) (r .form)) h)
+
+  -- a row by its declaration
+  declaration-valid : (r : Row) → declarationRight t r ≡ true → EndsWithin (used t) (belonging r) → ValidRow t r
+  unfolding declarationRight
+  declaration-valid Unused h w = absurd (false≢true h)
+  declaration-valid (Interval d) h w = h
+  declaration-valid (Tone p) h w = h
+  declaration-valid (System a P from to) h w =
+      let b = both (isAnchor (pos (a .0)) && isPeriod (P .0)) (isPart 1 mostPositions from to) h in
+      let d = both (isAnchor (pos (a .0))) (isPeriod (P .0)) (b .0) in
+      system-valid (a .0) (P .0) from to (d .0) (d .1) (in-part 1 mostPositions from to (b .1)) w
+  declaration-valid (Retuning (Anchor m) from to) h w = bare-valid (Anchor m) from to refl (both (isAnchorAmount m) (noPart from to) h .1)
+  declaration-valid (Retuning (Width m) from to) h w = bare-valid (Width m) from to refl (both (isWidthAmount m) (noPart from to) h .1)
+  declaration-valid (Retuning (Period m) from to) h w =
+      let b = both (isSum (periodSum m)) (noPart from to) h in
+      bare-valid (Period m) from to (period-modest m (b .0)) (b .1)
+  declaration-valid (Retuning Tones from to) h w = retuning-valid Tones 1 from to refl (in-part 1 mostPositions from to h) w
+  declaration-valid (Logic x s from to) h w =
+      let b = both (isLetter x && isStart t s) (isPart 0 mostOrders from to) h in
+      let d = both (isLetter x) (isStart t s) (b .0) in
+      record { letter = d .0; start = start-valid s (d .1); order = omega (arith, in-part 0 mostOrders from to (b .1)); within = w }
+
+-- ---- a row's numbers fit its fields
+
+anchor-small : (m : Amount) → isAnchorAmount m ≡ true → amountNumber m ≤ mostAmount
+anchor-small Kept h = omega arith
+anchor-small (Absolute n) h = leb-true n mostAmount h
+anchor-small (Relative Plus n) h = leb-true n mostAmount h
+anchor-small (Relative Minus n) h = leb-true n mostAmount h
+anchor-small (Relative Times n) h = absurd (false≢true h)
+anchor-small (Relative Divide n) h = absurd (false≢true h)
+
+width-small : (m : Amount) → isWidthAmount m ≡ true → amountNumber m ≤ mostAmount
+width-small Kept h = omega arith
+width-small (Absolute n) h = leb-true n mostAmount h
+width-small (Relative Plus n) h = leb-true n mostAmount h
+width-small (Relative Minus n) h = leb-true n mostAmount h
+width-small (Relative Times n) h = leb-true n mostAmount h
+width-small (Relative Divide n) h = leb-true n mostAmount (both (leb leastDivisor n) (leb n mostAmount) h .1)
+
+up-small : (n : ℕ) (z : ℤ) → same (pos n) z ≡ true → up z ≤ n
+up-small n z h = omega (signed, both (leZ (pos n) z) (leZ z (pos n)) h .1, abs z)
+
+module _ (t : Tables) (i : ℕ) (own : isOwn (t .rows) i ≡ true) (h : declarationRight t (rowAt t i) ≡ true) where
+  abbrev r : Numbers
+  r = readAt (t .rows) i
+
+  -- its declaration, where the form is f
+  abbrev at : ℕ → Row
+  at f = rowOf (numbers f (r .first) (r .second) (r .from) (r .to))
+
+  second-own : same (numbersOf (at (r .form)) .second) (r .second) ≡ true
+  unfolding isOwn
+  second-own =
+      let n = numbersOf (at (r .form)) in
+      let before = same (pos (n .form)) (numberAt (t .rows) i 0) && same (n .first) (r .first) in
+      let second = same (n .second) (r .second) in
+      let from = same (pos (n .from)) (numberAt (t .rows) i 3) in
+      let x = both (before && second && from) (same (pos (n .to)) (numberAt (t .rows) i 4)) own in
+      both before second (both (before && second) from (x .0) .0) .1
+
+  right-at : (f : ℕ) → r .form ≡ f → declarationRight t (at f) ≡ true
+  right-at f e = subst (λ (x : ℕ). declarationRight t (at x) ≡ true) e h
+
+  second-at : (f : ℕ) → r .form ≡ f → same (numbersOf (at f) .second) (r .second) ≡ true
+  second-at f e = subst (λ (x : ℕ). same (numbersOf (at x) .second) (r .second) ≡ true) e second-own
+
+  fields : FieldsFit r
+  unfolding declarationRight rowOf
+  fields =
+      let x = up (r .first) in
+      let m = amountOf x (up (r .second)) in
       record {
-        letter = subst (λ (z : ℤ). isLetter z ≡ true) (sym (natural-is firstLetter a (both (leZ (pos firstLetter) a) (leZ a (pos lastLetter)) h .0))) h;
-        start = λ l. refers t systemForm tonesForm (up b - 1) (start-some b _ (above b l) ∙ k);
-        order = omega (arith, p);
-        within = p .within;
+        anchor = λ e.
+            let b = both (isAnchor (pos x) && isPeriod (r .second)) (isPart 1 mostPositions (r .from) (r .to)) (right-at systemForm e) in
+            omega (arith, leb-true x 127 (both (leb 0 x) (leb x 127) (both (isAnchor (pos x)) (isPeriod (r .second)) (b .0) .0) .1));
+        anchorBy = λ e.
+            let b = both (isAnchorAmount m) (noPart (r .from) (r .to)) (right-at anchorForm e) in
+            omega (arith, anchor-small m (b .0), up-small (amountNumber m) (r .second) (second-at anchorForm e));
+        widthBy = λ e.
+            let b = both (isWidthAmount m) (noPart (r .from) (r .to)) (right-at widthForm e) in
+            omega (arith, width-small m (b .0), up-small (amountNumber m) (r .second) (second-at widthForm e));
+        letter = λ e.
+            let b = both (isLetter x && isStart t (up (r .second))) (isPart 0 mostOrders (r .from) (r .to)) (right-at logicForm e) in
+            omega (arith, leb-true x lastLetter (both (leb firstLetter x) (leb x lastLetter) (both (isLetter x) (isStart t (up (r .second))) (b .0) .0) .1));
       }
-
-  -- a row by its form
-  form-valid : (f : ℕ) (a b : ℤ) (m n : ℕ) → rowRight (t .rows) (used t) (numbers f a b m n) ≡ true → ValidRow t (rowOf (numbers f a b m n))
-  unfolding rowRight rowOf
-  form-valid zero a b m n h = absurd (false≢true h)
-  form-valid (suc zero) a b m n h = both (isTone a) (isZero b) (both (isTone a && isZero b) (noPart m n) h .0) .0
-  form-valid (suc (suc zero)) a b m n h = both (isTone a) (isZero b) (both (isTone a && isZero b) (noPart m n) h .0) .0
-  form-valid (suc (suc (suc zero))) a b m n h =
-      let c = both (isAnchor a && isPeriod b) (isPart 1 places (toneCount t) m n) h in
-      let d = both (isAnchor a) (isPeriod b) (c .0) in
-      system-valid a b m n (d .0) (d .1) (in-part 1 places (toneCount t) m n (c .1))
-  form-valid (suc (suc (suc (suc zero)))) a b m n h = retuning-valid _ 0 m n refl (in-none (changeCount t) m n (both (isAmount minusCode a b) (noPart m n) h .1))
-  form-valid (suc (suc (suc (suc (suc zero))))) a b m n h = retuning-valid _ 0 m n refl (in-none (changeCount t) m n (both (isAmount divideCode a b) (noPart m n) h .1))
-  form-valid (suc (suc (suc (suc (suc (suc zero)))))) a b m n h =
-      let c = both (between (pos freshCode) (pos onwardCode) a && isSum b) (noPart m n) h in
-      let d = both (between (pos freshCode) (pos onwardCode) a) (isSum b) (c .0) in
-      retuning-valid _ 0 m n (period-modest (eqb (up a) freshCode) b (d .1)) (in-none (changeCount t) m n (c .1))
-  form-valid (suc (suc (suc (suc (suc (suc (suc zero))))))) a b m n h =
-      retuning-valid _ 1 m n refl (in-part 1 places (changeCount t) m n (both (isZero a && isZero b) (isPart 1 places (changeCount t) m n) h .1))
-  form-valid (suc (suc (suc (suc (suc (suc (suc (suc zero)))))))) a b m n h =
-      let c = both (isLetter a && isStart (t .rows) (rowCount t) b) (isPart 0 mostOrders (orderCount t) m n) h in
-      let d = both (isLetter a) (isStart (t .rows) (rowCount t) b) (c .0) in
-      logic-valid a b m n (d .0) (d .1) (in-part 0 mostOrders (orderCount t) m n (c .1))
-  form-valid (suc (suc (suc (suc (suc (suc (suc (suc (suc f))))))))) a b m n h =
-      let g = suc (suc (suc (suc (suc (suc (suc (suc (suc f)))))))) in
-      absurd (false≢true (sym (other-form (t .rows) (used t) g a b m n (omega arith)) ∙ h))
 
 -- ---- for those who call
 
@@ -281,25 +389,26 @@ module _ (t : Tables) (v : Valid t) where
 pub row-valid : (t : Tables) → validTables t ≡ true → (i : ℕ) → i < rowCount t → ValidRow t (rowAt t i)
 row-valid t h i k =
     let v = valid-of t h in
-    let r = readAt (t .rows) i in
-    form-valid t v (r .form) (r .first) (r .second) (r .from) (r .to) (rows-at (t .rows) (used t) 0 (rowCount t) i (v .rows) (omega arith) (omega arith))
+    declaration-valid t v (rowAt t i) (rows-at t 0 (rowCount t) i (v .rows) (omega arith) (omega arith) .1)
+    (ends-at t (ends 0 0 0) 0 (rowCount t) i (v .rows) (v .parts) (omega arith) (omega arith))
 
 -- and its numbers fit the fields of a row
 pub fields-fit : (t : Tables) → validTables t ≡ true → (i : ℕ) → i < rowCount t → FieldsFit (readAt (t .rows) i)
-fields-fit t h i k = fields (t .rows) (used t) (readAt (t .rows) i) (rows-at (t .rows) (used t) 0 (rowCount t) i (valid-of t h .rows) (omega arith) (omega arith))
+fields-fit t h i k = let a = rows-at t 0 (rowCount t) i (valid-of t h .rows) (omega arith) (omega arith) in fields t i (a .0) (a .1)
 
 -- an order calls a tone system, a retuning or a logic, by a letter
 module _ (t : Tables) (h : validTables t ≡ true) (i : ℕ) (k : i < orderCount t) where
-  order-right : (isLetter (pos (getD (t .letters) i 0)) ≡ true) × (isForm (t .rows) (rowCount t) systemForm logicForm (getD (t .calls) i 0) ≡ true)
-  order-right = orders-at (t .rows) (rowCount t) (t .letters) (t .calls) 0 (orderCount t) i (valid-of t h .orders) (omega arith) (omega arith)
+  order-right : OrderRight t i
+  order-right = orders-at t 0 (orderCount t) i (valid-of t h .orders) (omega arith) (omega arith)
 
   pub order-valid : Refers t systemForm logicForm (getD (t .calls) i 0)
-  order-valid = refers t systemForm logicForm (getD (t .calls) i 0) (order-right .1)
+  order-valid =
+      let j = getD (t .calls) i 0 in
+      let r = readAt (t .rows) j in
+      refers t isCalled systemForm logicForm j (called (r .first) (r .second) (r .from) (r .to) (r .form)) (order-right .1)
 
   pub order-letter : getD (t .letters) i 0 ≤ lastLetter
-  order-letter =
-      let n = getD (t .letters) i 0 in
-      leb-true n lastLetter (both (leZ (pos firstLetter) (pos n)) (leZ (pos n) (pos lastLetter)) (order-right .0) .1)
+  order-letter = let n = getD (t .letters) i 0 in leb-true n lastLetter (both (leb firstLetter n) (leb n lastLetter) (order-right .0) .1)
 
 -- the slices of valid tables are of full size
 pub slices-valid : (numbers : List ℤ) (codes : List ℕ) → validTables (tablesIn numbers codes) ≡ true → Slices numbers codes

@@ -1,4 +1,5 @@
 pub mod Runs
+pub mod Same
 pub mod Sizes
 pub mod Pools
 pub mod Laws

@@ -1,11 +1,13 @@
 -- The tests of lists as the loops make them: one turn further, and at the end. Assumes nothing.
 use mathlib.Core.Path.{_≡_, refl, sym, ap, _∙_}
-use mathlib.Core.Bool.{Bool, true, false, not, _&&_, _||_, and-true, and-false, and-assoc, true≢false, false≢true}
+use mathlib.Core.Bool.{Bool, true, false, cond, not, _&&_, _||_, and-true, and-false, and-assoc, true≢false, false≢true}
 use mathlib.Core.List.{List, [], _∷_, _++_}
 use mathlib.Core.Logic.{_≢_}
-use Prim.Native.Nat.{ℕ, zero, suc, _+_, _-_, _≤_, _<_}
+use Prim.Native.Nat.{ℕ, zero, suc, _+_, _-_, _*_, _≤_, _<_}
+use native.Mathlib.Nat.{add-zero}
 use native.Mathlib.Numerals.{add-one}
 use native.Mathlib.Omega.{arith}
+use borrow.Author.Needs.{needs}
 use borrow.Author.Tests.{leb-true, leb-false, le-leb, lt-leb, ne-eqb}
 use lib.Dec.{leb, eqb}
 use lib.IntN.{ℤ, pos, negsuc, natAbs, _-ℤ_}
@@ -18,8 +20,11 @@ use Rattle.tuning.specs.Desk.{between, isTone}
 use Rattle.tuning.proofs.Lists.{every, both}
 use Rattle.tables.specs.declared.Counts.{Counts}
 use Rattle.tables.specs.declared.Numbers.{Numbers}
-use Rattle.tables.specs.Layout.{numbers, readAt, intervalForm, toneForm, systemForm, logicForm}
-use Rattle.validity.specs.Valid.{isZero, isLetter, isForm, noPart, rowRight, hasNaturals, rowsRight, ordersRight, eachRight, allZero, allNought}
+use Rattle.tables.specs.Layout.{rowWidth, numbers, readAt, intervalForm, toneForm, systemForm, anchorForm, tonesForm, logicForm}
+use Rattle.validity.specs.declared.Kinds.{Kinds}
+use Rattle.validity.specs.declared.Ends.{Ends}
+use Rattle.validity.specs.Valid.{noPart, kinds, kindsRight, endsRight, allZero, allNought}
+use Rattle.validity.specs.Inner.{isZero, isLetterCode, isForm, fastRow, hasNaturals, kindsWith, endsWith, Counted, fastRows, fastOrders, fastEach}
 
 -- ---- zeros, as a test of every element
 
@@ -70,13 +75,13 @@ module _ {A : Type 0} (p : A → Bool) (all : List A → Bool) (each : (l : List
 
 module _ (last : ℕ) (ok : ℤ → Bool) (ks : List ℕ) (zs : List ℤ) (n : ℕ) where
   pub each-turn : (i : ℕ) (b : Bool) → i < n → n ≤ length ks → n ≤ length zs
-      → b && (leb (getD ks i 0) last && ok (getD zs i (pos 0)) && (not (eqb (getD ks i 0) 0) || isZero (getD zs i (pos 0)))) && eachRight last ok (slice (i + 1) n ks) (slice (i + 1) n zs)
-      ≡ b && eachRight last ok (slice i n ks) (slice i n zs)
-  unfolding eachRight
+      → b && (leb (getD ks i 0) last && ok (getD zs i (pos 0)) && (not (eqb (getD ks i 0) 0) || isZero (getD zs i (pos 0)))) && fastEach last ok (slice (i + 1) n ks) (slice (i + 1) n zs)
+      ≡ b && fastEach last ok (slice i n ks) (slice i n zs)
+  unfolding fastEach
   each-turn i b h k m = rw (add-one i, slice-cons i n ks 0 h k, slice-cons i n zs (pos 0) h m) (and-assoc b _ _)
 
-  pub each-end : (i : ℕ) (b : Bool) → i ≡ n → b && eachRight last ok (slice i n ks) (slice i n zs) ≡ b
-  unfolding eachRight
+  pub each-end : (i : ℕ) (b : Bool) → i ≡ n → b && fastEach last ok (slice i n ks) (slice i n zs) ≡ b
+  unfolding fastEach
   each-end i b e = rw (e, slice-empty n ks) (and-true b)
 
 -- ---- rows
@@ -93,7 +98,7 @@ regroup true false b r s = refl
 regroup false a b r s = sym (and-false (a && b))
 
 -- bounds that are zero are no negative numbers, and nothing is between them
-zero-bounds : (x : Bool) (m n : ℤ) → x && isZero m && isZero n ≡ (leZ (pos 0) m && leZ (pos 0) n) && (x && noPart (up m) (up n))
+pub zero-bounds : (x : Bool) (m n : ℤ) → x && isZero m && isZero n ≡ (leZ (pos 0) m && leZ (pos 0) n) && (x && noPart (up m) (up n))
 zero-bounds x m n = rw (zero-natural m, zero-natural n) (regroup x (leZ (pos 0) m) (leZ (pos 0) n) (eqb (up m) 0) (eqb (up n) 0))
 
 pub natural-is : (z : ℤ) → leZ (pos 0) z ≡ true → natAbs z ≡ up z
@@ -107,15 +112,15 @@ other-form (pos n) h k = (λ e. true≢false (ap sounding (sym e) ∙ k), λ e. 
     sounding m = between (pos intervalForm) (pos toneForm) (pos m)
 other-form (negsuc n) h k = absurd (false≢true h)
 
-module _ (rows : List ℤ) (c : Counts) where
+module _ (rows : List ℤ) (count : ℕ) (e : Ends) where
   -- a row by its form
-  pub form-right : (n : Numbers) (k : ℕ) → n .form ≡ k → rowRight rows c (numbers k (n .first) (n .second) (n .from) (n .to)) ≡ rowRight rows c n
-  form-right n k e = ap (λ (f : ℕ). rowRight rows c (numbers f (n .first) (n .second) (n .from) (n .to))) (sym e)
+  pub form-right : (n : Numbers) (k : ℕ) → n .form ≡ k → fastRow rows count e (numbers k (n .first) (n .second) (n .from) (n .to)) ≡ fastRow rows count e n
+  form-right n k q = ap (λ (f : ℕ). fastRow rows count e (numbers f (n .first) (n .second) (n .from) (n .to))) (sym q)
 
   -- intervals and tones
   pub sounding-right : (f a b m n : ℤ) → between (pos intervalForm) (pos toneForm) f ≡ true
-      → isTone a && isZero b && isZero m && isZero n ≡ (leZ (pos 0) f && leZ (pos 0) m && leZ (pos 0) n) && rowRight rows c (numbers (up f) a b (up m) (up n))
-  unfolding rowRight
+      → isTone a && isZero b && isZero m && isZero n ≡ (leZ (pos 0) f && leZ (pos 0) m && leZ (pos 0) n) && fastRow rows count e (numbers (up f) a b (up m) (up n))
+  unfolding fastRow
   sounding-right (negsuc k) a b m n h = absurd (false≢true h)
   sounding-right (pos zero) a b m n h = absurd (false≢true h)
   sounding-right (pos (suc zero)) a b m n h = zero-bounds (isTone a && isZero b) m n
@@ -124,21 +129,76 @@ module _ (rows : List ℤ) (c : Counts) where
       let e : ⊥ = omega (arith, leb-true (suc (suc (suc k))) toneForm (both (leb intervalForm (suc (suc (suc k)))) (leb (suc (suc (suc k))) toneForm) h .1)) in
       absurd e
 
-  pub row-wrong : (i n : ℕ) → i < n → hasNaturals rows i && rowRight rows c (readAt rows i) ≡ false → rowsRight rows c i (n - i) ≡ false
-  unfolding rowsRight
-  row-wrong i n h e =
-      let s : n - i ≡ suc (n - (i + 1)) = omega arith in
-      rw (s, e)
+-- counts by kind, of a form that is none, a retuning's, or none that there is
+module _ (k : Kinds) (f : ℕ) where
+  pub kinds-below : f < intervalForm → k ≡ kindsWith k f
+  unfolding kindsWith
+  kinds-below h = let e : f ≡ 0 = omega arith in rw e
 
-  pub rows-turn : (i n : ℕ) → i < n → hasNaturals rows i && rowRight rows c (readAt rows i) ≡ true → rowsRight rows c (i + 1) (n - (i + 1)) ≡ rowsRight rows c i (n - i)
-  unfolding rowsRight
-  rows-turn i n h e =
-      let s : n - i ≡ suc (n - (i + 1)) = omega arith in
-      rw (s, add-one i, e)
+  pub kinds-retuning : anchorForm ≤ f → f ≤ tonesForm → kinds (k .intervals) (k .tones) (k .systems) (suc (k .retunings)) (k .logics) ≡ kindsWith k f
+  unfolding kindsWith
+  kinds-retuning g h =
+      simp (
+        ne-eqb f intervalForm (omega arith),
+        ne-eqb f toneForm (omega arith),
+        ne-eqb f systemForm (omega arith),
+        ne-eqb f logicForm (omega arith),
+        le-leb anchorForm f g,
+        le-leb f tonesForm h,
+      )
 
-  pub rows-end : (i n : ℕ) → n ≤ i → rowsRight rows c i (n - i) ≡ true
-  unfolding rowsRight
-  rows-end i n h = let e : n - i ≡ 0 = omega arith in rw e
+  pub kinds-above : logicForm < f → k ≡ kindsWith k f
+  unfolding kindsWith
+  kinds-above h =
+      simp (
+        ne-eqb f intervalForm (omega arith),
+        ne-eqb f toneForm (omega arith),
+        ne-eqb f systemForm (omega arith),
+        ne-eqb f logicForm (omega arith),
+        le-leb anchorForm f (omega arith),
+        lt-leb f tonesForm (omega arith),
+      )
+
+pub counted-none : Counted (kinds 0 0 0 0 0) 0
+counted-none = search needs
+
+-- no more is counted with one row more
+pub counted-with : (k : Kinds) (f i : ℕ) → Counted k i → Counted (kindsWith k f) (i + 1)
+unfolding kindsWith
+counted-with k f i h =
+    picked (eqb f intervalForm) (search needs)
+    (picked (eqb f toneForm) (search needs)
+    (picked (eqb f systemForm) (search needs)
+    (picked (eqb f logicForm) (search needs) (picked (leb anchorForm f && leb f tonesForm) (search needs) (search needs)))))
+  where
+    picked : (b : Bool) {x y : Kinds} → Counted x (i + 1) → Counted y (i + 1) → Counted (cond b x y) (i + 1)
+    picked true g h = g
+    picked false g h = h
+
+module _ (rows : List ℤ) (c : Counts) (k : Kinds) (e : Ends) (i n : ℕ) where
+  abbrev rowIs : Bool
+  rowIs = hasNaturals rows i && fastRow rows (c .rows) e (readAt rows i)
+
+  pub row-wrong : i < n → rowIs ≡ false → fastRows rows c k e i (n - i) ≡ false
+  unfolding fastRows
+  row-wrong h q =
+      let s : n - i ≡ suc (n - (i + 1)) = omega arith in
+      rw (s, q)
+
+  -- the row's form and where its own end, as the code reads them, give the next kinds and ends
+  pub rows-turn : {f to : ℕ} {k′ : Kinds} {e′ : Ends} → i < n → rowIs ≡ true → f ≡ up (getD rows (rowWidth * i) (pos 0)) → to ≡ readAt rows i .to
+      → k′ ≡ kindsWith k f → e′ ≡ endsWith e f to → fastRows rows c k′ e′ (i + 1) (n - (i + 1)) ≡ fastRows rows c k e i (n - i)
+  unfolding fastRows
+  rows-turn {f} {to} {k′} {e′} h q ef et ek ee =
+      let s : n - i ≡ suc (n - (i + 1)) = omega arith in
+      let form : f ≡ readAt rows i .form = ef ∙ ap (λ (x : ℕ). up (getD rows x (pos 0))) (sym (add-zero (rowWidth * i))) in
+      let kinds′ : k′ ≡ kindsWith k (readAt rows i .form) = ek ∙ ap (kindsWith k) form in
+      let ends′ : e′ ≡ endsWith e (readAt rows i .form) (readAt rows i .to) = ee ∙ rw (form, et) in
+      rw (s, add-one i, q, kinds′, ends′)
+
+  pub rows-end : n ≤ i → fastRows rows c k e i (n - i) ≡ kindsRight k && endsRight c e
+  unfolding fastRows
+  rows-end h = let s : n - i ≡ 0 = omega arith in rw s
 
 -- ---- starts: none, or the declaration before the number
 
@@ -157,20 +217,20 @@ start-less s h = omega (signed, diff s (pos 1), abs (s -ℤ pos 1), abs s)
 
 module _ (rows : List ℤ) (count : ℕ) (letters calls : List ℕ) where
   abbrev pub orderRight : ℕ → Bool
-  orderRight i = isLetter (pos (getD letters i 0)) && isForm rows count systemForm logicForm (getD calls i 0)
+  orderRight i = isLetterCode (pos (getD letters i 0)) && isForm rows count systemForm logicForm (getD calls i 0)
 
-  pub order-wrong : (i n : ℕ) → i < n → orderRight i ≡ false → ordersRight rows count letters calls i (n - i) ≡ false
-  unfolding ordersRight
+  pub order-wrong : (i n : ℕ) → i < n → orderRight i ≡ false → fastOrders rows count letters calls i (n - i) ≡ false
+  unfolding fastOrders
   order-wrong i n h e =
       let s : n - i ≡ suc (n - (i + 1)) = omega arith in
       rw (s, e)
 
-  pub orders-turn : (i n : ℕ) → i < n → orderRight i ≡ true → ordersRight rows count letters calls (i + 1) (n - (i + 1)) ≡ ordersRight rows count letters calls i (n - i)
-  unfolding ordersRight
+  pub orders-turn : (i n : ℕ) → i < n → orderRight i ≡ true → fastOrders rows count letters calls (i + 1) (n - (i + 1)) ≡ fastOrders rows count letters calls i (n - i)
+  unfolding fastOrders
   orders-turn i n h e =
       let s : n - i ≡ suc (n - (i + 1)) = omega arith in
       rw (s, add-one i, e)
 
-  pub orders-end : (i n : ℕ) → n ≤ i → ordersRight rows count letters calls i (n - i) ≡ true
-  unfolding ordersRight
+  pub orders-end : (i n : ℕ) → n ≤ i → fastOrders rows count letters calls i (n - i) ≡ true
+  unfolding fastOrders
   orders-end i n h = let e : n - i ≡ 0 = omega arith in rw e

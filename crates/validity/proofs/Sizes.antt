@@ -9,8 +9,10 @@ use Rattle.tuning.specs.Desk.{isTone}
 use Rattle.tuning.proofs.Lists.{both}
 pub use Rattle.tables.proofs.Sizes.{Sizes, sizes-of, sizes-is}
 use Rattle.tables.specs.declared.Counts.{Counts}
-use Rattle.tables.specs.Layout.{Tables, fullSize, rowWidth, mostRows, mostTones, mostChanges, mostOrders, countsSize, used, soundsCode, setCode}
-use Rattle.validity.specs.Valid.{countsRight, rowsRight, ordersRight, allZero, allNought, poolRight, isSum, validTables}
+use Rattle.tables.specs.Layout.{Tables, fullSize, rowWidth, mostRows, mostTones, mostChanges, mostOrders, used, soundsCode, setCode}
+use Rattle.validity.specs.Valid.{countsRight, kinds, ends, allZero, allNought, isSum, validTables}
+use Rattle.validity.specs.Inner.{fastRows, fastOrders, fastList, fastTables}
+use Rattle.validity.proofs.Same.{fast-same}
 
 pub record Room (c : Counts) : Type 0 where
   pub rows : c .rows ≤ mostRows
@@ -34,18 +36,20 @@ room-is c r =
       le-leb (c .orders) mostOrders (r .orders),
     )
 
--- ---- the whole test, for tables of full size that have room for as many as are used
+-- ---- the whole test as the code makes it, for tables of full size that have room for as many as are used
 
 abbrev pub contents : Tables → Counts → Bool
 contents t c =
-    rowsRight (t .rows) c 0 (c .rows) && allZero (drop (rowWidth * c .rows) (t .rows))
-    && poolRight soundsCode isTone (c .tones) (t .sounding) (t .tones) && poolRight setCode isSum (c .changes) (t .kinds) (t .changes)
-    && ordersRight (t .rows) (c .rows) (t .letters) (t .calls) 0 (c .orders) && allNought (drop (c .orders) (t .letters))
+    fastRows (t .rows) c (kinds 0 0 0 0 0) (ends 0 0 0) 0 (c .rows) && allZero (drop (rowWidth * c .rows) (t .rows))
+    && fastList soundsCode isTone (c .tones) (t .sounding) (t .tones) && fastList setCode isSum (c .changes) (t .kinds) (t .changes)
+    && fastOrders (t .rows) (c .rows) (t .letters) (t .calls) 0 (c .orders) && allNought (drop (c .orders) (t .letters))
     && allNought (drop (c .orders) (t .calls))
 
 pub valid-contents : (t : Tables) (c : Counts) → fullSize t ≡ true → c ≡ used t → countsRight c ≡ true → contents t c ≡ validTables t
-unfolding validTables
-valid-contents t c e f g = ap (contents t) f ∙ rw (e, ap countsRight (sym f) ∙ g)
+unfolding fastTables
+valid-contents t c e f g =
+    let fast : contents t c ≡ fastTables t = ap (contents t) f ∙ rw (e, ap countsRight (sym f) ∙ g) in
+    fast ∙ sym (fast-same t)
 
 pub unsized : (t : Tables) → fullSize t ≡ false → false ≡ validTables t
 unfolding validTables

@@ -12,26 +12,21 @@ use Rattle.tables.specs.Layout.{section, tablesIn, column, lettersIn, callsIn, 
 use Rattle.tables.specs.Values.{Slices}
 use Rattle.tables.proofs.Columns.{letter-at, call-at, letters-drop, calls-drop}
 use Rattle.tables.proofs.Sizes.{section-last, slices-full}
-use Rattle.validity.specs.Valid.{countsRight, isLetter, isForm, rowsRight, ordersRight, allZero, allNought, poolRight, isSum, validTables}
+use Rattle.validity.specs.Valid.{countsRight, kinds, ends, allZero, allNought, isSum, validTables}
+use Rattle.validity.specs.Inner.{isLetterCode, isForm, fastRows, fastOrders, fastList}
+use Rattle.validity.proofs.Same.{swapped}
 use Rattle.validity.proofs.Sizes.{valid-contents, crowded}
 
 -- ---- an order, as the code reads it
 
 pub order-told : (rows : List ℤ) (count : ℕ) (orders : List ℕ) (i : ℕ) {b : Bool} → b ≡ isForm rows count systemForm logicForm (getD orders (orderWidth * i + 1) 0)
-    → isLetter (pos (getD orders (orderWidth * i) 0)) && b
-    ≡ isLetter (pos (getD (lettersIn orders) i 0)) && isForm rows count systemForm logicForm (getD (callsIn orders) i 0)
+    → isLetterCode (pos (getD orders (orderWidth * i) 0)) && b
+    ≡ isLetterCode (pos (getD (lettersIn orders) i 0)) && isForm rows count systemForm logicForm (getD (callsIn orders) i 0)
 order-told rows count orders i {b} e =
-    ap (λ (k : ℕ). isLetter (pos k) && b) (letter-at orders i)
-    ∙ ap (λ (x : Bool). isLetter (pos (getD (lettersIn orders) i 0)) && x) (e ∙ ap (isForm rows count systemForm logicForm) (call-at orders i))
+    ap (λ (k : ℕ). isLetterCode (pos k) && b) (letter-at orders i)
+    ∙ ap (λ (x : Bool). isLetterCode (pos (getD (lettersIn orders) i 0)) && x) (e ∙ ap (isForm rows count systemForm logicForm) (call-at orders i))
 
 -- ---- orders that are zero
-
-swapped : (a b c : Bool) → a && b && c ≡ a && (c && b)
-swapped true true true = refl
-swapped true true false = refl
-swapped true false true = refl
-swapped true false false = refl
-swapped false b c = refl
 
 nought-columns : (l : List ℕ) → allNought (lettersIn l) && allNought (callsIn l) ≡ allNought l
 unfolding column allNought
@@ -52,11 +47,11 @@ module _ {numbers : List ℤ} {codes : List ℕ} (s : Slices numbers codes) {u :
   unfolding tablesIn
   few h = crowded (tablesIn numbers codes) u e h
 
-  pub valid-slices : countsRight u ≡ true → {a b c d f g : Bool} → a ≡ rowsRight (section 0 tonesAt numbers) u 0 (u .rows)
+  pub valid-slices : countsRight u ≡ true → {a b c d f g : Bool} → a ≡ fastRows (section 0 tonesAt numbers) u (kinds 0 0 0 0 0) (ends 0 0 0) 0 (u .rows)
       → b ≡ allZero (drop (rowWidth * u .rows) (section 0 tonesAt numbers))
-      → c ≡ poolRight soundsCode isTone (u .tones) (section soundingAt mostTones codes) (section tonesAt mostTones numbers)
-      → d ≡ poolRight setCode isSum (u .changes) (section kindsAt mostChanges codes) (section changesAt mostChanges numbers)
-      → f ≡ ordersRight (section 0 tonesAt numbers) (u .rows) (lettersIn (section ordersAt (orderWidth * mostOrders) codes)) (callsIn (section ordersAt (orderWidth * mostOrders) codes)) 0 (u .orders)
+      → c ≡ fastList soundsCode isTone (u .tones) (section soundingAt mostTones codes) (section tonesAt mostTones numbers)
+      → d ≡ fastList setCode isSum (u .changes) (section kindsAt mostChanges codes) (section changesAt mostChanges numbers)
+      → f ≡ fastOrders (section 0 tonesAt numbers) (u .rows) (lettersIn (section ordersAt (orderWidth * mostOrders) codes)) (callsIn (section ordersAt (orderWidth * mostOrders) codes)) 0 (u .orders)
       → g ≡ allNought (drop (orderWidth * u .orders) (section ordersAt (orderWidth * mostOrders) codes))
       → a && b && c && d && f && g ≡ validTables (tablesIn numbers codes)
   unfolding tablesIn
@@ -64,9 +59,9 @@ module _ {numbers : List ℤ} {codes : List ℕ} (s : Slices numbers codes) {u :
       let t = tablesIn numbers codes in
       let os = section-last ordersAt (orderWidth * mostOrders) codes (s .all-codes) in
       let zs = section-last changesAt mostChanges numbers (s .all-numbers) in
-      let ed′ : d ≡ poolRight setCode isSum (u .changes) (t .kinds) (t .changes) = ed ∙ ap (λ (l : List ℤ). poolRight setCode isSum (u .changes) (t .kinds) l) zs in
-      let ef′ : f ≡ ordersRight (t .rows) (u .rows) (t .letters) (t .calls) 0 (u .orders) =
-      ef ∙ ap (λ (l : List ℕ). ordersRight (t .rows) (u .rows) (lettersIn l) (callsIn l) 0 (u .orders)) os in
+      let ed′ : d ≡ fastList setCode isSum (u .changes) (t .kinds) (t .changes) = ed ∙ ap (λ (l : List ℤ). fastList setCode isSum (u .changes) (t .kinds) l) zs in
+      let ef′ : f ≡ fastOrders (t .rows) (u .rows) (t .letters) (t .calls) 0 (u .orders) =
+      ef ∙ ap (λ (l : List ℕ). fastOrders (t .rows) (u .rows) (lettersIn l) (callsIn l) 0 (u .orders)) os in
       let eg′ = eg ∙ ap (λ (l : List ℕ). allNought (drop (orderWidth * u .orders) l)) os ∙ nought-orders (u .orders) (drop ordersAt codes) in
       ap (λ (x : Bool). a && b && c && d && f && x) eg′
       ∙ apart (a && b && c && d && f) (allNought (drop (u .orders) (t .letters))) (allNought (drop (u .orders) (t .calls)))

@@ -1,18 +1,28 @@
--- Which tables are valid: "a table's .. number out of range, or a reference beyond its count", "Unused places of tables .. are zero, else 23".
-use mathlib.Core.Bool.{Bool, true, false, cond, not, _&&_, _||_}
+-- Which tables are valid: "a table's .. number out of range, or a reference beyond its count", "Unused places of tables .. are zero, else 23". Ranges and
+-- counts are those of "Numbers allowed". A row is judged by the declaration that it stands for (`rowAt`).
+use mathlib.Core.Bool.{Bool, true, false, cond, _&&_}
 use mathlib.Core.List.{List, [], _∷_}
-use Prim.Native.Nat.{ℕ, zero, suc, _+_, _-_, _*_}
+use Prim.Native.Nat.{ℕ, zero, suc, _+_, _*_}
 use lib.Dec.{leb, ltb, eqb}
 use lib.IntN.{ℤ, pos, negℤ}
-use lib.Signed.{leZ}
 use lib.ListN.{getD, take, drop}
-use Rattle.integers.specs.Parts.{up}
+use Rattle.limits.specs.Limits.{leastDivisor, mostAmount, mostPositions, mostIntervals, mostToneNames, mostSystems, mostRetunings, mostLogics, firstLetter, lastLetter}
 use Rattle.tuning.specs.Desk.{between, isAnchor, isPeriod, isTone}
-pub use Rattle.limits.specs.Limits.{leastDivisor, mostAmount, firstLetter, lastLetter}
-use Rattle.tuning.specs.State.{places}
-use Rattle.tables.specs.declared.Numbers.{Numbers}
+use Rattle.tuning.specs.declared.Operator.the-variants.{Plus, Minus, Times, Divide}
+use Rattle.tuning.specs.declared.Amount.{Amount}
+use Rattle.tuning.specs.declared.Amount.the-variants.{Kept, Absolute, Relative}
+use Rattle.tuning.specs.declared.Tone.{Tone as SoundingTone}
+use Rattle.tuning.specs.declared.Tone.the-variants.{Muted, At}
+use Rattle.tuning.specs.declared.ToneChange.{ToneChange}
+use Rattle.tuning.specs.declared.ToneChange.the-variants.{Mute, Move, Set}
+use Rattle.tuning.specs.declared.Retuning.{Retuning as RetuningForm}
+use Rattle.tuning.specs.declared.Retuning.the-variants.{Anchor, Width, Period, Tones}
 use Rattle.tables.specs.declared.Counts.{Counts}
-use Rattle.tables.specs.Layout.{Tables, numberAt, mostRows, rowWidth, mostTones, mostChanges, mostOrders, farthestSum, fullSize, used, readAt, intervalForm, toneForm, systemForm, anchorForm, widthForm, periodForm, tonesForm, logicForm, keptCode, minusCode, divideCode, freshCode, onwardCode, soundsCode, setCode}
+use Rattle.tables.specs.declared.Row.{Row}
+use Rattle.tables.specs.declared.Row.the-variants.{Unused, Interval, Tone, System, Retuning, Logic}
+use Rattle.tables.specs.Layout.{Tables, numberAt, mostRows, rowWidth, mostTones, mostChanges, mostOrders, farthestSum, fullSize, used, rowCount, readAt, numbersOf, rowOf, rowAt, periodSum, soundingOf, pitchOf, toneOf, changeCode, changeNumber, changeOf}
+use Rattle.validity.specs.declared.Kinds.{Kinds}
+use Rattle.validity.specs.declared.Ends.{Ends}
 
 -- there is room for so many
 abbrev pub countsRight : Counts → Bool
@@ -20,99 +30,226 @@ countsRight c = leb (c .rows) mostRows && leb (c .tones) mostTones && leb (c .ch
 
 -- ---- numbers
 
+abbrev pub same : ℤ → ℤ → Bool
+same y z = between y y z
+
+-- a sum of terms, as a table holds it
 abbrev pub isSum : ℤ → Bool
 isSum z = between (negℤ (pos farthestSum)) (pos farthestSum) z
 
-abbrev pub isZero : ℤ → Bool
-isZero z = between (pos 0) (pos 0) z
+-- "n in anchor and width retunings: whole, 0 to 9,999; after `/` from 1"; an anchor knows only `+` and `-`
+abbrev pub isAnchorAmount : Amount → Bool
+isAnchorAmount Kept = true
+isAnchorAmount (Absolute n) = leb n mostAmount
+isAnchorAmount (Relative Plus n) = leb n mostAmount
+isAnchorAmount (Relative Minus n) = leb n mostAmount
+isAnchorAmount (Relative Times n) = false
+isAnchorAmount (Relative Divide n) = false
 
--- "n in anchor and width retunings: whole, 0 to 9,999; after `/` from 1"; a bare `@` has no n
-abbrev pub isAmount : ℕ → ℤ → ℤ → Bool
-isAmount last code n =
-    between (pos keptCode) (pos last) code && between (pos 0) (pos mostAmount) n
-    && (not (leZ code (pos keptCode)) || leZ n (pos 0)) && (not (leZ (pos divideCode) code) || leZ (pos leastDivisor) n)
+abbrev pub isWidthAmount : Amount → Bool
+isWidthAmount Kept = true
+isWidthAmount (Absolute n) = leb n mostAmount
+isWidthAmount (Relative Plus n) = leb n mostAmount
+isWidthAmount (Relative Minus n) = leb n mostAmount
+isWidthAmount (Relative Times n) = leb n mostAmount
+isWidthAmount (Relative Divide n) = leb leastDivisor n && leb n mostAmount
 
 -- A to Z, as a frame names a letter: "a letter 41 to 5A"
-abbrev pub isLetter : ℤ → Bool
-isLetter c = between (pos firstLetter) (pos lastLetter) c
+abbrev pub isLetter : ℕ → Bool
+isLetter c = leb firstLetter c && leb c lastLetter
 
--- what belongs to a row: from one place to another, from `least` to `most` of them, within `count`
-abbrev pub isPart : ℕ → ℕ → ℕ → ℕ → ℕ → Bool
-isPart least most count from to = leb (from + least) to && leb to (from + most) && leb to count
+-- ---- references: "A called name means the retuning of that name, else the tone system, else (orders only) the logic"
+
+abbrev pub isLogic : Row → Bool
+isLogic Unused = false
+isLogic (Interval d) = false
+isLogic (Tone p) = false
+isLogic (System a P from to) = false
+isLogic (Retuning r from to) = false
+isLogic (Logic c s from to) = true
+
+-- what a start may call, and what an order may
+abbrev pub isSystemOrRetuning : Row → Bool
+isSystemOrRetuning Unused = false
+isSystemOrRetuning (Interval d) = false
+isSystemOrRetuning (Tone p) = false
+isSystemOrRetuning (System a P from to) = true
+isSystemOrRetuning (Retuning r from to) = true
+isSystemOrRetuning (Logic c s from to) = false
+
+abbrev pub isCalled : Row → Bool
+isCalled Unused = false
+isCalled (Interval d) = false
+isCalled (Tone p) = false
+isCalled (System a P from to) = true
+isCalled (Retuning r from to) = true
+isCalled (Logic c s from to) = true
+
+-- declaration i is within the count of rows, and such a one
+abbrev pub refersTo : (Row → Bool) → Tables → ℕ → Bool
+refersTo is t i = ltb i (rowCount t) && is (rowAt t i)
+
+-- "start is a tone system or retuning name or nothing": 0, or 1 more than the number of the declaration
+abbrev pub isStart : Tables → ℕ → Bool
+isStart t zero = true
+isStart t (suc k) = refersTo isSystemOrRetuning t k
+
+-- ---- rows
+
+-- what belongs to a row stands from one place to another: from `least` to `most` of them
+abbrev pub isPart : ℕ → ℕ → ℕ → ℕ → Bool
+isPart least most from to = leb (from + least) to && leb to (from + most)
 
 -- nothing belongs to it
 abbrev pub noPart : ℕ → ℕ → Bool
 noPart from to = eqb from 0 && eqb to 0
 
--- ---- rows
+abbrev pub retuningRight : RetuningForm → ℕ → ℕ → Bool
+retuningRight (Anchor m) from to = isAnchorAmount m && noPart from to
+retuningRight (Width m) from to = isWidthAmount m && noPart from to
+retuningRight (Period m) from to = isSum (periodSum m) && noPart from to
+retuningRight Tones from to = isPart 1 mostPositions from to
 
--- a reference: declaration i is one of the first `count` rows, and has a form from `low` to `high`
-abbrev pub isForm : List ℤ → ℕ → ℕ → ℕ → ℕ → Bool
-isForm rows count low high i = ltb i count && leb low (readAt rows i .form) && leb (readAt rows i .form) high
+-- the numbers of a declaration are in their ranges
+unfoldable pub declarationRight : Tables → Row → Bool
+declarationRight t Unused = false
+declarationRight t (Interval d) = isTone (d .0)
+declarationRight t (Tone p) = isTone (p .0)
+declarationRight t (System a P from to) = isAnchor (pos (a .0)) && isPeriod (P .0) && isPart 1 mostPositions from to
+declarationRight t (Retuning r from to) = retuningRight r from to
+declarationRight t (Logic c s from to) = isLetter c && isStart t s && isPart 0 mostOrders from to
 
--- "start is a tone system or retuning name or nothing": 0, or 1 more than the number of the declaration; systemForm is followed by the forms of
--- retunings, and those by logicForm
-abbrev pub isStart : List ℤ → ℕ → ℤ → Bool
-isStart rows count s = isZero s || (leZ (pos 1) s && isForm rows count systemForm tonesForm (up s - 1))
-
--- a used row, by its form; an anchor knows only `+` and `-`
-unfoldable pub rowRight : List ℤ → Counts → Numbers → Bool
-rowRight rows c r =
-    let a = r .first in
-    let b = r .second in
-    let m = r .from in
-    let n = r .to in
-    cond (eqb (r .form) intervalForm) (isTone a && isZero b && noPart m n)
-    (cond (eqb (r .form) toneForm) (isTone a && isZero b && noPart m n)
-    (cond (eqb (r .form) systemForm) (isAnchor a && isPeriod b && isPart 1 places (c .tones) m n)
-    (cond (eqb (r .form) anchorForm) (isAmount minusCode a b && noPart m n)
-    (cond (eqb (r .form) widthForm) (isAmount divideCode a b && noPart m n)
-    (cond (eqb (r .form) periodForm) (between (pos freshCode) (pos onwardCode) a && isSum b && noPart m n)
-    (cond (eqb (r .form) tonesForm) (isZero a && isZero b && isPart 1 places (c .changes) m n)
-    (cond (eqb (r .form) logicForm) (isLetter a && isStart rows (c .rows) b && isPart 0 mostOrders (c .orders) m n) false)))))))
-
--- the form and the bounds are no negative numbers
-abbrev pub hasNaturals : List ℤ → ℕ → Bool
-hasNaturals rows i = leZ (pos 0) (numberAt rows i 0) && leZ (pos 0) (numberAt rows i 3) && leZ (pos 0) (numberAt rows i 4)
+-- the five numbers of row i are those of the declaration that it stands for: one that the declaration does not use is zero
+unfoldable pub isOwn : List ℤ → ℕ → Bool
+isOwn rows i =
+    let n = numbersOf (rowOf (readAt rows i)) in
+    same (pos (n .form)) (numberAt rows i 0) && same (n .first) (numberAt rows i 1) && same (n .second) (numberAt rows i 2)
+    && same (pos (n .from)) (numberAt rows i 3) && same (pos (n .to)) (numberAt rows i 4)
 
 -- n rows from row i on
-unfoldable pub rowsRight : List ℤ → Counts → ℕ → ℕ → Bool
-rowsRight rows c i zero = true
-rowsRight rows c i (suc n) = hasNaturals rows i && rowRight rows c (readAt rows i) && rowsRight rows c (suc i) n
+unfoldable pub rowsRight : Tables → ℕ → ℕ → Bool
+rowsRight t i zero = true
+rowsRight t i (suc n) = isOwn (t .rows) i && declarationRight t (rowAt t i) && rowsRight t (suc i) n
 
--- ---- orders: n of them from order i on. "A called name means the retuning of that name, else the tone system, else (orders only) the logic"
+-- their declarations
+unfoldable pub declarations : List ℤ → ℕ → ℕ → List Row
+declarations rows i zero = []
+declarations rows i (suc n) = rowOf (readAt rows i) ∷ declarations rows (suc i) n
 
-unfoldable pub ordersRight : List ℤ → ℕ → List ℕ → List ℕ → ℕ → ℕ → Bool
-ordersRight rows count letters calls i zero = true
-ordersRight rows count letters calls i (suc n) =
-    isLetter (pos (getD letters i 0)) && isForm rows count systemForm logicForm (getD calls i 0) && ordersRight rows count letters calls (suc i) n
+-- ---- how many there are of each kind
 
--- ---- lists of a kind and a number: the used ones in their range, with a zero where the kind is 0, and the others zeros
+abbrev pub kinds : ℕ → ℕ → ℕ → ℕ → ℕ → Kinds
+kinds i t s r l = record { intervals = i; tones = t; systems = s; retunings = r; logics = l }
 
-unfoldable pub eachRight : ℕ → (ℤ → Bool) → List ℕ → List ℤ → Bool
-eachRight last ok [] zs = true
-eachRight last ok (k ∷ ks) [] = false
-eachRight last ok (k ∷ ks) (z ∷ zs) = leb k last && ok z && (not (eqb k 0) || isZero z) && eachRight last ok ks zs
+abbrev pub oneMore : Kinds → Row → Kinds
+oneMore k Unused = k
+oneMore k (Interval d) = kinds (suc (k .intervals)) (k .tones) (k .systems) (k .retunings) (k .logics)
+oneMore k (Tone p) = kinds (k .intervals) (suc (k .tones)) (k .systems) (k .retunings) (k .logics)
+oneMore k (System a P from to) = kinds (k .intervals) (k .tones) (suc (k .systems)) (k .retunings) (k .logics)
+oneMore k (Retuning r from to) = kinds (k .intervals) (k .tones) (k .systems) (suc (k .retunings)) (k .logics)
+oneMore k (Logic c s from to) = kinds (k .intervals) (k .tones) (k .systems) (k .retunings) (suc (k .logics))
+
+unfoldable pub kindsFrom : Kinds → List Row → Kinds
+kindsFrom k [] = k
+kindsFrom k (r ∷ rs) = kindsFrom (oneMore k r) rs
+
+-- "intervals, tones: 256 each", "tone systems, logics: 32 each", "retunings: 128"
+abbrev pub kindsRight : Kinds → Bool
+kindsRight k =
+    leb (k .intervals) mostIntervals && leb (k .tones) mostToneNames && leb (k .systems) mostSystems && leb (k .retunings) mostRetunings
+    && leb (k .logics) mostLogics
+
+-- ---- tones, changes and orders stand one row's after the other's, and no row uses those of another
+
+-- what belongs to a row
+pub data Belonging : Type 0 where
+  nothing : Belonging
+  tones changes orders : ℕ → ℕ → Belonging
+
+abbrev pub belonging : Row → Belonging
+belonging Unused = nothing
+belonging (Interval d) = nothing
+belonging (Tone p) = nothing
+belonging (System a P from to) = tones from to
+belonging (Retuning (Anchor m) from to) = nothing
+belonging (Retuning (Width m) from to) = nothing
+belonging (Retuning (Period m) from to) = nothing
+belonging (Retuning Tones from to) = changes from to
+belonging (Logic c s from to) = orders from to
+
+-- where the tones, changes and orders of some rows end
+abbrev pub ends : ℕ → ℕ → ℕ → Ends
+ends t c o = record { tones = t; changes = c; orders = o }
+
+-- what belongs to the next row begins there
+abbrev pub follows : Ends → Belonging → Bool
+follows e nothing = true
+follows e (tones from to) = eqb from (e .tones)
+follows e (changes from to) = eqb from (e .changes)
+follows e (orders from to) = eqb from (e .orders)
+
+abbrev pub endsAfter : Ends → Belonging → Ends
+endsAfter e nothing = e
+endsAfter e (tones from to) = ends to (e .changes) (e .orders)
+endsAfter e (changes from to) = ends (e .tones) to (e .orders)
+endsAfter e (orders from to) = ends (e .tones) (e .changes) to
+
+-- and the last row's end at the counts
+abbrev pub endsRight : Counts → Ends → Bool
+endsRight c e = eqb (e .tones) (c .tones) && eqb (e .changes) (c .changes) && eqb (e .orders) (c .orders)
+
+unfoldable pub partsFollow : Counts → Ends → List Row → Bool
+partsFollow c e [] = endsRight c e
+partsFollow c e (r ∷ rs) = follows e (belonging r) && partsFollow c (endsAfter e (belonging r)) rs
+
+-- ---- orders: n of them from order i on
+
+unfoldable pub ordersRight : Tables → ℕ → ℕ → Bool
+ordersRight t i zero = true
+ordersRight t i (suc n) = isLetter (getD (t .letters) i 0) && refersTo isCalled t (getD (t .calls) i 0) && ordersRight t (suc i) n
+
+-- ---- tones and changes: the used ones in their ranges, with the numbers that they have, and the others zeros
+
+abbrev pub soundRight : SoundingTone → Bool
+soundRight Muted = true
+soundRight (At p) = isTone (p .0)
+
+abbrev pub toneRight : ℕ → ℤ → Bool
+toneRight k z = let x = toneOf k z in eqb k (soundingOf x) && same (pitchOf x) z && soundRight x
+
+abbrev pub moveRight : ToneChange → Bool
+moveRight Mute = true
+moveRight (Move d) = isSum (d .0)
+moveRight (Set p) = isSum (p .0)
+
+abbrev pub changeRight : ℕ → ℤ → Bool
+changeRight k z = let x = changeOf k z in eqb k (changeCode x) && same (changeNumber x) z && moveRight x
+
+unfoldable pub eachRight : (ℕ → ℤ → Bool) → List ℕ → List ℤ → Bool
+eachRight ok [] zs = true
+eachRight ok (k ∷ ks) [] = false
+eachRight ok (k ∷ ks) (z ∷ zs) = ok k z && eachRight ok ks zs
 
 unfoldable pub allZero : List ℤ → Bool
 allZero [] = true
-allZero (z ∷ zs) = isZero z && allZero zs
+allZero (z ∷ zs) = same (pos 0) z && allZero zs
 
 unfoldable pub allNought : List ℕ → Bool
 allNought [] = true
 allNought (k ∷ ks) = eqb k 0 && allNought ks
 
-abbrev pub poolRight : ℕ → (ℤ → Bool) → ℕ → List ℕ → List ℤ → Bool
-poolRight last ok n ks zs = eachRight last ok (take n ks) (take n zs) && allNought (drop n ks) && allZero (drop n zs)
+abbrev pub listRight : (ℕ → ℤ → Bool) → ℕ → List ℕ → List ℤ → Bool
+listRight ok n ks zs = eachRight ok (take n ks) (take n zs) && allNought (drop n ks) && allZero (drop n zs)
 
 -- ---- all of it
 
 unfoldable pub validTables : Tables → Bool
 validTables t =
     let c = used t in
+    let rs = declarations (t .rows) 0 (c .rows) in
     cond (fullSize t)
-    (countsRight c && rowsRight (t .rows) c 0 (c .rows) && allZero (drop (rowWidth * c .rows) (t .rows))
-    && poolRight soundsCode isTone (c .tones) (t .sounding) (t .tones) && poolRight setCode isSum (c .changes) (t .kinds) (t .changes)
-    && ordersRight (t .rows) (c .rows) (t .letters) (t .calls) 0 (c .orders) && allNought (drop (c .orders) (t .letters))
+    (countsRight c && rowsRight t 0 (c .rows) && kindsRight (kindsFrom (kinds 0 0 0 0 0) rs) && partsFollow c (ends 0 0 0) rs
+    && allZero (drop (rowWidth * c .rows) (t .rows)) && listRight toneRight (c .tones) (t .sounding) (t .tones)
+    && listRight changeRight (c .changes) (t .kinds) (t .changes) && ordersRight t 0 (c .orders) && allNought (drop (c .orders) (t .letters))
     && allNought (drop (c .orders) (t .calls)))
     false

@@ -40,9 +40,10 @@ ghost use Prim.Native.Nat.{_+_, _*_, _≤_};
 ghost use lib.ListN.{length, drop, take};
 ghost use lib.Seq.{slice};
 ghost use Rattle.tuning.specs.Desk.{between, isTone};
-ghost use Rattle.tables.specs.Layout.{tablesIn, lettersIn, callsIn, rowWidth, orderWidth, readAt, intervalForm, toneForm, divideCode, soundsCode, setCode};
+ghost use Rattle.tables.specs.Layout.{tablesIn, lettersIn, callsIn, mostRows, rowWidth, orderWidth, readAt, intervalForm, toneForm, divideCode, soundsCode, setCode};
 ghost use Rattle.tables.specs.Values.{Slices};
-ghost use Rattle.validity.specs.Valid.{countsRight, isZero, isSum, isAmount, isPart, noPart, isForm, isStart, rowRight, hasNaturals, rowsRight, ordersRight, eachRight, allZero, allNought, poolRight, validTables};
+ghost use Rattle.validity.specs.Valid.{countsRight, isSum, noPart, kinds, kindsRight, ends, endsRight, allZero, allNought, validTables};
+ghost use Rattle.validity.specs.Inner.{isZero, isAmount, isPartAt, isForm, isStartCode, fastRow, hasNaturals, kindsWith, endsWith, Counted, fastRows, fastOrders, fastEach, fastList};
 
 const FARTHEST_TONE: i32 = 100_000_000;
 
@@ -54,12 +55,111 @@ const FARTHEST_SUM: i32 = 200_000_001;
 
 const MOST_AMOUNT: i32 = 9_999;
 
+const MOST_INTERVALS: u32 = 256;
+
+const MOST_TONES: u32 = 256;
+
+const MOST_SYSTEMS: u32 = 32;
+
+const MOST_RETUNINGS: u32 = 128;
+
+const MOST_LOGICS: u32 = 32;
+
 // So many zeros are tested before there is a way out.
 const BLOCK: usize = 128;
 
 const LETTER_A: u16 = 65;
 
 const LETTER_Z: u16 = 90;
+
+// How many declarations there are of each kind.
+struct Kinds {
+    intervals: u32,
+    tones: u32,
+    systems: u32,
+    retunings: u32,
+    logics: u32,
+}
+
+impl Kinds {
+    fn none() -> Kinds
+        ensures { λ r. ⌜ r ≡ kinds 0 0 0 0 0 ⌝ }
+    {
+        Kinds {
+            intervals: 0,
+            tones: 0,
+            systems: 0,
+            retunings: 0,
+            logics: 0,
+        }
+    }
+
+    // With one more row of this form.
+    fn with(mut self, form: u32) -> Kinds
+        requires { ⌜ Counted self mostRows ⌝ }
+        ensures { λ r. ⌜ r ≡ kindsWith self form ⌝ }
+    {
+        match form {
+            INTERVAL_FORM => self.intervals += 1,
+            TONE_FORM => self.tones += 1,
+            SYSTEM_FORM => self.systems += 1,
+            ANCHOR_FORM | WIDTH_FORM | PERIOD_FORM | TONES_FORM => self.retunings += 1,
+            LOGIC_FORM => self.logics += 1,
+            _ => {}
+        }
+        self
+    }
+
+    // Whether there are as few of each as is allowed.
+    fn are_few(self) -> bool
+        ensures { λ r. ⌜ r ≡ kindsRight self ⌝ }
+    {
+        (self.intervals <= MOST_INTERVALS)
+            & (self.tones <= MOST_TONES)
+            & (self.systems <= MOST_SYSTEMS)
+            & (self.retunings <= MOST_RETUNINGS)
+            & (self.logics <= MOST_LOGICS)
+    }
+}
+
+// Where the tones, changes and orders of some rows end.
+struct Ends {
+    tones: u32,
+    changes: u32,
+    orders: u32,
+}
+
+impl Ends {
+    fn none() -> Ends
+        ensures { λ r. ⌜ r ≡ ends 0 0 0 ⌝ }
+    {
+        Ends {
+            tones: 0,
+            changes: 0,
+            orders: 0,
+        }
+    }
+
+    // After a row of this form, whose own end at `to`.
+    fn with(mut self, form: u32, to: u32) -> Ends
+        ensures { λ r. ⌜ r ≡ endsWith self form to ⌝ }
+    {
+        match form {
+            SYSTEM_FORM => self.tones = to,
+            TONES_FORM => self.changes = to,
+            LOGIC_FORM => self.orders = to,
+            _ => {}
+        }
+        self
+    }
+
+    // Whether they end at the counts.
+    fn are(self, used: Counts) -> bool
+        ensures { λ r. ⌜ r ≡ endsRight used self ⌝ }
+    {
+        (self.tones == used.tones) & (self.changes == used.changes) & (self.orders == used.orders)
+    }
+}
 
 fn is_between(low: i32, high: i32, z: i32) -> bool
     ensures { λ r. ⌜ r ≡ between low high z ⌝ }
@@ -91,13 +191,13 @@ fn is_amount(last: u32, code: i32, n: i32) -> bool
     known & whole & bare & divided
 }
 
-// From `least` to `most` of them, within the first `count`.
-fn is_part(least: u32, most: u32, count: u32, from: u32, to: u32) -> bool
-    ensures { λ r. ⌜ r ≡ isPart least most count from to ⌝ }
+// From `least` to `most` of them, from `start` on.
+fn is_part(least: u32, most: u32, start: u32, from: u32, to: u32) -> bool
+    ensures { λ r. ⌜ r ≡ isPartAt least most start from to ⌝ }
 {
-    let start = from as u64;
-    let end = to as u64;
-    (start + least as u64 <= end) & (end <= start + most as u64) & (to <= count)
+    let low = from as u64;
+    let high = to as u64;
+    (low + least as u64 <= high) & (high <= low + most as u64) & (from == start)
 }
 
 fn is_nothing(from: u32, to: u32) -> bool
@@ -116,7 +216,7 @@ fn is_form(rows: &[i32], count: u32, low: u32, high: u32, i: u32) -> bool
 
 // No start, or a tone system or retuning.
 fn is_start(rows: &[i32], count: u32, start: i32) -> bool
-    ensures { λ r. ⌜ r ≡ isStart (now (rows .entry)) count start ⌝ }
+    ensures { λ r. ⌜ r ≡ isStartCode (now (rows .entry)) count start ⌝ }
 {
     if start <= 0 {
         return 0 <= start;
@@ -125,16 +225,16 @@ fn is_start(rows: &[i32], count: u32, start: i32) -> bool
 }
 
 // A row that is no interval and no tone.
-fn is_other_row(rows: &[i32], used: Counts, n: Numbers) -> bool
+fn is_other_row(rows: &[i32], count: u32, ends: Ends, n: Numbers) -> bool
     requires { ⌜ (n .form ≢ intervalForm) × (n .form ≢ toneForm) ⌝ }
-    ensures { λ r. ⌜ r ≡ rowRight (now (rows .entry)) used n ⌝ }
+    ensures { λ r. ⌜ r ≡ fastRow (now (rows .entry)) count ends n ⌝ }
 {
     let form = n.form;
     match form {
         SYSTEM_FORM => {
             is_between(0, HIGHEST_KEY, n.first)
                 & is_between(0, LONGEST_PERIOD, n.second)
-                & is_part(1, PLACES as u32, used.tones, n.from, n.to)
+                & is_part(1, PLACES as u32, ends.tones, n.from, n.to)
         }
         ANCHOR_FORM => is_amount(MINUS_CODE, n.first, n.second) & is_nothing(n.from, n.to),
         WIDTH_FORM => is_amount(DIVIDE_CODE, n.first, n.second) & is_nothing(n.from, n.to),
@@ -146,21 +246,21 @@ fn is_other_row(rows: &[i32], used: Counts, n: Numbers) -> bool
         TONES_FORM => {
             is_zero(n.first)
                 & is_zero(n.second)
-                & is_part(1, PLACES as u32, used.changes, n.from, n.to)
+                & is_part(1, PLACES as u32, ends.changes, n.from, n.to)
         }
         LOGIC_FORM => {
             is_between(LETTER_A as i32, LETTER_Z as i32, n.first)
-                & is_start(rows, used.rows, n.second)
-                & is_part(0, ORDERS as u32, used.orders, n.from, n.to)
+                & is_start(rows, count, n.second)
+                & is_part(0, ORDERS as u32, ends.orders, n.from, n.to)
         }
         _ => false,
     }
 }
 
-// Whether row i is right. Most rows are intervals and tones, so these are tested first.
-fn is_row(rows: &[i32], used: Counts, i: usize) -> bool
+// Whether row i is right, after rows that end at `ends`. Most rows are intervals and tones, so these are tested first.
+fn is_row(rows: &[i32], count: u32, ends: Ends, i: usize) -> bool
     requires { ⌜ rowWidth * i + rowWidth ≤ length (now rows) ⌝ }
-    ensures { λ r. ⌜ r ≡ hasNaturals (now (rows .entry)) i && rowRight (now (rows .entry)) used (readAt (now (rows .entry)) i) ⌝ }
+    ensures { λ r. ⌜ r ≡ hasNaturals (now (rows .entry)) i && fastRow (now (rows .entry)) count ends (readAt (now (rows .entry)) i) ⌝ }
 {
     let at = ROW_WIDTH * i;
     let form = rows[at];
@@ -177,7 +277,8 @@ fn is_row(rows: &[i32], used: Counts, i: usize) -> bool
     }
     is_other_row(
         rows,
-        used,
+        count,
+        ends,
         Numbers {
             form: form as u32,
             first,
@@ -188,26 +289,32 @@ fn is_row(rows: &[i32], used: Counts, i: usize) -> bool
     )
 }
 
-// Whether the used rows are right.
+// Whether the used rows are right, no more of a kind than allowed, and what belongs to them follows one another up to the counts.
 fn are_rows(rows: &[i32], used: Counts) -> bool
-    requires { ⌜ rowWidth * used .rows ≤ length (now rows) ⌝ }
-    ensures { λ r. ⌜ r ≡ rowsRight (now (rows .entry)) used 0 (used .rows) ⌝ }
+    requires { ⌜ (rowWidth * used .rows ≤ length (now rows)) × (used .rows ≤ mostRows) ⌝ }
+    ensures { λ r. ⌜ r ≡ fastRows (now (rows .entry)) used (kinds 0 0 0 0 0) (ends 0 0 0) 0 (used .rows) ⌝ }
 {
     let end = used.rows as usize;
+    let mut kinds = Kinds::none();
+    let mut ends = Ends::none();
     let mut i: usize = 0;
     while i < end {
-        if !is_row(rows, used, i) {
+        if !is_row(rows, used.rows, ends, i) {
             return false;
         }
+        let at = ROW_WIDTH * i;
+        let form = decode::natural(rows[at]);
+        kinds = kinds.with(form);
+        ends = ends.with(form, decode::natural(rows[at + 4]));
         i += 1;
     }
-    true
+    kinds.are_few() & ends.are(used)
 }
 
 // Whether the first `used` have a kind up to `last` and a number in its range, 0 where the kind is 0.
 fn are_in_range(kinds: &[u16], numbers: &[i32], used: usize, last: u16, low: i32, high: i32) -> bool
     requires { ⌜ (used ≤ length (now kinds)) × (used ≤ length (now numbers)) ⌝ }
-    ensures { λ r. ⌜ r ≡ eachRight last (between low high) (take used (now (kinds .entry))) (take used (now (numbers .entry))) ⌝ }
+    ensures { λ r. ⌜ r ≡ fastEach last (between low high) (take used (now (kinds .entry))) (take used (now (numbers .entry))) ⌝ }
 {
     let mut ok = true;
     let mut i: usize = 0;
@@ -282,7 +389,7 @@ fn are_zero_codes(table: &[u16], from: usize) -> bool
 // Whether the used ones are in their range, and the others zero.
 fn is_pool(kinds: &[u16], numbers: &[i32], used: usize, last: u16, low: i32, high: i32) -> bool
     requires { ⌜ (used ≤ length (now kinds)) × (used ≤ length (now numbers)) ⌝ }
-    ensures { λ r. ⌜ r ≡ poolRight last (between low high) used (now (kinds .entry)) (now (numbers .entry)) ⌝ }
+    ensures { λ r. ⌜ r ≡ fastList last (between low high) used (now (kinds .entry)) (now (numbers .entry)) ⌝ }
 {
     let ranged = are_in_range(kinds, numbers, used, last, low, high);
     let kinds_rest = are_zero_codes(kinds, used);
@@ -292,7 +399,7 @@ fn is_pool(kinds: &[u16], numbers: &[i32], used: usize, last: u16, low: i32, hig
 
 fn are_tones(sounding: &[u16], tones: &[i32], used: usize) -> bool
     requires { ⌜ (used ≤ length (now sounding)) × (used ≤ length (now tones)) ⌝ }
-    ensures { λ r. ⌜ r ≡ poolRight soundsCode isTone used (now (sounding .entry)) (now (tones .entry)) ⌝ }
+    ensures { λ r. ⌜ r ≡ fastList soundsCode isTone used (now (sounding .entry)) (now (tones .entry)) ⌝ }
 {
     is_pool(
         sounding,
@@ -306,7 +413,7 @@ fn are_tones(sounding: &[u16], tones: &[i32], used: usize) -> bool
 
 fn are_changes(kinds: &[u16], changes: &[i32], used: usize) -> bool
     requires { ⌜ (used ≤ length (now kinds)) × (used ≤ length (now changes)) ⌝ }
-    ensures { λ r. ⌜ r ≡ poolRight setCode isSum used (now (kinds .entry)) (now (changes .entry)) ⌝ }
+    ensures { λ r. ⌜ r ≡ fastList setCode isSum used (now (kinds .entry)) (now (changes .entry)) ⌝ }
 {
     is_pool(kinds, changes, used, SET_CODE, -FARTHEST_SUM, FARTHEST_SUM)
 }
@@ -314,7 +421,7 @@ fn are_changes(kinds: &[u16], changes: &[i32], used: usize) -> bool
 // Whether the used orders are right.
 fn are_orders(rows: &[i32], orders: &[u16], used: Counts) -> bool
     requires { ⌜ orderWidth * used .orders ≤ length (now orders) ⌝ }
-    ensures { λ r. ⌜ r ≡ ordersRight (now (rows .entry)) (used .rows) (lettersIn (now (orders .entry))) (callsIn (now (orders .entry))) 0 (used .orders) ⌝ }
+    ensures { λ r. ⌜ r ≡ fastOrders (now (rows .entry)) (used .rows) (lettersIn (now (orders .entry))) (callsIn (now (orders .entry))) 0 (used .orders) ⌝ }
 {
     let end = used.orders as usize;
     let mut i: usize = 0;

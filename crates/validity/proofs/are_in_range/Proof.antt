@@ -12,15 +12,15 @@ use mir.Syntax.{w32}
 use mir.Val.{SFits, toZ}
 use Rattle.tuning.specs.Desk.{between}
 use Rattle.validity.proofs.Runs.{each-turn, each-end}
-use Rattle.validity.specs.Valid.{eachRight}
+use Rattle.validity.specs.Inner.{fastEach}
 use Rattle.validity.proofs.are_in_range.Statement.{statement}
 use Rattle.validity.proofs.are_in_range.Tie as tie
 
 abbrev Inv-loop : tie.InvT-loop
 Inv-loop kinds numbers used last low high ok₀ i₀ ok i =
     (i ≤ used)
-    × (ok && eachRight last (between (toZ w32 low) (toZ w32 high)) (slice i used kinds) (slice i used numbers)
-    ≡ eachRight last (between (toZ w32 low) (toZ w32 high)) (take used kinds) (take used numbers))
+    × (ok && fastEach last (between (toZ w32 low) (toZ w32 high)) (slice i used kinds) (slice i used numbers)
+    ≡ fastEach last (between (toZ w32 low) (toZ w32 high)) (take used kinds) (take used numbers))
 
 abbrev μ-loop : tie.MeasureT-loop
 μ-loop kinds numbers used last low high ok₀ i₀ ok i = used - i

@@ -1,21 +1,20 @@
 -- `validity::are_orders` meets its contract. The loop's invariant: what is left gives the answer. Assumes nothing.
-use mathlib.Core.Bool.{Bool, true, false, _&&_}
 use mathlib.Core.Path.{_≡_, sym, ap, _∙_}
-use Prim.Native.Nat.{ℕ, _-_, _*_, _≤_, _+_}
+use Prim.Native.Nat.{_-_, _*_, _≤_, _+_}
 use native.Mathlib.Nat.{sub-zero}
 use native.Mathlib.Omega.{arith}
 use borrow.Author.Tests.{not-true, not-false}
 use Rattle.tables.specs.Layout.{orderWidth, lettersIn, callsIn}
 use Rattle.validity.proofs.Runs.{order-wrong, orders-turn, orders-end}
 use Rattle.validity.proofs.Slices.{order-told}
-use Rattle.validity.specs.Valid.{ordersRight}
+use Rattle.validity.specs.Inner.{fastOrders}
 use borrow.Author.Needs.{needs}
 use Rattle.validity.proofs.are_orders.Statement.{statement}
 use Rattle.validity.proofs.are_orders.Tie as tie
 
 abbrev Inv-loop : tie.InvT-loop
 Inv-loop rows orders used end i₀ i = (i ≤ used .orders)
-    × (ordersRight rows (used .rows) (lettersIn orders) (callsIn orders) i (used .orders - i) ≡ ordersRight rows (used .rows) (lettersIn orders) (callsIn orders) 0 (used .orders))
+    × (fastOrders rows (used .rows) (lettersIn orders) (callsIn orders) i (used .orders - i) ≡ fastOrders rows (used .rows) (lettersIn orders) (callsIn orders) 0 (used .orders))
 
 abbrev μ-loop : tie.MeasureT-loop
 μ-loop rows orders used end i₀ i = used .orders - i
@@ -25,7 +24,7 @@ cast-end c = search needs
 
 loop-holds : tie.Need-loop-holds Inv-loop μ-loop
 loop-holds c = let a = c .before .before .args in
-    (omega arith, ap (ordersRight (a .rows .now) (a .used .rows) (lettersIn (a .orders .now)) (callsIn (a .orders .now)) 0) (sub-zero (a .used .orders)))
+    (omega arith, ap (fastOrders (a .rows .now) (a .used .rows) (lettersIn (a .orders .now)) (callsIn (a .orders .now)) 0) (sub-zero (a .used .orders)))
 
 mul-at : tie.Need-mul-at Inv-loop μ-loop
 mul-at c = search needs

@@ -6,7 +6,8 @@ use borrow.Author.Needs.{needs}
 use borrow.Author.Tests.{not-true, not-false}
 use lib.ListN.{length, drop}
 use Rattle.validity.proofs.Runs.{zero-each, blockSize, run-split, run-end}
-use Rattle.validity.specs.Valid.{isZero, allZero}
+use Rattle.validity.specs.Valid.{allZero}
+use Rattle.validity.specs.Inner.{isZero}
 use Rattle.validity.proofs.are_zero_numbers.Statement.{statement}
 use Rattle.validity.proofs.are_zero_numbers.Tie as tie
 

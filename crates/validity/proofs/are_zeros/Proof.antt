@@ -12,7 +12,8 @@ use mir.Facts.{toZ-ofZ}
 use mir.Syntax.{w32}
 use mir.Val.{SFits}
 use Rattle.validity.proofs.Runs.{zero-each, block-turn, block-end}
-use Rattle.validity.specs.Valid.{isZero, allZero}
+use Rattle.validity.specs.Valid.{allZero}
+use Rattle.validity.specs.Inner.{isZero}
 use Rattle.validity.proofs.are_zeros.Statement.{statement}
 use Rattle.validity.proofs.are_zeros.Tie as tie
 

@@ -6,7 +6,7 @@ use mir.Syntax.{w32}
 use mir.Val.{SFits}
 use Rattle.validity.proofs.Runs.{form-right}
 use Rattle.tables.specs.Layout.{systemForm, anchorForm, widthForm, periodForm, tonesForm, logicForm}
-use Rattle.validity.specs.Valid.{rowRight}
+use Rattle.validity.specs.Inner.{fastRow}
 use Rattle.validity.proofs.is_other_row.Statement.{statement}
 use Rattle.validity.proofs.is_other_row.Tie as tie
 
@@ -89,7 +89,7 @@ is-part-requires-3 : tie.Need-is-part-requires-3
 is-part-requires-3 c κs = search needs
 
 returns : tie.Need-returns
-unfolding rowRight
+unfolding fastRow
 returns c =
     let s = c .before .before .before .before .before .before in
     let f = first-fits s in
@@ -99,10 +99,10 @@ returns c =
       simp toZ-ofZ at (c .before .is-between2 .ensures),
       c .is-part .ensures,
     )
-    (form-right (s .args .rows .now) (s .args .used) (s .args .n) systemForm (c .before .before .before .before .before .match .keys1))
+    (form-right (s .args .rows .now) (s .args .count) (s .args .ends) (s .args .n) systemForm (c .before .before .before .before .before .match .keys1))
 
 returns-2 : tie.Need-returns-2
-unfolding rowRight
+unfolding fastRow
 returns-2 c =
     let s = c .before .before .before .before .before in
     let f = first-fits s in
@@ -111,10 +111,10 @@ returns-2 c =
       simp toZ-ofZ at (c .before .is-amount .ensures),
       c .is-nothing .ensures,
     )
-    (form-right (s .args .rows .now) (s .args .used) (s .args .n) anchorForm (c .before .before .before .before .match .keys2))
+    (form-right (s .args .rows .now) (s .args .count) (s .args .ends) (s .args .n) anchorForm (c .before .before .before .before .match .keys2))
 
 returns-3 : tie.Need-returns-3
-unfolding rowRight
+unfolding fastRow
 returns-3 c =
     let s = c .before .before .before .before .before in
     let f = first-fits s in
@@ -123,10 +123,10 @@ returns-3 c =
       simp toZ-ofZ at (c .before .is-amount2 .ensures),
       c .is-nothing2 .ensures,
     )
-    (form-right (s .args .rows .now) (s .args .used) (s .args .n) widthForm (c .before .before .before .before .match .keys3))
+    (form-right (s .args .rows .now) (s .args .count) (s .args .ends) (s .args .n) widthForm (c .before .before .before .before .match .keys3))
 
 returns-4 : tie.Need-returns-4
-unfolding rowRight
+unfolding fastRow
 returns-4 c =
     let s = c .before .before .before .before .before .before in
     let f = first-fits s in
@@ -136,10 +136,10 @@ returns-4 c =
       simp toZ-ofZ at (c .before .is-between4 .ensures),
       c .is-nothing3 .ensures,
     )
-    (form-right (s .args .rows .now) (s .args .used) (s .args .n) periodForm (c .before .before .before .before .before .match .keys4))
+    (form-right (s .args .rows .now) (s .args .count) (s .args .ends) (s .args .n) periodForm (c .before .before .before .before .before .match .keys4))
 
 returns-5 : tie.Need-returns-5
-unfolding rowRight
+unfolding fastRow
 returns-5 c =
     let s = c .before .before .before .before .before .before in
     let f = first-fits s in
@@ -149,10 +149,10 @@ returns-5 c =
       simp toZ-ofZ at (c .before .is-zero2 .ensures),
       c .is-part2 .ensures,
     )
-    (form-right (s .args .rows .now) (s .args .used) (s .args .n) tonesForm (c .before .before .before .before .before .match .keys5))
+    (form-right (s .args .rows .now) (s .args .count) (s .args .ends) (s .args .n) tonesForm (c .before .before .before .before .before .match .keys5))
 
 returns-6 : tie.Need-returns-6
-unfolding rowRight
+unfolding fastRow
 returns-6 c =
     let s = c .before .before .before .before .before .before in
     let f = first-fits s in
@@ -162,10 +162,10 @@ returns-6 c =
       simp toZ-ofZ at (c .before .is-start .ensures),
       c .is-part3 .ensures,
     )
-    (form-right (s .args .rows .now) (s .args .used) (s .args .n) logicForm (c .before .before .before .before .before .match .keys6))
+    (form-right (s .args .rows .now) (s .args .count) (s .args .ends) (s .args .n) logicForm (c .before .before .before .before .before .match .keys6))
 
 returns-7 : tie.Need-returns-7
-unfolding rowRight
+unfolding fastRow
 returns-7 c =
     let p = c .before .pre in
     simp (ne-eqb _ _ (p .0), ne-eqb _ _ (p .1), ne-eqb _ _ (c .match .rest .1), ne-eqb _ _ (c .match .rest .0 .1), ne-eqb _ _ (c .match .rest .0 .0 .1), ne-eqb _ _ (c .match .rest .0 .0 .0 .1), ne-eqb _ _ (c .match .rest .0 .0 .0 .0 .1), ne-eqb _ _ (c .match .rest .0 .0 .0 .0 .0 .1))

@@ -15,7 +15,6 @@ use Rattle.integers.proofs.Signed.{signed, abs}
 use Rattle.tuning.specs.Desk.{between}
 use Rattle.tuning.proofs.Lists.{both}
 use Rattle.tables.specs.Layout.{rowWidth, intervalForm, toneForm}
-use Rattle.validity.specs.Valid.{rowRight}
 use Rattle.validity.proofs.Runs.{sounding-right, other-form, natural-is}
 use Rattle.validity.proofs.is_row.Statement.{statement}
 use Rattle.validity.proofs.is_row.Tie as tie
@@ -153,7 +152,7 @@ returns c =
       simp toZ-ofZ at (c .is-zero3 .ensures),
       add-zero (rowWidth * a .i),
     )
-    (sounding-right (a .rows .now) (a .used) (form n) (number n 1) (number n 2) (number n 3) (number n 4) (sounds t))
+    (sounding-right (a .rows .now) (a .count) (a .ends) (form n) (number n 1) (number n 2) (number n 3) (number n 4) (sounds t))
 
 returns-2 : tie.Need-returns-2
 returns-2 c =
@@ -164,22 +163,22 @@ returns-2 c =
     let e : leZ (pos 0) (form n) && leZ (pos 0) (number n 3) && leZ (pos 0) (number n 4) ≡ false = not-true _ (simp toZ-ofZ at (c .if2 .taken)) in
     rw (add-zero (rowWidth * start n .args .i), e)
 
-cast-t31 : tie.Need-cast-t31
-cast-t31 c =
+cast-t32 : tie.Need-cast-t32
+cast-t32 c =
     let n = c .before .before .before in
     let f = form-fits n in
     let h = naturals c .form in
     simp toZ-ofZ (omega (signed, abs (form n)))
 
-cast-t32 : tie.Need-cast-t32
-cast-t32 c =
+cast-t33 : tie.Need-cast-t33
+cast-t33 c =
     let n = c .before .before .before in
     let f = from-fits n in
     let h = naturals c .from in
     simp toZ-ofZ (omega (signed, abs (number n 3)))
 
-cast-t33 : tie.Need-cast-t33
-cast-t33 c =
+cast-t34 : tie.Need-cast-t34
+cast-t34 c =
     let n = c .before .before .before in
     let f = to-fits n in
     let h = naturals c .to in
@@ -232,8 +231,8 @@ is-row-spec =
     is-zero-requires-3
     returns
     returns-2
-    cast-t31
     cast-t32
     cast-t33
+    cast-t34
     is-other-row-requires
     returns-3)

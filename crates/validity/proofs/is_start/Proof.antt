@@ -10,7 +10,7 @@ use mir.Val.{SFits}
 use Rattle.integers.proofs.Signed.{signed, abs, diff}
 use Rattle.tables.specs.Layout.{systemForm, tonesForm}
 use Rattle.validity.proofs.Runs.{start-none, start-some, start-less}
-use Rattle.validity.specs.Valid.{isForm}
+use Rattle.validity.specs.Inner.{isForm}
 use Rattle.validity.proofs.is_start.Statement.{statement}
 use Rattle.validity.proofs.is_start.Tie as tie
 
