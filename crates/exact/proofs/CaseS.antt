@@ -16,7 +16,7 @@ use Rattle.program.specs.CaseS.{text, program}
 use Rattle.program.proofs.Texts.{case-s-read}
 use Rattle.tables.specs.Layout.{writtenAll, joined, rowOf}
 use Rattle.filling.specs.Tables.{filledFrom, tablesOf}
-use Rattle.validity.specs.Valid.{validTables, rowRight, rowsRight, ordersRight, eachRight, allZero, allNought}
+use Rattle.validity.specs.Valid.{validTables, declarationRight, isOwn, rowsRight, declarations, kindsFrom, partsFollow, ordersRight, eachRight, allZero, allNought}
 use Rattle.tuning.specs.Scale.{Sound, sounds}
 use Rattle.tuning.specs.Tuning.{soundOf, start}
 use Rattle.tuning.specs.Desk.{cents, called, firstFailing, anyBeyond}
@@ -39,7 +39,7 @@ use Rattle.exact.proofs.Claim.{stream-agrees}
 
 pub case-s : Whole
 unfolding Option·elim leadingZeros place bits L measure nearest plus total ranged valueAt valueOf writtenAll joined rowOf filledFrom tablesOf
-    validTables rowRight rowsRight ordersRight eachRight allZero allNought called firstFailing anyBeyond validState allMuted digitOf byteOf bytesOf
+    validTables declarationRight isOwn rowsRight declarations kindsFrom partsFollow ordersRight eachRight allZero allNought called firstFailing anyBeyond validState allMuted digitOf byteOf bytesOf
     framed frameOf firstLogic firstOrder pressed callOn tuningFrom madeFrom letterOutcome keyOutcome frameOutcome answerOf linesOf hexOf hexes twos
     fourOf tonesBytes
 case-s = record { read = case-s-read; answered = refl }
@@ -55,7 +55,7 @@ calls = record { called = 4; number = 0 } ∷ record { called = 5; number = 0 } 
 pub desk-71 : (madeIn (tablesOf program) startDesk frames ≡ calls)
     × (soundOf cents (held (deskAfter (tablesOf program) startDesk frames .tuning)) 71 ≡ sounds (pos 0x7eb526))
 unfolding Option·elim leadingZeros place bits L measure nearest plus total ranged valueAt valueOf writtenAll joined rowOf filledFrom tablesOf
-    validTables rowRight rowsRight ordersRight eachRight allZero allNought called firstFailing anyBeyond validState allMuted digitOf byteOf bytesOf
+    validTables declarationRight isOwn rowsRight declarations kindsFrom partsFollow ordersRight eachRight allZero allNought called firstFailing anyBeyond validState allMuted digitOf byteOf bytesOf
     framed frameOf firstLogic firstOrder pressed callOn tuningFrom madeFrom letterOutcome keyOutcome frameOutcome answerOf deskAfter madeIn
 desk-71 = (refl, refl)
 

@@ -16,7 +16,7 @@ use Rattle.tuning.specs.State as State
 use Rattle.tables.specs.declared.Row.{Row}
 use Rattle.tables.specs.declared.Row.the-variants.{Interval, Tone, System, Retuning, Logic}
 use Rattle.tables.specs.Layout.{Tables, rowWidth, mostRows, mostTones, mostChanges, mostOrders, rowOf, writtenAll, soundingOf, pitchOf, joined, full}
-use Rattle.validity.specs.Valid.{rowRight, rowsRight, ordersRight, eachRight, allZero, allNought, validTables}
+use Rattle.validity.specs.Valid.{declarationRight, isOwn, rowsRight, declarations, kindsFrom, partsFollow, ordersRight, eachRight, allZero, allNought, validTables}
 use Rattle.ascii.specs.Ascii.{byte}
 use Rattle.hexadecimal.specs.Digits.{digitOf, byteOf, bytesOf}
 use Rattle.frames.specs.Frames.{framed, frameOf}
@@ -76,7 +76,7 @@ abbrev frames : List Lent
 frames = map lent caseLines
 
 pub case-s : linesOf tables startDesk frames ≡ map bytes caseAnswers
-unfolding linesOf answerOf validTables rowsRight rowRight ordersRight eachRight allZero allNought writtenAll State.validState State.allMuted anyBeyond
+unfolding linesOf answerOf validTables declarationRight isOwn rowsRight declarations kindsFrom partsFollow ordersRight eachRight allZero allNought writtenAll State.validState State.allMuted anyBeyond
     frameOutcome frameOf framed bytesOf byteOf digitOf Option·elim letterOutcome keyOutcome pressed firstLogic firstOrder rowOf joined
     tuningFrom madeFrom callOn called firstFailing hexOf hexes twos fourOf
 case-s = refl
@@ -84,7 +84,7 @@ case-s = refl
 -- the calls that were made, each with its number
 pub case-s-made : madeIn tables startDesk frames
     ≡ record { called = 4; number = done } ∷ record { called = 5; number = done } ∷ record { called = 5; number = done } ∷ []
-unfolding madeIn answerOf validTables rowsRight rowRight ordersRight eachRight allZero allNought writtenAll State.validState State.allMuted anyBeyond
+unfolding madeIn answerOf validTables declarationRight isOwn rowsRight declarations kindsFrom partsFollow ordersRight eachRight allZero allNought writtenAll State.validState State.allMuted anyBeyond
     frameOutcome frameOf framed bytesOf byteOf digitOf Option·elim letterOutcome keyOutcome pressed firstLogic firstOrder rowOf joined
     tuningFrom madeFrom callOn called firstFailing
 case-s-made = refl

@@ -10,6 +10,7 @@ use Rattle.tables.specs.declared.Numbers.{Numbers}
 use Rattle.tables.specs.declared.Row.{Row}
 use Rattle.tables.specs.declared.Row.the-variants.{Unused}
 use Rattle.tables.specs.Layout.{numbers, rowOf, intervalForm, toneForm, systemForm, anchorForm, widthForm, periodForm, tonesForm, logicForm}
+use Rattle.validity.specs.Valid.{isLogic}
 use Rattle.protocol.specs.Letters.{isLogicOf}
 use Rattle.protocol.specs.Inner.{noKind, systemKind, retuningKind, logicKind, kindOf}
 
@@ -55,6 +56,12 @@ module _ (n : Numbers) where
   unfolding rowOf
   logic-by letter =
       by-form (λ f. eqb f logicForm && eqb (up (n .first)) letter ≡ isLogicOf letter (row f)) refl refl refl refl refl refl refl refl refl
+      (λ f h. rw (no-row f h, ne-eqb f logicForm (omega arith))) (n .form)
+
+  pub logic-is : eqb (n .form) logicForm ≡ isLogic (rowOf n)
+  unfolding rowOf
+  logic-is =
+      by-form (λ f. eqb f logicForm ≡ isLogic (row f)) refl refl refl refl refl refl refl refl refl
       (λ f h. rw (no-row f h, ne-eqb f logicForm (omega arith))) (n .form)
 
   pub logic-kind : eqb (kindOf (rowOf n)) logicKind ≡ eqb (n .form) logicForm

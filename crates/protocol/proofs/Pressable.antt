@@ -11,7 +11,7 @@ use Rattle.tuning.proofs.Lists.{both}
 use Rattle.tables.specs.declared.Row.{Row as TableRow}
 use Rattle.tables.specs.declared.Row.the-variants.{Unused, Interval, Tone, System, Retuning, Logic}
 use Rattle.tables.specs.Layout.{Tables, rowCount, readAt, rowAt, logicForm}
-use Rattle.validity.specs.Valid.{validTables}
+use Rattle.validity.specs.Valid.{isLogic, validTables}
 use Rattle.validity.proofs.Laws.{valid-of, ValidRow, row-valid, fields-fit, order-valid}
 use Rattle.protocol.specs.declared.Active.{Active}
 use Rattle.protocol.specs.declared.Active.the-variants as active
@@ -28,10 +28,7 @@ Within t (k ∷ ks) = (k < rowCount t) × Within t ks
 
 module _ (t : Tables) (v : validTables t ≡ true) where
   active-within : (i : ℕ) → activeRight t (active.Logic i) ≡ true → i < rowCount t
-  active-within i h =
-      let form = readAt (t .rows) i .form in
-      let b = both (ltb i (rowCount t) && leb logicForm form) (leb form logicForm) h in
-      ltb-true _ _ (both (ltb i (rowCount t)) (leb logicForm form) (b .0) .0)
+  active-within i h = ltb-true _ _ (both (ltb i (rowCount t)) (isLogic (rowAt t i)) h .0)
 
   orders-there : (r : TableRow) → ValidRow t r → OrdersThere t r
   orders-there Unused h = tt

@@ -36,13 +36,6 @@ use Rattle.protocol.proofs.Pressable.{named-within, pressed-within}
 use Rattle.protocol.proofs.Callable.{Whole, tuning-valid}
 use Rattle.protocol.proofs.Ways.{too-small, taken, letter-desk}
 
--- a row that is a logic has the form of one
-logic-form : (t : Tables) (i : ℕ) {c s from to : ℕ} → rowAt t i ≡ Logic c s from to → readAt (t .rows) i .form ≡ logicForm
-logic-form t i {c} e =
-    let r = readAt (t .rows) i in
-    let h = logic-by r c ∙ ap (isLogicOf c) e ∙ eq-eqb c c refl in
-    eqb-true _ _ (both (eqb (r .form) logicForm) _ h .0)
-
 module _ (t : Tables) (v : validTables t ≡ true) where
   -- a state of sixty places whose numbers are in their ranges, and no active logic, or one of the tables
   pub record Right (d : Desk) : Type 0 where
@@ -62,7 +55,7 @@ module _ (t : Tables) (v : validTables t ≡ true) where
     called-right k (Tone p) e l = h
     called-right k (System b P from to) e l = h
     called-right k (Retuning r from to) e l = h
-    called-right k (Logic c s from to) e l = rw (lt-ltb k (rowCount t) l, logic-form t k e)
+    called-right k (Logic c s from to) e l = rw (lt-ltb k (rowCount t) l, e)
 
     pressed-right : activeRight t (pressed t a letter .active) ≡ true
     unfolding pressed

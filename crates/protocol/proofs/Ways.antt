@@ -44,18 +44,6 @@ refusal buffer e = record { desk = e .0; number = e .1; size = e .2; buffer = re
 
 -- ---- the test of the tables and the desk
 
--- a form that is no less and no more than another is that one
-pub one-form : (b : Bool) (f k : ℕ) → b && eqb f k ≡ b && leb k f && leb f k
-one-form b f k = go (eqb f k) refl
-  where
-    go : (e : Bool) → eqb f k ≡ e → b && e ≡ b && leb k f && leb f k
-    go true h = let z = eqb-true f k h in rw (le-leb k f (omega arith), le-leb f k (omega arith)) (sym (and-true (b && true)))
-    go false h =
-        elim (decLt f k) [
-          | yes l ↦ rw (lt-leb k f l, and-false b)
-          | no l ↦ let z = eqb-false f k h in rw (lt-leb f k (omega arith)) (and-false b ∙ sym (and-false (b && leb k f)))
-        ]
-
 module _ (t : Tables) (d : Desk) where
   pub desk-tables : validTables t ≡ false → false ≡ validDesk t d
   desk-tables h = rw h

@@ -14,8 +14,8 @@ use Rattle.tuning.specs.Desk.{cents}
 use Rattle.tuning.specs.State.{held, coded, replied, validState}
 use Rattle.tuning.specs.declared.State.{State}
 use Rattle.tuning.specs.declared.Reply.{Reply}
-use Rattle.tables.specs.Layout.{Tables, rowCount, logicForm}
-use Rattle.validity.specs.Valid.{isForm, validTables}
+use Rattle.tables.specs.Layout.{Tables}
+use Rattle.validity.specs.Valid.{isLogic, refersTo, validTables}
 use Rattle.frames.specs.Frames.{frameOf}
 use Rattle.frames.specs.declared.Frame.{Frame}
 use Rattle.frames.specs.declared.Frame.the-variants.{Bad, Letter, Key, Dump}
@@ -110,7 +110,7 @@ frameOutcome t d Bad = badOutcome d
 -- "a state's number out of range": the state's numbers, and the active logic is none or a logic of the tables
 abbrev pub activeRight : Tables → Active → Bool
 activeRight t active.Nothing = true
-activeRight t (active.Logic i) = isForm (t .rows) (rowCount t) logicForm logicForm i
+activeRight t (active.Logic i) = refersTo isLogic t i
 
 abbrev pub validDesk : Tables → Desk → Bool
 validDesk t d = validTables t && validState (d .tuning) && activeRight t (d .active)

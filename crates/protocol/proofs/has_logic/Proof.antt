@@ -1,11 +1,11 @@
 -- `protocol::has_logic` meets its contract. Assumes nothing.
 use mathlib.Core.Path.{ap, _∙_}
-use mathlib.Core.Bool.{_&&_}
+use mathlib.Core.Bool.{Bool, _&&_}
 use lib.Dec.{ltb, eqb}
 use Rattle.tables.specs.declared.Counts.{Counts}
 use Rattle.tables.specs.declared.Numbers.{Numbers}
 use Rattle.tables.specs.Layout.{tablesIn, rowCount, readAt, logicForm}
-use Rattle.protocol.proofs.Ways.{one-form}
+use Rattle.protocol.proofs.Forms.{logic-is}
 use borrow.Author.Needs.{needs}
 use Rattle.protocol.proofs.has_logic.Statement.{statement}
 use Rattle.protocol.proofs.has_logic.Tie as tie
@@ -40,7 +40,7 @@ returns c = let t = tablesIn (c .before .before .before .before .before .before 
     let i = c .before .before .before .before .before .before .before .args .i in
     ap (λ (n : Numbers). ltb i (c .before .before .before .before .read .result .rows) && eqb (n .form) logicForm) (c .before .before .numbers-at .ensures)
     ∙ ap (λ (u : Counts). ltb i (u .rows) && eqb (readAt (t .rows) i .form) logicForm) (c .before .before .before .before .read .ensures)
-    ∙ one-form (ltb i (rowCount t)) (readAt (t .rows) i .form) logicForm
+    ∙ ap (λ (b : Bool). ltb i (rowCount t) && b) (logic-is (readAt (t .rows) i))
 
 pub has-logic-spec : {M : Type 1} → statement M
 has-logic-spec =
