@@ -11,10 +11,12 @@
 // - changes: the same, and (128 · 60 - 62) · 2 unused places;
 // - orders: 2 · 2 letters; 2 · 4 calls; (512 - 2) · 2 unused places;
 // - counts: 4 too great, 4 too small for what is referred to, 4 the greatest of 16 bits, and a row and an order too many; 2 slices, 2 sizes each;
+// - each kind: as many as "Numbers allowed" has are right, one more is damage; parts: each list's 3 ways not to follow one another;
 // - state: 2 anchors, 4 widths, 4 periods, 12 · 2 tones, 60 - 12 tones past the width;
 // - active logic: 9 rows that are no logic, the first one past the count, the greatest number of 32 bits;
 // - buffers of 0 to 511 bytes, which get 19; the 6 beginnings of a frame of 6 digits.
 mod desk;
+mod kinds;
 mod lent;
 mod limits;
 mod lists;
@@ -27,6 +29,8 @@ use answers::SMALLEST_BUFFER;
 use desk::report_active;
 use desk::report_order_of_checks;
 use desk::report_state;
+use kinds::report_kinds;
+use kinds::report_parts;
 use lent::Lent;
 use lists::report_changes;
 use lists::report_counts;
@@ -64,6 +68,8 @@ fn main() {
     report_changes();
     report_orders();
     report_counts();
+    report_kinds();
+    report_parts();
     report_state();
     report_active();
     report_order_of_checks();

@@ -9,6 +9,7 @@ use answers::SMALLEST_BUFFER;
 use protocol::Active;
 use protocol::Desk;
 use status::BUFFER_TOO_SMALL;
+use status::DONE;
 use status::TABLE_DAMAGED;
 use std::num::wrapping_add_u64;
 use tables::LOGIC_FORM;
@@ -61,8 +62,18 @@ impl Tally {
         self.try_frame(t, desk, b"010245", SMALLEST_BUFFER, TABLE_DAMAGED)
     }
 
+    // Tables that have to get 23, and tables that have to be answered.
+    pub fn try_damaged(self, t: Lent) -> Tally {
+        self.try_key(t, Desk::start())
+    }
+
+    pub fn try_right(self, t: Lent) -> Tally {
+        let outcome = send_frame(t, Desk::start(), b"010245", SMALLEST_BUFFER);
+        self.add(outcome.number == DONE)
+    }
+
     pub fn try_number(self, table: Table, at: usize, wrong: i32) -> Tally {
-        self.try_key(Lent::sample().with_number(table, at, wrong), Desk::start())
+        self.try_damaged(Lent::sample().with_number(table, at, wrong))
     }
 
     // The same wrong number at each place from `from` to `to`.
@@ -92,7 +103,7 @@ impl Tally {
     }
 
     fn try_size(self, slice: usize, wrong: usize) -> Tally {
-        self.try_key(Lent::sample().with_size(slice, wrong), Desk::start())
+        self.try_damaged(Lent::sample().with_size(slice, wrong))
     }
 
     // Each slice a number shorter, and a number longer.

@@ -1,0 +1,210 @@
+// As many declarations of a kind as "Numbers allowed" has, and one more; and lists whose parts do not follow one another.
+use crate::lent::LOGIC;
+use crate::lent::LONG_SYSTEM;
+use crate::lent::LONG_TONES;
+use crate::lent::Lent;
+use crate::lent::POSITIONS;
+use crate::lent::Table;
+use crate::lent::USED_ORDERS;
+use crate::lent::USED_ROWS;
+use crate::report::report;
+use crate::tally::Tally;
+use cents::Interval;
+use cents::KeyNumber;
+use cents::Pitch;
+use tables::ROW_WIDTH;
+use tables::Row;
+use tables::encode;
+use tuning::Amount;
+use tuning::Retuning;
+ghost use Prim.Native.Nat.{_≤_};
+
+// How many of each the sample has, and how many are allowed.
+const INTERVALS: usize = 1;
+
+const TONES: usize = 1;
+
+const SYSTEMS: usize = 2;
+
+const RETUNINGS: usize = 5;
+
+const LOGICS: usize = 1;
+
+const MOST_INTERVALS: usize = 256;
+
+const MOST_TONES: usize = 256;
+
+const MOST_SYSTEMS: usize = 32;
+
+const MOST_RETUNINGS: usize = 128;
+
+const MOST_LOGICS: usize = 32;
+
+// Where a row's bounds stand.
+const FROM: usize = 3;
+
+const TO: usize = 4;
+
+// Where the counts of rows and of tones stand.
+const ROW_COUNT: usize = 0;
+
+const TONE_COUNT: usize = 1;
+
+enum Kind {
+    Interval,
+    Tone,
+    System,
+    Retuning,
+    Logic,
+}
+
+// Stores the n-th row that is added: a tone system with a muted position of its own, a logic without orders.
+fn store_added(rows: &mut [i32], kind: Kind, n: usize)
+    requires { ⌜ n ≤ 256 ⌝ }
+{
+    let at = USED_ROWS + n;
+    let from = (POSITIONS + n) as u32;
+    match kind {
+        Kind::Interval => encode::store_row(rows, at, Row::Interval(Interval(0))),
+        Kind::Tone => encode::store_row(rows, at, Row::Tone(Pitch(0))),
+        Kind::System => {
+            let system = Row::System {
+                anchor: KeyNumber(60),
+                period: Interval(0),
+                from,
+                to: from + 1,
+            };
+            encode::store_row(rows, at, system)
+        }
+        Kind::Retuning => {
+            let retuning = Row::Retuning {
+                retuning: Retuning::Anchor(Amount::Kept),
+                from: 0,
+                to: 0,
+            };
+            encode::store_row(rows, at, retuning)
+        }
+        Kind::Logic => {
+            let logic = Row::Logic {
+                letter: b'Z',
+                start: 0,
+                from: USED_ORDERS as u32,
+                to: USED_ORDERS as u32,
+            };
+            encode::store_row(rows, at, logic)
+        }
+    }
+}
+
+fn store_more(rows: &mut [i32], kind: Kind, more: usize)
+    requires { ⌜ more ≤ 256 ⌝ }
+{
+    let mut n: usize = 0;
+    while n < more {
+        store_added(rows, kind, n);
+        n += 1;
+    }
+}
+
+// How many positions the added rows of a kind have.
+fn added_tones(kind: Kind, more: usize) -> usize
+    ensures { λ r. ⌜ r ≤ more ⌝ }
+{
+    match kind {
+        Kind::System => more,
+        _ => 0,
+    }
+}
+
+// The sample with so many rows more of a kind.
+fn with_rows(kind: Kind, more: usize) -> Lent
+    requires { ⌜ more ≤ 256 ⌝ }
+{
+    let t = Lent::sample();
+    let mut numbers = t.numbers;
+    store_more(&mut numbers, kind, more);
+    let codes = t.codes;
+    let sizes = t.sizes;
+    let rows = (USED_ROWS + more) as i32;
+    let tones = (POSITIONS + added_tones(kind, more)) as i32;
+    Lent {
+        numbers,
+        codes,
+        sizes,
+    }
+        .with_number(Table::Counts, ROW_COUNT, rows)
+        .with_number(Table::Counts, TONE_COUNT, tones)
+}
+
+// So many more are right, and one more than that is damage.
+fn report_kind(name: &[u8], kind: Kind, more: usize)
+    requires { ⌜ more ≤ 255 ⌝ }
+{
+    let tally = Tally::new()
+        .try_right(with_rows(kind, more))
+        .try_damaged(with_rows(kind, more + 1));
+    report(name, tally);
+}
+
+pub fn report_kinds() {
+    report_kind(
+        b"intervals, 256 and 257",
+        Kind::Interval,
+        MOST_INTERVALS - INTERVALS,
+    );
+    report_kind(b"tones, 256 and 257", Kind::Tone, MOST_TONES - TONES);
+    report_kind(
+        b"tone systems, 32 and 33",
+        Kind::System,
+        MOST_SYSTEMS - SYSTEMS,
+    );
+    report_kind(
+        b"retunings, 128 and 129",
+        Kind::Retuning,
+        MOST_RETUNINGS - RETUNINGS,
+    );
+    report_kind(b"logics, 32 and 33", Kind::Logic, MOST_LOGICS - LOGICS);
+}
+
+// A row whose part stands elsewhere.
+fn with_part(row: usize, from: usize, to: usize) -> Lent
+    requires { ⌜ (row ≤ 704) × (from ≤ 704) × (to ≤ 704) ⌝ }
+{
+    Lent::sample()
+        .with_number(Table::Rows, ROW_WIDTH * row + FROM, from as i32)
+        .with_number(Table::Rows, ROW_WIDTH * row + TO, to as i32)
+}
+
+// Positions that two rows share, positions between two rows that belong to none, and a last one that does.
+fn try_parts(row: usize) -> Tally
+    requires { ⌜ row ≤ 704 ⌝ }
+{
+    Tally::new()
+        .try_damaged(with_part(row, 1, POSITIONS - 1))
+        .try_damaged(with_part(row, 3, POSITIONS))
+        .try_damaged(with_part(row, 2, POSITIONS - 1))
+}
+
+// A second logic with the orders of the first.
+fn with_shared_orders() -> Lent {
+    let at = ROW_WIDTH * USED_ROWS;
+    with_rows(Kind::Logic, 1)
+        .with_number(Table::Rows, at + FROM, 0)
+        .with_number(Table::Rows, at + TO, USED_ORDERS as i32)
+}
+
+pub fn report_parts() {
+    report(
+        b"tone systems, positions shared or left over",
+        try_parts(LONG_SYSTEM),
+    );
+    report(
+        b"tones retunings, positions shared or left over",
+        try_parts(LONG_TONES),
+    );
+    let orders = Tally::new()
+        .try_damaged(with_shared_orders())
+        .try_damaged(with_part(LOGIC, 1, USED_ORDERS))
+        .try_damaged(with_part(LOGIC, 0, USED_ORDERS - 1));
+    report(b"logics, orders shared or left over", orders);
+}
