@@ -1,5 +1,6 @@
 -- The tables that a text is read into. Rows have one declaration each, in the order of the text; tones are those of tone systems, changes those of
 -- tones retunings, orders those of logics, each list in the order of the text, and a row says from where to where its own stand.
+use mathlib.Core.Path.{_≡_}
 use mathlib.Core.Bool.{Bool, cond, _&&_}
 use mathlib.Core.List.{List, [], _∷_, _++_}
 use Prim.Native.Nat.{ℕ, zero, suc, _+_, _-_, _*_}
@@ -94,7 +95,7 @@ kindsAt = soundingAt + mostTones
 abbrev pub ordersAt : ℕ
 ordersAt = kindsAt + mostChanges
 
--- an order is a row of two codes: its letter, and the number of the declaration that it calls
+-- an order is a row of two codes: its trigger (a letter, as its capital), and the number of the declaration that it calls
 abbrev pub orderWidth : ℕ
 orderWidth = 2
 
@@ -126,6 +127,19 @@ tablesIn numbers codes =
       calls = callsIn (drop ordersAt codes);
       counts = section 0 countsSize codes;
     }
+
+-- orders put together again from their letters and what they call
+unfoldable pub woven : List ℕ → List ℕ → List ℕ
+woven [] ks = []
+woven (c ∷ cs) [] = c ∷ []
+woven (c ∷ cs) (k ∷ ks) = c ∷ k ∷ woven cs ks
+
+-- so the slices come back from the tables, whatever their lengths: an equation of tables is one of all that is lent
+unfoldable pub NothingLeftOut : Type 0
+NothingLeftOut =
+    (numbers : List ℤ) (codes : List ℕ)
+    → let t = tablesIn numbers codes in
+    (t .rows ++ (t .tones ++ t .changes) ≡ numbers) × (t .counts ++ (t .sounding ++ (t .kinds ++ woven (t .letters) (t .calls))) ≡ codes)
 
 -- ---- how many rows, tones, changes and orders are used
 
