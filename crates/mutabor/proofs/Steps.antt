@@ -1,23 +1,18 @@
 -- The steps of reading a text: each step's result is a part of `reading`.
 -- Assumes nothing.
 use mathlib.Core.Path.{_≡_, refl, sym, _∙_, ap, subst}
-use mathlib.Core.Bool.{Bool, true, false, cond, not}
-use mathlib.Core.List.{List, [], _∷_}
-use Prim.Native.Nat.{ℕ, zero, suc, _+_, _*_, _≤_, _<_}
-use native.Mathlib.Omega.{arith}
-use lib.Dec.{eqb}
-use lib.IntN.{ℤ, pos}
-use lib.ListN.{length, getD, replicate, length-replicate}
-use Rattle.status.specs.Status.{done, textTooLong, dependsOnItself, valueOutOfRange}
+use mathlib.Core.Bool.{Bool, true, false, not}
+use mathlib.Core.List.{List}
+use Prim.Native.Nat.{ℕ, zero, suc, _*_}
+use lib.IntN.{pos}
+use lib.ListN.{length, replicate, length-replicate}
+use Rattle.status.specs.Status.{textTooLong}
 use Rattle.tables.specs.Layout.{Tables, fullSize, rowWidth, mostRows, mostTones, mostChanges, mostOrders, countsSize}
 use Rattle.tables.proofs.Sections.{same-tables}
-use Rattle.validity.proofs.Sizes.{Sizes, sizes-of}
-use Rattle.grammar.specs.Reading.{Read, readItems}
+use Rattle.validity.proofs.Sizes.{sizes-of}
+use Rattle.grammar.specs.Reading.{readItems}
 use Rattle.names.specs.Names.{Meant, meanings}
-use Rattle.program.specs.Program.{Program, programOf}
-use Rattle.program.specs.Meaning.{valued}
 use Rattle.program.specs.Text.{Verdict, refused, accepted, ifZero, byMeaning, readText}
-use Rattle.filling.specs.Tables.{tablesOf}
 use Rattle.filling.specs.Inner.{blank}
 use Rattle.mutabor.specs.declared.TextReading.{TextReading}
 use Rattle.mutabor.specs.Reading.{Left, zeroed, byVerdict, reading, Leaves}

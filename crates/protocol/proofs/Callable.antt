@@ -1,5 +1,5 @@
 -- What valid tables have for a call: all that the call reads; and a valid state stays valid. Assumes nothing.
-use mathlib.Core.Path.{_≡_, refl, ap, _∙_, subst}
+use mathlib.Core.Path.{_≡_, _∙_, subst}
 use mathlib.Core.Bool.{true}
 use mathlib.Core.List.{List, [], _∷_}
 use mathlib.Core.Option.{Option, some, none}
@@ -26,7 +26,7 @@ use Rattle.validity.proofs.Laws.{ValidRow, row-valid, fields-fit}
 use Rattle.protocol.specs.declared.Found.{Found}
 use Rattle.protocol.specs.declared.Found.the-variants.{Nothing, Row}
 use Rattle.protocol.specs.Letters.{actionBy, actionAt}
-use Rattle.protocol.specs.Answers.{byAction, callOn, Made, tuningFrom, madeFrom}
+use Rattle.protocol.specs.Answers.{byAction, callOn, tuningFrom}
 use Rattle.protocol.specs.Inner.{callsOf, CallableRow, Callable, CallableFound}
 use Rattle.protocol.proofs.Pressable.{Within}
 

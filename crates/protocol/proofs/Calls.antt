@@ -14,7 +14,7 @@ use Rattle.tables.proofs.Row as variants
 use Rattle.protocol.specs.declared.Found.{Found}
 use Rattle.protocol.specs.declared.Found.the-variants.{Nothing, Row}
 use Rattle.protocol.specs.Letters.{actionBy}
-use Rattle.protocol.specs.Answers.{byAction, callOn, tuningFrom, madeFrom, lastNumber}
+use Rattle.protocol.specs.Answers.{byAction, callOn, tuningFrom, madeFrom}
 use Rattle.protocol.specs.Inner.{CallableRow, Callable, CallsFound}
 
 -- the variants of a row that call nothing

@@ -1,16 +1,16 @@
 -- What valid tables have for a letter: all that the search for it reads; and what is called is one of the rows. Assumes nothing.
-use mathlib.Core.Path.{_≡_, refl, ap, _∙_, subst}
-use mathlib.Core.Bool.{true, _&&_}
+use mathlib.Core.Path.{_≡_, refl, _∙_, subst}
+use mathlib.Core.Bool.{true}
 use mathlib.Core.List.{List, [], _∷_}
 use mathlib.Core.Option.{Option, some, none, Option·none-ne-some}
 use Prim.Native.Nat.{ℕ, zero, suc, _<_}
 use native.Mathlib.Omega.{arith}
 use borrow.Author.Tests.{ltb-true}
-use lib.Dec.{ltb, leb}
+use lib.Dec.{ltb}
 use Rattle.tuning.proofs.Lists.{both}
 use Rattle.tables.specs.declared.Row.{Row as TableRow}
 use Rattle.tables.specs.declared.Row.the-variants.{Unused, Interval, Tone, System, Retuning, Logic}
-use Rattle.tables.specs.Layout.{Tables, rowCount, readAt, rowAt, logicForm}
+use Rattle.tables.specs.Layout.{Tables, rowCount, rowAt}
 use Rattle.validity.specs.Valid.{isLogic, validTables}
 use Rattle.validity.proofs.Laws.{valid-of, ValidRow, row-valid, fields-fit, order-valid}
 use Rattle.protocol.specs.declared.Active.{Active}

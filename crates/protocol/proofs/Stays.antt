@@ -1,23 +1,21 @@
 -- A right desk over valid tables stays right, whatever the stream: so 23 is never given after the start. Assumes nothing.
-use mathlib.Core.Path.{_≡_, refl, sym, ap, _∙_, subst}
+use mathlib.Core.Path.{_≡_, refl, sym, subst}
 use mathlib.Core.Bool.{true}
 use mathlib.Core.List.{List, [], _∷_}
 use mathlib.Core.Option.{Option, some, none}
 use Prim.Native.Nat.{ℕ, _<_}
 use native.Mathlib.Decide.{decLt}
 use native.Mathlib.Omega.{arith}
-use borrow.Author.Tests.{lt-ltb, eq-eqb, eqb-true}
-use lib.Dec.{eqb}
+use borrow.Author.Tests.{lt-ltb}
 use lib.ListN.{length}
 use Rattle.tuning.specs.Tuning.{start}
 use Rattle.tuning.specs.Desk.{cents}
 use Rattle.tuning.specs.State.{places}
-use Rattle.tuning.proofs.Lists.{both}
 use Rattle.tuning.proofs.Held.{length-coded}
 use Rattle.tuning.proofs.Laws.{start-valid, start-state-valid}
 use Rattle.tables.specs.declared.Row.{Row as TableRow}
 use Rattle.tables.specs.declared.Row.the-variants.{Unused, Interval, Tone, System, Retuning, Logic}
-use Rattle.tables.specs.Layout.{Tables, rowCount, readAt, rowAt, logicForm}
+use Rattle.tables.specs.Layout.{Tables, rowCount, rowAt}
 use Rattle.validity.specs.Valid.{validTables}
 use Rattle.frames.specs.Frames.{frameOf}
 use Rattle.frames.specs.declared.Frame.{Frame}
@@ -26,11 +24,10 @@ use Rattle.answers.specs.Answer.{smallestBuffer}
 use Rattle.protocol.specs.declared.Active.{Active}
 use Rattle.protocol.specs.declared.Active.the-variants as active
 use Rattle.protocol.specs.declared.Desk.{Desk}
-use Rattle.protocol.specs.Letters.{isLogicOf, callsBy, unlessUnbound, pressed}
+use Rattle.protocol.specs.Letters.{callsBy, unlessUnbound, pressed}
 use Rattle.protocol.specs.Answers.{startDesk, Outcome, letterOutcome, keyOutcome, frameOutcome, activeRight, validDesk, answerOf}
 use Rattle.protocol.specs.Inner.{Ready}
 use Rattle.protocol.specs.Streams.{Lent, deskAfter}
-use Rattle.protocol.proofs.Forms.{logic-by}
 use Rattle.protocol.proofs.Presses.{named}
 use Rattle.protocol.proofs.Pressable.{named-within, pressed-within}
 use Rattle.protocol.proofs.Callable.{Whole, tuning-valid}

@@ -1,14 +1,11 @@
 -- The ways through a frame. Assumes nothing.
 use mathlib.Core.Path.{_≡_, refl, sym, ap, _∙_, subst}
-use mathlib.Core.Bool.{Bool, true, false, cond, _&&_, and-true, and-false}
+use mathlib.Core.Bool.{Bool, true, false, cond, _&&_}
 use mathlib.Core.List.{List, [], _∷_}
 use Prim.Native.Nat.{ℕ, _≤_, _<_}
-use native.Mathlib.Decide.{decLt}
-use native.Mathlib.Omega.{arith}
-use borrow.Author.Tests.{lt-ltb, le-ltb, le-leb, lt-leb, leb-true, eqb-true, eqb-false}
+use borrow.Author.Tests.{lt-ltb, le-ltb, leb-true}
 use types.Run.{OneOf, miss}
 use denote.Enum.Declared.{tagOf}
-use lib.Dec.{eqb, leb}
 use lib.ListN.{length}
 use Rattle.status.specs.Status.{bufferTooSmall, letterUnbound, tableDamaged}
 use Rattle.tuning.specs.State.{held, heard, toneOf, validState}
@@ -29,7 +26,7 @@ use Rattle.protocol.specs.declared.Answered.{Answered}
 use Rattle.protocol.specs.declared.Told.{Told}
 use Rattle.protocol.specs.declared.letters.Press.{Press}
 use Rattle.protocol.specs.Letters.{Pressed, pressed}
-use Rattle.protocol.specs.Answers.{badOutcome, dumpOutcome, tuningFrom, madeFrom, lastNumber, Outcome, letterOutcome, soundAt, keyNumber, keyOutcome, frameOutcome}
+use Rattle.protocol.specs.Answers.{tuningFrom, madeFrom, lastNumber, Outcome, letterOutcome, soundAt, keyNumber, keyOutcome, frameOutcome}
 use Rattle.protocol.specs.Answers.{activeRight, validDesk, unchanged, answerOf, Gives}
 use Rattle.protocol.specs.Inner.{callsOf, pressedBy, Ready, toldOutcome, Tells}
 
@@ -89,21 +86,9 @@ module _ (t : Tables) (d : Desk) (frame : List ℕ) {f : Frame} (e : f ≡ frame
   on-frame : {g : Frame} → f ≡ g → frameOutcome t d g ≡ frameOutcome t d (frameOf frame)
   on-frame h = ap (frameOutcome t d) (sym h ∙ e)
 
-  pub on-bad : f ≡ Bad → badOutcome d ≡ frameOutcome t d (frameOf frame)
-  unfolding frameOutcome
-  on-bad h = on-frame h
-
   pub on-letter : (house letter : ℕ) → f ≡ Letter house letter → letterOutcome t d house letter ≡ frameOutcome t d (frameOf frame)
   unfolding frameOutcome
   on-letter house letter h = on-frame h
-
-  pub on-key : (house key : ℕ) → f ≡ Key house key → keyOutcome d house key ≡ frameOutcome t d (frameOf frame)
-  unfolding frameOutcome
-  on-key house key h = on-frame h
-
-  pub on-dump : (house : ℕ) → f ≡ Dump house → dumpOutcome d house ≡ frameOutcome t d (frameOf frame)
-  unfolding frameOutcome
-  on-dump house h = on-frame h
 
 -- ---- what a frame is told that is no letter
 

@@ -1,6 +1,6 @@
 -- One byte further in a stream: a byte that is held, and a line that is answered.
 use Prim.Native.Nat.{ℕ, _+_, _≤_, _<_}
-use mathlib.Core.Path.{_≡_, refl, sym, ap, _∙_, subst}
+use mathlib.Core.Path.{_≡_, refl, sym, ap, _∙_}
 use mathlib.Core.Bool.{true}
 use mathlib.Core.List.{List, [], _∷_, _++_, append-assoc, append-nil}
 use native.Mathlib.Numerals.{add-one}
@@ -15,7 +15,7 @@ use Rattle.hexadecimal.specs.Lines.{lineFeed}
 use Rattle.tuning.proofs.Lists.{both}
 use Rattle.frames.specs.Frames.{firstLetter, lastLetter, isHouse, isLetter, frameOf, inside, enough}
 use Rattle.frames.specs.declared.Frame.{Frame}
-use Rattle.frames.specs.declared.Frame.the-variants.{Bad, Letter, Key, Dump}
+use Rattle.frames.specs.declared.Frame.the-variants.{Letter}
 use Rattle.frames.proofs.Frame as variants
 use Rattle.answers.specs.Answer.{smallestBuffer}
 use Rattle.tables.specs.Layout.{Tables}

@@ -2,7 +2,6 @@
 use mathlib.Core.Path.{_≡_, refl, sym, ap, _∙_}
 use mathlib.Core.List.{List, [], _∷_, _++_}
 use Prim.Native.Nat.{ℕ, _+_}
-use lib.IntN.{ℤ}
 use lib.ListN.{drop, take-append-drop}
 use lib.Seq.{drop-drop}
 use Rattle.tables.specs.Layout.{section, column, lettersIn, callsIn, tablesIn, woven, NothingLeftOut, countsSize, mostTones, mostChanges, tonesAt, soundingAt, kindsAt, ordersAt}

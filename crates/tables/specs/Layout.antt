@@ -9,7 +9,6 @@ use lib.IntN.{ℤ, pos}
 use lib.ListN.{length, getD, take, drop, replicate}
 use lib.Seq.{slice}
 use Rattle.integers.specs.Parts.{up}
-use Rattle.tuning.specs.State.{places}
 use Rattle.tuning.specs.declared.Operator.the-variants.{Plus, Minus, Times, Divide}
 use Rattle.tuning.specs.declared.Amount.{Amount}
 use Rattle.tuning.specs.declared.Amount.the-variants.{Kept, Absolute, Relative}

@@ -1,7 +1,7 @@
 -- A state of which a loop has changed the first i places, and what the three loops over the places come to. Assumes nothing.
 use mathlib.Core.Path.{_≡_, refl, sym, ap, _∙_, fun-ext}
 use mathlib.Core.Bool.{true}
-use mathlib.Core.List.{List, [], _∷_, _++_, map, map-append}
+use mathlib.Core.List.{List, [], _∷_, _++_, map}
 use Prim.Native.Nat.{ℕ, zero, suc, _+_, _-_, min, _≤_, _<_}
 use native.Mathlib.Nat.{add-zero, sub-zero, suc-sub-suc}
 use native.Mathlib.Numerals.{add-one}
@@ -14,13 +14,13 @@ use Rattle.tuning.specs.declared.ToneChange.the-variants.{Mute}
 use Rattle.tuning.specs.declared.State.{State}
 use Rattle.tuning.specs.declared.ToneChanges.{ToneChanges}
 use Rattle.tuning.specs.Scale.{Sound, muted, sounds}
-use Rattle.tuning.specs.Tuning.{Tuning, PositionTo, raised, soundOf, keysFrom, newTone, newTones, Action, tonesTo, anchoredBy, widenedBy, done}
+use Rattle.tuning.specs.Tuning.{Tuning, PositionTo, raised, soundOf, keysFrom, newTone, newTones, tonesTo, anchoredBy, widenedBy, done}
 use Rattle.tuning.specs.Desk.{cents}
 use Rattle.tuning.specs.State.{places, heardAt, positionOf, toneMeant, tonesMeant, held, coded, validState}
 use Rattle.tuning.specs.Inner.{modestChange, eachModest}
 use Rattle.tuning.proofs.Lists.{both}
 use Rattle.tuning.proofs.Valid.{none}
-use Rattle.tuning.proofs.Part.{part, part-none, part-get, part-set, part-all}
+use Rattle.tuning.proofs.Part.{part, part-none, part-get, part-set}
 use Rattle.tuning.proofs.Held.{unused, heard-tone, held-width, places-held, valid-held}
 
 abbrev pub withPlaces : State → List Position → State

@@ -1,5 +1,5 @@
 -- The invariant: the declarations in front of the present one are written (`Filling`). The measure is the declarations that are left.
-use Prim.Native.Nat.{ℕ, _-_}
+use Prim.Native.Nat.{_-_}
 use mathlib.Core.Path.{sym, _∙_, ap}
 use native.Mathlib.Omega.{arith}
 use borrow.Rule.Slice.PartMut.{same-len-mid}

@@ -1,7 +1,6 @@
 -- Cleared slices are cleared tables.
 use mathlib.Core.Path.{_∙_, ap}
 use mathlib.Core.List.{List}
-use Prim.Native.Nat.{ℕ}
 use lib.IntN.{ℤ, pos}
 use lib.ListN.{length, replicate}
 use Rattle.tables.specs.Layout.{tablesIn}

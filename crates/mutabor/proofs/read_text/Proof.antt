@@ -1,5 +1,5 @@
 -- The tables are cleared; the text is refused where a slice is not of full size, else its symbols are read.
-use mathlib.Core.Path.{refl, _∙_}
+use mathlib.Core.Path.{refl}
 use Rattle.mutabor.proofs.Steps.{too-small, large-enough, now-blank, goes-on}
 use borrow.Author.Needs.{needs}
 use Rattle.mutabor.proofs.read_text.Statement.{statement}

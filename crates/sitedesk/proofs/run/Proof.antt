@@ -1,5 +1,5 @@
 -- `sitedesk::run` is safe and ends: the line of a refusal lies within its buffer, and what an accepted text gives is right. Assumes nothing.
-use mathlib.Core.Path.{_≡_, sym}
+use mathlib.Core.Path.{sym}
 use Prim.Native.Nat.{_≤_}
 use native.Mathlib.Omega.{arith}
 use lib.IntN.{pos}

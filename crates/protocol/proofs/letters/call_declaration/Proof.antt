@@ -1,5 +1,5 @@
 -- `protocol::letters::call_declaration` meets its contract, by the declaration's row. Assumes nothing.
-use mathlib.Core.Path.{_≡_, sym, ap, _∙_, subst}
+use mathlib.Core.Path.{sym, ap, _∙_, subst}
 use mathlib.Core.List.{List}
 use lib.IntN.{ℤ}
 use Rattle.tuning.specs.Tuning.{Tuning, system}

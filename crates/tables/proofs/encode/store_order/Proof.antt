@@ -1,12 +1,9 @@
 -- `tables::encode::store_order` meets its contract: its two codes stand side by side. Assumes nothing.
-use mathlib.Core.Path.{_≡_, sym, ap, _∙_}
-use mathlib.Core.List.{List}
-use Prim.Native.Nat.{ℕ, _+_, _*_}
+use mathlib.Core.Path.{sym}
 use native.Mathlib.Omega.{arith}
 use borrow.Author.Needs.{needs}
-use lib.ListN.{length, set}
 use lib.Seq.{set-out}
-use Rattle.tables.specs.Layout.{orderWidth, lettersIn, callsIn}
+use Rattle.tables.specs.Layout.{lettersIn, callsIn}
 use Rattle.tables.proofs.Columns.{columns-length, order-stored}
 use Rattle.tables.proofs.encode.store_order.Statement.{statement}
 use Rattle.tables.proofs.encode.store_order.Tie as tie
