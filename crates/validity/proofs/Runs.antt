@@ -1,13 +1,12 @@
 -- The tests of lists as the loops make them: one turn further, and at the end. Assumes nothing.
 use mathlib.Core.Path.{_≡_, refl, sym, ap, _∙_}
-use mathlib.Core.Bool.{Bool, true, false, cond, not, _&&_, _||_, and-true, and-false, and-assoc, true≢false, false≢true}
+use mathlib.Core.Bool.{Bool, true, false, not, _&&_, _||_, and-true, and-false, and-assoc, true≢false, false≢true}
 use mathlib.Core.List.{List, [], _∷_, _++_}
 use mathlib.Core.Logic.{_≢_}
-use Prim.Native.Nat.{ℕ, zero, suc, _+_, _-_, _*_, _≤_, _<_}
+use Prim.Native.Nat.{ℕ, zero, suc, _+_, _-_, _≤_, _<_}
 use native.Mathlib.Nat.{add-zero}
 use native.Mathlib.Numerals.{add-one}
 use native.Mathlib.Omega.{arith}
-use borrow.Author.Needs.{needs}
 use borrow.Author.Tests.{leb-true, leb-false, le-leb, lt-leb, ne-eqb}
 use lib.Dec.{leb, eqb}
 use lib.IntN.{ℤ, pos, negsuc, natAbs, _-ℤ_}
@@ -20,11 +19,11 @@ use Rattle.tuning.specs.Desk.{between, isTone}
 use Rattle.tuning.proofs.Lists.{every, both}
 use Rattle.tables.specs.declared.Counts.{Counts}
 use Rattle.tables.specs.declared.Numbers.{Numbers}
-use Rattle.tables.specs.Layout.{rowWidth, numbers, readAt, intervalForm, toneForm, systemForm, anchorForm, tonesForm, logicForm}
+use Rattle.tables.specs.Layout.{numbers, readAt, intervalForm, toneForm, systemForm, anchorForm, widthForm, periodForm, tonesForm, logicForm}
 use Rattle.validity.specs.declared.Kinds.{Kinds}
 use Rattle.validity.specs.declared.Ends.{Ends}
 use Rattle.validity.specs.Valid.{noPart, kinds, kindsRight, endsRight, allZero, allNought}
-use Rattle.validity.specs.Inner.{isZero, isLetterCode, isForm, fastRow, hasNaturals, kindsWith, endsWith, Counted, fastRows, fastOrders, fastEach}
+use Rattle.validity.specs.Inner.{isZero, isLetterCode, isForm, fastRow, hasNaturals, kindsWith, others, kindsAmong, endsWith, fastRows, fastOrders, fastEach}
 
 -- ---- zeros, as a test of every element
 
@@ -43,7 +42,7 @@ nought-each (k ∷ l) = ap (λ (b : Bool). isNought k && b) (nought-each l)
 
 -- a run is tested a block of so many at a time, and each block by a loop
 abbrev pub blockSize : ℕ
-blockSize = 128
+blockSize = 256
 
 -- `all` is the test of every element
 module _ {A : Type 0} (p : A → Bool) (all : List A → Bool) (each : (l : List A) → all l ≡ every p l) (l : List A) where
@@ -105,6 +104,35 @@ pub natural-is : (z : ℤ) → leZ (pos 0) z ≡ true → natAbs z ≡ up z
 natural-is (pos n) h = refl
 natural-is (negsuc n) h = absurd (false≢true h)
 
+-- a form from `low` on, as the code tests it: no negative number is one
+pub form-between : (low high : ℕ) (z : ℤ) → 1 ≤ low → between (pos low) (pos high) z ≡ leb low (up z) && leb (up z) high
+form-between low high (pos n) h = refl
+form-between low high (negsuc n) h = rw (lt-leb low 0 h)
+
+-- the forms of intervals and tones
+value-forms : (P : ℤ → Type 0) → P (pos intervalForm) → P (pos toneForm) → (f : ℤ) → between (pos intervalForm) (pos toneForm) f ≡ true → P f
+value-forms P x y (negsuc k) h = absurd (false≢true h)
+value-forms P x y (pos zero) h = absurd (false≢true h)
+value-forms P x y (pos (suc zero)) h = x
+value-forms P x y (pos (suc (suc zero))) h = y
+value-forms P x y (pos (suc (suc (suc k)))) h =
+    let e : ⊥ = omega (arith, leb-true (suc (suc (suc k))) toneForm (both (leb intervalForm (suc (suc (suc k)))) (leb (suc (suc (suc k))) toneForm) h .1)) in
+    absurd e
+
+-- and those of other rows
+other-forms : (P : ℕ → Type 0) → P systemForm → P anchorForm → P widthForm → P periodForm → P tonesForm → P logicForm
+    → (f : ℕ) → systemForm ≤ f → f ≤ logicForm → P f
+other-forms P s a w p t l zero g h = absurd (omega arith)
+other-forms P s a w p t l (suc zero) g h = absurd (omega arith)
+other-forms P s a w p t l (suc (suc zero)) g h = absurd (omega arith)
+other-forms P s a w p t l (suc (suc (suc zero))) g h = s
+other-forms P s a w p t l (suc (suc (suc (suc zero)))) g h = a
+other-forms P s a w p t l (suc (suc (suc (suc (suc zero))))) g h = w
+other-forms P s a w p t l (suc (suc (suc (suc (suc (suc zero)))))) g h = p
+other-forms P s a w p t l (suc (suc (suc (suc (suc (suc (suc zero))))))) g h = t
+other-forms P s a w p t l (suc (suc (suc (suc (suc (suc (suc (suc zero)))))))) g h = l
+other-forms P s a w p t l (suc (suc (suc (suc (suc (suc (suc (suc (suc k))))))))) g h = absurd (omega arith)
+
 pub other-form : (f : ℤ) → leZ (pos 0) f ≡ true → between (pos intervalForm) (pos toneForm) f ≡ false → (natAbs f ≢ intervalForm) × (natAbs f ≢ toneForm)
 other-form (pos n) h k = (λ e. true≢false (ap sounding (sym e) ∙ k), λ e. true≢false (ap sounding (sym e) ∙ k))
   where
@@ -121,13 +149,38 @@ module _ (rows : List ℤ) (count : ℕ) (e : Ends) where
   pub sounding-right : (f a b m n : ℤ) → between (pos intervalForm) (pos toneForm) f ≡ true
       → isTone a && isZero b && isZero m && isZero n ≡ (leZ (pos 0) f && leZ (pos 0) m && leZ (pos 0) n) && fastRow rows count e (numbers (up f) a b (up m) (up n))
   unfolding fastRow
-  sounding-right (negsuc k) a b m n h = absurd (false≢true h)
-  sounding-right (pos zero) a b m n h = absurd (false≢true h)
-  sounding-right (pos (suc zero)) a b m n h = zero-bounds (isTone a && isZero b) m n
-  sounding-right (pos (suc (suc zero))) a b m n h = zero-bounds (isTone a && isZero b) m n
-  sounding-right (pos (suc (suc (suc k)))) a b m n h =
-      let e : ⊥ = omega (arith, leb-true (suc (suc (suc k))) toneForm (both (leb intervalForm (suc (suc (suc k)))) (leb (suc (suc (suc k))) toneForm) h .1)) in
-      absurd e
+  sounding-right f a b m n h =
+      value-forms (λ (z : ℤ).
+      isTone a && isZero b && isZero m && isZero n ≡ (leZ (pos 0) z && leZ (pos 0) m && leZ (pos 0) n) && fastRow rows count e (numbers (up z) a b (up m) (up n)))
+      (zero-bounds (isTone a && isZero b) m n) (zero-bounds (isTone a && isZero b) m n) f h
+
+  -- nothing belongs to them
+  pub value-ends : (f : ℤ) (to : ℕ) → between (pos intervalForm) (pos toneForm) f ≡ true → e ≡ endsWith e (up f) to
+  unfolding endsWith
+  value-ends f to h = value-forms (λ (z : ℤ). e ≡ endsWith e (up z) to) refl refl f h
+
+  -- no row is right whose form there is not
+  form-above : (n : Numbers) → logicForm < n .form → fastRow rows count e n ≡ false
+  unfolding fastRow
+  form-above n h =
+      simp (
+        ne-eqb (n .form) intervalForm (omega arith),
+        ne-eqb (n .form) toneForm (omega arith),
+        ne-eqb (n .form) systemForm (omega arith),
+        ne-eqb (n .form) anchorForm (omega arith),
+        ne-eqb (n .form) widthForm (omega arith),
+        ne-eqb (n .form) periodForm (omega arith),
+        ne-eqb (n .form) tonesForm (omega arith),
+        ne-eqb (n .form) logicForm (omega arith),
+      )
+
+  pub form-known : (n : Numbers) → fastRow rows count e n ≡ true → n .form ≢ intervalForm → n .form ≢ toneForm
+      → (systemForm ≤ n .form) × (n .form ≤ logicForm)
+  unfolding fastRow
+  form-known n h x y =
+      let above : logicForm < n .form → ⊥ = λ z. false≢true (sym (form-above n z) ∙ h) in
+      let some : n .form ≢ 0 = λ z. false≢true (form-right n 0 z ∙ h) in
+      (omega arith, omega arith)
 
 -- counts by kind, of a form that is none, a retuning's, or none that there is
 module _ (k : Kinds) (f : ℕ) where
@@ -159,21 +212,36 @@ module _ (k : Kinds) (f : ℕ) where
         lt-leb f tonesForm (omega arith),
       )
 
-pub counted-none : Counted (kinds 0 0 0 0 0) 0
-counted-none = search needs
+-- the kinds x of one row more than i, of which k are no intervals
+pub record Turned (i : ℕ) (x k : Kinds) : Type 0 where
+  pub few : others k ≤ i + 1
+  pub same : kindsAmong k (i + 1) ≡ x
 
--- no more is counted with one row more
-pub counted-with : (k : Kinds) (f i : ℕ) → Counted k i → Counted (kindsWith k f) (i + 1)
-unfolding kindsWith
-counted-with k f i h =
-    picked (eqb f intervalForm) (search needs)
-    (picked (eqb f toneForm) (search needs)
-    (picked (eqb f systemForm) (search needs)
-    (picked (eqb f logicForm) (search needs) (picked (leb anchorForm f && leb f tonesForm) (search needs) (search needs)))))
-  where
-    picked : (b : Bool) {x y : Kinds} → Counted x (i + 1) → Counted y (i + 1) → Counted (cond b x y) (i + 1)
-    picked true g h = g
-    picked false g h = h
+module _ (k : Kinds) (i : ℕ) (few : others k ≤ i) where
+  pub value-turned : (f : ℤ) → between (pos intervalForm) (pos toneForm) f ≡ true
+      → Turned i (kindsWith (kindsAmong k i) (up f)) (kinds (k .intervals) (k .tones + (up f - intervalForm)) (k .systems) (k .retunings) (k .logics))
+  unfolding kindsWith
+  value-turned =
+      value-forms (λ (f : ℤ).
+      Turned i (kindsWith (kindsAmong k i) (up f)) (kinds (k .intervals) (k .tones + (up f - intervalForm)) (k .systems) (k .retunings) (k .logics)))
+      (let s : i + 1 - (k .tones + 0 + k .systems + k .retunings + k .logics) ≡ suc (i - others k) = omega arith in
+      record { few = omega arith; same = rw (s, add-zero (k .tones)) })
+      (let s : i + 1 - (k .tones + 1 + k .systems + k .retunings + k .logics) ≡ i - others k = omega arith in
+      record { few = omega arith; same = rw (s, add-one (k .tones)) })
+
+  pub other-turned : (f : ℕ) → systemForm ≤ f → f ≤ logicForm → Turned i (kindsWith (kindsAmong k i) f) (kindsWith k f)
+  unfolding kindsWith
+  other-turned =
+      other-forms (λ (f : ℕ). Turned i (kindsWith (kindsAmong k i) f) (kindsWith k f))
+      (let s : i + 1 - (k .tones + suc (k .systems) + k .retunings + k .logics) ≡ i - others k = omega arith in record { few = omega arith; same = rw s })
+      retuned
+      retuned
+      retuned
+      retuned
+      (let s : i + 1 - (k .tones + k .systems + k .retunings + suc (k .logics)) ≡ i - others k = omega arith in record { few = omega arith; same = rw s })
+    where
+      retuned : Turned i (kindsWith (kindsAmong k i) anchorForm) (kindsWith k anchorForm)
+      retuned = let s : i + 1 - (k .tones + k .systems + suc (k .retunings) + k .logics) ≡ i - others k = omega arith in record { few = omega arith; same = rw s }
 
 module _ (rows : List ℤ) (c : Counts) (k : Kinds) (e : Ends) (i n : ℕ) where
   abbrev rowIs : Bool
@@ -185,16 +253,14 @@ module _ (rows : List ℤ) (c : Counts) (k : Kinds) (e : Ends) (i n : ℕ) where
       let s : n - i ≡ suc (n - (i + 1)) = omega arith in
       rw (s, q)
 
-  -- the row's form and where its own end, as the code reads them, give the next kinds and ends
-  pub rows-turn : {f to : ℕ} {k′ : Kinds} {e′ : Ends} → i < n → rowIs ≡ true → f ≡ up (getD rows (rowWidth * i) (pos 0)) → to ≡ readAt rows i .to
-      → k′ ≡ kindsWith k f → e′ ≡ endsWith e f to → fastRows rows c k′ e′ (i + 1) (n - (i + 1)) ≡ fastRows rows c k e i (n - i)
+  -- the kinds and ends after the row are those of the next one
+  pub rows-turn : {k′ : Kinds} {e′ : Ends} → i < n → rowIs ≡ true → Turned i (kindsWith (kindsAmong k i) (readAt rows i .form)) k′
+      → e′ ≡ endsWith e (readAt rows i .form) (readAt rows i .to)
+      → fastRows rows c (kindsAmong k′ (i + 1)) e′ (i + 1) (n - (i + 1)) ≡ fastRows rows c (kindsAmong k i) e i (n - i)
   unfolding fastRows
-  rows-turn {f} {to} {k′} {e′} h q ef et ek ee =
+  rows-turn h q t ee =
       let s : n - i ≡ suc (n - (i + 1)) = omega arith in
-      let form : f ≡ readAt rows i .form = ef ∙ ap (λ (x : ℕ). up (getD rows x (pos 0))) (sym (add-zero (rowWidth * i))) in
-      let kinds′ : k′ ≡ kindsWith k (readAt rows i .form) = ek ∙ ap (kindsWith k) form in
-      let ends′ : e′ ≡ endsWith e (readAt rows i .form) (readAt rows i .to) = ee ∙ rw (form, et) in
-      rw (s, add-one i, q, kinds′, ends′)
+      rw (s, t .same, add-one i, q, ee)
 
   pub rows-end : n ≤ i → fastRows rows c k e i (n - i) ≡ kindsRight k && endsRight c e
   unfolding fastRows

@@ -3,7 +3,7 @@
 use mathlib.Core.Path.{_≡_}
 use mathlib.Core.Bool.{Bool, true, false, cond, not, _&&_, _||_}
 use mathlib.Core.List.{List, [], _∷_}
-use Prim.Native.Nat.{ℕ, zero, suc, _-_, _*_, _≤_}
+use Prim.Native.Nat.{ℕ, zero, suc, _+_, _-_, _*_}
 use lib.Dec.{leb, ltb, eqb}
 use lib.IntN.{ℤ, pos}
 use lib.Signed.{leZ}
@@ -68,6 +68,14 @@ fastRow rows count e r =
 abbrev pub hasNaturals : List ℤ → ℕ → Bool
 hasNaturals rows i = leZ (pos 0) (numberAt rows i 0) && leZ (pos 0) (numberAt rows i 3) && leZ (pos 0) (numberAt rows i 4)
 
+-- row i is an interval or a tone
+abbrev pub isValue : List ℤ → ℕ → Bool
+isValue rows i = between (pos intervalForm) (pos toneForm) (numberAt rows i 0)
+
+-- and its other numbers are those of one
+abbrev pub valueRight : List ℤ → ℕ → Bool
+valueRight rows i = isTone (numberAt rows i 1) && isZero (numberAt rows i 2) && isZero (numberAt rows i 3) && isZero (numberAt rows i 4)
+
 -- one more of a form
 unfoldable pub kindsWith : Kinds → ℕ → Kinds
 kindsWith k form =
@@ -77,20 +85,20 @@ kindsWith k form =
     (cond (eqb form logicForm) (kinds (k .intervals) (k .tones) (k .systems) (k .retunings) (suc (k .logics)))
     (cond (leb anchorForm form && leb form tonesForm) (kinds (k .intervals) (k .tones) (k .systems) (suc (k .retunings)) (k .logics)) k))))
 
+-- how many rows are no intervals
+abbrev pub others : Kinds → ℕ
+others k = k .tones + k .systems + k .retunings + k .logics
+
+-- the kinds of n rows, of which these are no intervals
+abbrev pub kindsAmong : Kinds → ℕ → Kinds
+kindsAmong k n = kinds (n - others k) (k .tones) (k .systems) (k .retunings) (k .logics)
+
 -- where a row's own end
 unfoldable pub endsWith : Ends → ℕ → ℕ → Ends
 endsWith e form to =
     cond (eqb form systemForm) (ends to (e .changes) (e .orders))
     (cond (eqb form tonesForm) (ends (e .tones) to (e .orders))
     (cond (eqb form logicForm) (ends (e .tones) (e .changes) to) e))
-
--- so many rows were counted
-pub record Counted (k : Kinds) (n : ℕ) : Type 0 where
-  pub intervals : k .intervals ≤ n
-  pub tones : k .tones ≤ n
-  pub systems : k .systems ≤ n
-  pub retunings : k .retunings ≤ n
-  pub logics : k .logics ≤ n
 
 -- n rows from row i on, after rows of the kinds k that end at e
 unfoldable pub fastRows : List ℤ → Counts → Kinds → Ends → ℕ → ℕ → Bool

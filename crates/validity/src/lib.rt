@@ -30,20 +30,19 @@ use tables::TONES;
 use tables::TONES_AT;
 use tables::TONES_FORM;
 use tables::WIDTH_FORM;
-use tables::decode;
 use tables::has_full_size;
 use tuning::PLACES;
 ghost use mathlib.Core.Path.{_≡_};
-ghost use mathlib.Core.Bool.{_&&_};
+ghost use mathlib.Core.Bool.{false, _&&_};
 ghost use mathlib.Core.Logic.{_≢_};
-ghost use Prim.Native.Nat.{_+_, _*_, _≤_};
+ghost use Prim.Native.Nat.{_+_, _*_, _≤_, _<_};
 ghost use lib.ListN.{length, drop, take};
 ghost use lib.Seq.{slice};
 ghost use Rattle.tuning.specs.Desk.{between, isTone};
-ghost use Rattle.tables.specs.Layout.{tablesIn, lettersIn, callsIn, mostRows, rowWidth, orderWidth, readAt, intervalForm, toneForm, divideCode, soundsCode, setCode};
+ghost use Rattle.tables.specs.Layout.{tablesIn, lettersIn, callsIn, mostRows, rowWidth, orderWidth, readAt, intervalForm, toneForm, logicForm, divideCode, soundsCode, setCode};
 ghost use Rattle.tables.specs.Values.{Slices};
 ghost use Rattle.validity.specs.Valid.{countsRight, isSum, noPart, kinds, kindsRight, ends, endsRight, allZero, allNought, validTables};
-ghost use Rattle.validity.specs.Inner.{isZero, isAmount, isPartAt, isForm, isStartCode, fastRow, hasNaturals, kindsWith, endsWith, Counted, fastRows, fastOrders, fastEach, fastList};
+ghost use Rattle.validity.specs.Inner.{isZero, isAmount, isPartAt, isForm, isStartCode, fastRow, hasNaturals, isValue, valueRight, kindsWith, others, kindsAmong, endsWith, fastRows, fastOrders, fastEach, fastList};
 
 const FARTHEST_TONE: i32 = 100_000_000;
 
@@ -66,7 +65,7 @@ const MOST_RETUNINGS: u32 = 128;
 const MOST_LOGICS: u32 = 32;
 
 // So many zeros are tested before there is a way out.
-const BLOCK: usize = 128;
+const BLOCK: usize = 256;
 
 const LETTER_A: u16 = 65;
 
@@ -94,19 +93,26 @@ impl Kinds {
         }
     }
 
-    // With one more row of this form.
+    // With one more row of this form, which is no interval and no tone.
     fn with(mut self, form: u32) -> Kinds
-        requires { ⌜ Counted self mostRows ⌝ }
+        requires { ⌜ (form ≢ intervalForm) × (form ≢ toneForm) × (others self ≤ mostRows) ⌝ }
         ensures { λ r. ⌜ r ≡ kindsWith self form ⌝ }
     {
         match form {
-            INTERVAL_FORM => self.intervals += 1,
-            TONE_FORM => self.tones += 1,
             SYSTEM_FORM => self.systems += 1,
             ANCHOR_FORM | WIDTH_FORM | PERIOD_FORM | TONES_FORM => self.retunings += 1,
             LOGIC_FORM => self.logics += 1,
             _ => {}
         }
+        self
+    }
+
+    // With the intervals: what the others leave of so many rows.
+    fn among(mut self, rows: u32) -> Kinds
+        requires { ⌜ others self ≤ rows ⌝ }
+        ensures { λ r. ⌜ r ≡ kindsAmong self rows ⌝ }
+    {
+        self.intervals = rows - self.tones - self.systems - self.retunings - self.logics;
         self
     }
 
@@ -208,14 +214,18 @@ fn is_nothing(from: u32, to: u32) -> bool
 
 // Whether declaration i is one of the first `count` rows, and has a form from `low` to `high`.
 fn is_form(rows: &[i32], count: u32, low: u32, high: u32, i: u32) -> bool
+    requires { ⌜ (rowWidth * count ≤ length (now rows)) × (1 ≤ low) × (low ≤ high) × (high ≤ logicForm) ⌝ }
     ensures { λ r. ⌜ r ≡ isForm (now (rows .entry)) count low high i ⌝ }
 {
-    let form = decode::natural(decode::number_at(rows, ROW_WIDTH * i as usize));
-    (i < count) & (low <= form) & (form <= high)
+    if count <= i {
+        return false;
+    }
+    is_between(low as i32, high as i32, rows[ROW_WIDTH * i as usize])
 }
 
 // No start, or a tone system or retuning.
 fn is_start(rows: &[i32], count: u32, start: i32) -> bool
+    requires { ⌜ rowWidth * count ≤ length (now rows) ⌝ }
     ensures { λ r. ⌜ r ≡ isStartCode (now (rows .entry)) count start ⌝ }
 {
     if start <= 0 {
@@ -226,7 +236,7 @@ fn is_start(rows: &[i32], count: u32, start: i32) -> bool
 
 // A row that is no interval and no tone.
 fn is_other_row(rows: &[i32], count: u32, ends: Ends, n: Numbers) -> bool
-    requires { ⌜ (n .form ≢ intervalForm) × (n .form ≢ toneForm) ⌝ }
+    requires { ⌜ (n .form ≢ intervalForm) × (n .form ≢ toneForm) × (rowWidth * count ≤ length (now rows)) ⌝ }
     ensures { λ r. ⌜ r ≡ fastRow (now (rows .entry)) count ends n ⌝ }
 {
     let form = n.form;
@@ -257,20 +267,24 @@ fn is_other_row(rows: &[i32], count: u32, ends: Ends, n: Numbers) -> bool
     }
 }
 
-// Whether row i is right, after rows that end at `ends`. Most rows are intervals and tones, so these are tested first.
-fn is_row(rows: &[i32], count: u32, ends: Ends, i: usize) -> bool
+// Whether row i, an interval or a tone, is right.
+fn is_value(rows: &[i32], i: usize) -> bool
     requires { ⌜ rowWidth * i + rowWidth ≤ length (now rows) ⌝ }
+    ensures { λ r. ⌜ r ≡ valueRight (now (rows .entry)) i ⌝ }
+{
+    let at = ROW_WIDTH * i;
+    is_tone(rows[at + 1]) & is_zero(rows[at + 2]) & is_zero(rows[at + 3]) & is_zero(rows[at + 4])
+}
+
+// Whether row i, of any other form, is right, after rows that end at `ends`.
+fn is_other(rows: &[i32], count: u32, ends: Ends, i: usize) -> bool
+    requires { ⌜ (i < count) × (rowWidth * count ≤ length (now rows)) × (isValue (now rows) i ≡ false) ⌝ }
     ensures { λ r. ⌜ r ≡ hasNaturals (now (rows .entry)) i && fastRow (now (rows .entry)) count ends (readAt (now (rows .entry)) i) ⌝ }
 {
     let at = ROW_WIDTH * i;
     let form = rows[at];
-    let first = rows[at + 1];
-    let second = rows[at + 2];
     let from = rows[at + 3];
     let to = rows[at + 4];
-    if is_between(INTERVAL_FORM as i32, TONE_FORM as i32, form) {
-        return is_tone(first) & is_zero(second) & is_zero(from) & is_zero(to);
-    }
     let natural = (0 <= form) & (0 <= from) & (0 <= to);
     if !natural {
         return false;
@@ -281,8 +295,8 @@ fn is_row(rows: &[i32], count: u32, ends: Ends, i: usize) -> bool
         ends,
         Numbers {
             form: form as u32,
-            first,
-            second,
+            first: rows[at + 1],
+            second: rows[at + 2],
             from: from as u32,
             to: to as u32,
         },
@@ -290,6 +304,7 @@ fn is_row(rows: &[i32], count: u32, ends: Ends, i: usize) -> bool
 }
 
 // Whether the used rows are right, no more of a kind than allowed, and what belongs to them follows one another up to the counts.
+// Most rows are intervals and tones, so these are told apart first, and intervals are not counted.
 fn are_rows(rows: &[i32], used: Counts) -> bool
     requires { ⌜ (rowWidth * used .rows ≤ length (now rows)) × (used .rows ≤ mostRows) ⌝ }
     ensures { λ r. ⌜ r ≡ fastRows (now (rows .entry)) used (kinds 0 0 0 0 0) (ends 0 0 0) 0 (used .rows) ⌝ }
@@ -299,16 +314,23 @@ fn are_rows(rows: &[i32], used: Counts) -> bool
     let mut ends = Ends::none();
     let mut i: usize = 0;
     while i < end {
-        if !is_row(rows, used.rows, ends, i) {
-            return false;
-        }
         let at = ROW_WIDTH * i;
-        let form = decode::natural(rows[at]);
-        kinds = kinds.with(form);
-        ends = ends.with(form, decode::natural(rows[at + 4]));
+        let form = rows[at];
+        if is_between(INTERVAL_FORM as i32, TONE_FORM as i32, form) {
+            if !is_value(rows, i) {
+                return false;
+            }
+            kinds.tones += form as u32 - INTERVAL_FORM;
+        } else {
+            if !is_other(rows, used.rows, ends, i) {
+                return false;
+            }
+            kinds = kinds.with(form as u32);
+            ends = ends.with(form as u32, rows[at + 4] as u32);
+        }
         i += 1;
     }
-    kinds.are_few() & ends.are(used)
+    kinds.among(used.rows).are_few() & ends.are(used)
 }
 
 // Whether the first `used` have a kind up to `last` and a number in its range, 0 where the kind is 0.
@@ -420,7 +442,7 @@ fn are_changes(kinds: &[u16], changes: &[i32], used: usize) -> bool
 
 // Whether the used orders are right.
 fn are_orders(rows: &[i32], orders: &[u16], used: Counts) -> bool
-    requires { ⌜ orderWidth * used .orders ≤ length (now orders) ⌝ }
+    requires { ⌜ (orderWidth * used .orders ≤ length (now orders)) × (rowWidth * used .rows ≤ length (now rows)) ⌝ }
     ensures { λ r. ⌜ r ≡ fastOrders (now (rows .entry)) (used .rows) (lettersIn (now (orders .entry))) (callsIn (now (orders .entry))) 0 (used .orders) ⌝ }
 {
     let end = used.orders as usize;

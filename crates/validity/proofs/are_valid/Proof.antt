@@ -109,8 +109,10 @@ are-changes-requires c κs = let room = room-of (c .before .before .before .befo
     (omega (arith, room .changes, c .before .before .are-changes-arg .given), omega (arith, room .changes, c .before .are-changes-arg2 .given))
 
 are-orders-requires : tie.Need-are-orders-requires
-are-orders-requires c κs = let room = room-of (c .before .before .before .before .before .before .before .before .before .before .before .before .before .before .before .read .result) (sym (c .before .before .before .before .before .before .before .before .before .before .before .before .before .before .are-counts .ensures) ∙ not-false _ (c .before .before .before .before .before .before .before .before .before .before .before .before .before .if1 .left)) in
-    omega (arith, room .orders, c .before .before .before .before .before .before .before .before .before .before .before .orders .given)
+are-orders-requires c κs = let room = room-of (c .before .before .before .before .before .before .before .before .before .before .before .before .before .before .before .read .result) (sym (c .before .before .before .before .before .before .before .before .before .before .before .before .before .before .are-counts .ensures) ∙ not-false _ (c .before .before .before .before .before .before .before .before .before .before .before .before .before .if1 .left)) in (
+  omega (arith, room .orders, c .before .before .before .before .before .before .before .before .before .before .before .orders .given),
+  omega (arith, room .rows, c .before .before .before .before .before .before .before .before .before .before .before .before .rows .given),
+)
 
 cast-are-zero-codes : tie.Need-cast-are-zero-codes
 cast-are-zero-codes c = search needs
