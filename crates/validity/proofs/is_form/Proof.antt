@@ -17,7 +17,7 @@ use Rattle.validity.proofs.is_form.Statement.{statement}
 use Rattle.validity.proofs.is_form.Tie as tie
 
 returns : tie.Need-returns
-returns c = let a = c .before .args in rw (le-ltb (a .i) (a .count) (c .if1 .taken))
+returns c = let a = c .before .args in rw (le-ltb (a .i) (a .count) (omega (arith, c .if1 .taken)))
 
 cast-is-between : tie.Need-cast-is-between
 cast-is-between c = search needs
@@ -43,7 +43,7 @@ returns-2 c =
     let a = s .args in
     let z = getD (a .rows .now) (rowWidth * a .i) (pos 0) in
     let f : SFits w32 z = record { sfits = c .before .is-between-arg .given } in
-    rw (lt-ltb (a .i) (a .count) (c .before .before .if1 .left), add-zero (rowWidth * a .i), sym (form-between (a .low) (a .high) z (s .pre .1)))
+    rw (lt-ltb (a .i) (a .count) (omega (arith, c .before .before .if1 .left)), add-zero (rowWidth * a .i), sym (form-between (a .low) (a .high) z (s .pre .1)))
     (simp (toZ-ofZ, toZ-pos w32 (a .low) (omega (arith, s .pre)), toZ-pos w32 (a .high) (omega (arith, s .pre))) at (c .is-between .ensures))
 
 pub is-form-spec : {M : Type 1} → statement M
