@@ -2,4 +2,5 @@
 pub mod Letters
 pub mod Answers
 pub mod Streams
+pub mod Kept
 pub mod Inner
