@@ -1,26 +1,25 @@
 -- From every node of the diagrams a text can be completed, so 3 is given just where no continuation allows the symbol.
 -- Assumes nothing.
-use mathlib.Core.Bool.{Bool, false}
+use mathlib.Core.Bool.{Bool, true, false}
 use mathlib.Core.List.{List, [], _∷_, _++_, map, append-assoc}
-use mathlib.Core.Logic.{_↔_}
+use mathlib.Core.Logic.{⊎-elim}
 use mathlib.Core.Option.{Option, some, none}
 use mathlib.Core.Path.{_≡_, refl, sym, _∙_, ap, subst}
 use Prim.Native.Nat.{ℕ}
 use native.Mathlib.Omega.{arith}
+use borrow.Author.Tests.{eqb-true}
 use lib.Dec.{T, eqb, eqb→eq}
-use Rattle.status.specs.Status.{symbolNotAllowed}
+use Rattle.status.specs.Status.{noSymbol, symbolNotAllowed}
 use Rattle.symbols.specs.declared.Symbol.{Symbol}
-use Rattle.grammar.specs.declared.Action.{Action}
-use Rattle.grammar.specs.declared.Item.{Item}
 use Rattle.grammar.specs.declared.Progress.{Progress}
 use Rattle.grammar.specs.declared.Placed.{Placed}
 use Rattle.grammar.specs.declared.Outcome.{Outcome}
 use Rattle.grammar.specs.declared.Outcome.the-variants.{Go, Give, Refuse}
-use Rattle.grammar.specs.Syntax.{Terminal, key, letter, number, equals, opening, closing, widthClose, arrow, end, Rule, rules, Node, Begin, Finish, IntervalName, IntervalEquals, IntervalBody, FirstNumber, RatioColon, RootWord, IntervalTerm, IntervalSign, IntervalFactor, IntervalDone, ToneName, ToneEquals, ToneBody, ToneTerm, ToneSign, ToneFactor, ToneDone, SystemName, SystemEquals, SystemAnchor, SystemOpen, SystemFirst, SystemComma, SystemTone, SystemPeriod, SystemTerm, SystemSign, SystemFactor, RetuningName, RetuningEquals, RetuningBody, RetuningOpen, RetuningDone, AnchorAt, AnchorPlus, AnchorMinus, AnchorOpen, AnchorClose, WidthBody, WidthAt, WidthPlus, WidthMinus, WidthAsterisk, WidthSlash, WidthClose, WidthEnd, PeriodBody, PeriodTerm, PeriodSign, PeriodFactor, TonesTerm, TonesSign, TonesFactor, TonesComma, LogicName, LogicKey, LogicLetter, LogicEquals, LogicStart, LogicOpen, OrdersOpen, OrderKey, OrderLetter, OrderArrow, LogicDone}
+use Rattle.grammar.specs.Syntax.{Terminal, nothing, key, letter, number, equals, opening, closing, widthClose, arrow, end, Rule, rules, Node, Begin, Finish, IntervalName, IntervalEquals, IntervalBody, FirstNumber, RatioColon, RootWord, IntervalTerm, IntervalSign, IntervalFactor, IntervalDone, ToneName, ToneEquals, ToneBody, ToneTerm, ToneSign, ToneFactor, ToneDone, SystemName, SystemEquals, SystemAnchor, SystemOpen, SystemFirst, SystemComma, SystemTone, SystemPeriod, SystemTerm, SystemSign, SystemFactor, RetuningName, RetuningEquals, RetuningBody, RetuningOpen, RetuningDone, AnchorAt, AnchorPlus, AnchorMinus, AnchorOpen, AnchorClose, WidthBody, WidthAt, WidthPlus, WidthMinus, WidthAsterisk, WidthSlash, WidthClose, WidthEnd, PeriodBody, PeriodTerm, PeriodSign, PeriodFactor, TonesTerm, TonesSign, TonesFactor, TonesComma, LogicName, LogicKey, LogicLetter, LogicEquals, LogicStart, LogicOpen, OrdersOpen, OrderKey, OrderLetter, OrderArrow, LogicDone}
 use Rattle.grammar.specs.Terminals.{terminalNumber, nodeNumber, nodes, nodeAt, picked, terminalOf, startOf, placed, isNothing}
-use Rattle.grammar.specs.Reading.{acted, thenAt, notAllowed, byRule, stepped, begun}
-use Rattle.grammar.specs.Live.{walked, Whole, NoContinuation, reached, ThreeExactly}
-use Rattle.grammar.proofs.Table.{each, read-of}
+use Rattle.grammar.specs.Reading.{acted, thenAt, byRule, stepped, begun}
+use Rattle.grammar.specs.Live.{walked, NoContinuation, reached, ThreeExactly, Refused, two, three, four, nine, LowerNumber}
+use Rattle.grammar.proofs.Table.{read-of}
 use Rattle.grammar.proofs.Numbered.{node-back}
 use Rattle.grammar.proofs.Turns.{refusal, Grown, acted-grown}
 
@@ -188,7 +187,7 @@ unfolding stepped
 no-rule text s x {p} e = go (picked (rules (nodeAt (s .node))) (x .terminal)) e
   where
     acts : (n k : ℕ) (o : Outcome) → Grown n o → thenAt k o ≡ Refuse symbolNotAllowed p → ⊥
-    acts n k (Refuse m q) g f = g (let z : m ≡ symbolNotAllowed = cc in z)
+    acts n k (Refuse m q) g f = let z : m ≡ symbolNotAllowed = cc in ⊎-elim (λ e. omega (arith, e, z)) (λ e. omega (arith, e, z)) g
     acts n k (Go t) g f = let z : _≡_ {A = ℕ} 0 1 = cc in omega arith
     acts n k (Give t i) g f = let z : _≡_ {A = ℕ} 0 1 = cc in omega arith
 
@@ -202,8 +201,8 @@ no-rule-back : (text : List ℕ) (s : Progress) (x : Placed) → picked (rules (
 unfolding stepped
 no-rule-back text s x e n = rw (e, n)
 
-pub three : ThreeExactly
-three text ys y s e n = (forth, back)
+pub three-exactly : ThreeExactly
+three-exactly text ys y s e n = (forth, back)
   where
     forth : stepped text s (placed text y) ≡ Refuse symbolNotAllowed (startOf y) → NoContinuation (map (terminalOf text) (ys ++ y ∷ []))
     forth f more w =
@@ -220,3 +219,62 @@ three text ys y s e n = (forth, back)
         go (some r) g =
             let l = live (r .next) in
             absurd (f (l .0) (from-there text ys y e (l .0) ∙ walked-on (nodeAt (s .node)) (terminalOf text y) (l .0) g ∙ l .1))
+
+-- ---- at one place the lower number
+
+unruled : Option Rule → Bool
+unruled none = true
+unruled (some r) = false
+
+-- no rule is on a place where no symbol begins
+nowhere : Node → Bool
+nowhere n = unruled (picked (rules n) (terminalNumber nothing))
+
+no-rule-on-nothing : (n : Node) → picked (rules n) (terminalNumber nothing) ≡ none
+unfolding nowhere unruled picked rules
+no-rule-on-nothing n = none-is (picked (rules n) (terminalNumber nothing)) (subst (λ (q : Node). T (nowhere q)) (node-back n) (read-of nowhere nodes Finish tt tt (nodeNumber n)))
+  where
+    none-is : (o : Option Rule) → T (unruled o) → o ≡ none
+    none-is none t = refl
+    none-is (some r) t = absurd t
+
+pub lower-number : LowerNumber
+unfolding LowerNumber stepped
+lower-number text ys y s e n p f = by-place (isNothing (placed text y)) refl
+  where
+    -- where no symbol begins there is no rule, and 2
+    at-nothing : isNothing (placed text y) ≡ true → stepped text s (placed text y) ≡ Refuse noSymbol (startOf y)
+    at-nothing h =
+        let k : terminalNumber (terminalOf text y) ≡ terminalNumber nothing = eqb-true _ _ h in
+        rw (ap (picked (rules (nodeAt (s .node)))) k ∙ no-rule-on-nothing (nodeAt (s .node)), h)
+
+    -- a number of a rule's action is 4 or 9, and there a continuation allows the symbol
+    allowed : isNothing (placed text y) ≡ false → (n ≡ symbolNotAllowed → ⊥) → NoContinuation (map (terminalOf text) (ys ++ y ∷ [])) → ⊥
+    allowed h k c = k (let q = sym f ∙ three-exactly text ys y s e h .1 c in let z : n ≡ symbolNotAllowed = cc in z)
+
+    by-action : isNothing (placed text y) ≡ false → (m k : ℕ) (o : Outcome) → Grown m o → thenAt k o ≡ Refuse n p → Refused text ys y n
+    by-action h m k (Refuse i q) g w =
+        let z : i ≡ n = cc in
+        ⊎-elim
+        (λ a. subst (Refused text ys y) (sym a ∙ z) (four h (allowed h (λ b. omega (arith, a, b, z)))))
+        (λ a. subst (Refused text ys y) (sym a ∙ z) (nine h (allowed h (λ b. omega (arith, a, b, z)))))
+        g
+    by-action h m k (Go t) g w = let z : _≡_ {A = ℕ} 0 1 = cc in absurd (omega arith)
+    by-action h m k (Give t i) g w = let z : _≡_ {A = ℕ} 0 1 = cc in absurd (omega arith)
+
+    by-rule : isNothing (placed text y) ≡ false → (o : Option Rule) → picked (rules (nodeAt (s .node))) (terminalNumber (terminalOf text y)) ≡ o
+        → byRule text s (placed text y) o ≡ Refuse n p → Refused text ys y n
+    by-rule h none q w =
+        let r = no-rule-back text s (placed text y) q h in
+        let g = sym r ∙ f in
+        let z : symbolNotAllowed ≡ n = cc in
+        subst (Refused text ys y) z (three h (three-exactly text ys y s e h .0 r))
+    by-rule h (some r) q w =
+        by-action h (s .term .before) (nodeNumber (r .next)) (acted text s (r .action) (placed text y)) (acted-grown text s (r .action) (placed text y)) w
+
+    by-place : (b : Bool) → isNothing (placed text y) ≡ b → Refused text ys y n
+    by-place true h =
+        let g = sym (at-nothing h) ∙ f in
+        let z : noSymbol ≡ n = cc in
+        subst (Refused text ys y) z (two h)
+    by-place false h = by-rule h (picked (rules (nodeAt (s .node))) (terminalNumber (terminalOf text y))) refl f

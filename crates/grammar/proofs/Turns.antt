@@ -2,6 +2,7 @@
 -- Assumes nothing.
 use mathlib.Core.Bool.{Bool, true, false, cond}
 use mathlib.Core.List.{List, [], _∷_, _++_, append-nil}
+use mathlib.Core.Logic.{_⊎_, inl, inr}
 use mathlib.Core.Option.{Option, some, none}
 use mathlib.Core.Path.{_≡_, refl, sym, _∙_, ap, subst}
 use Prim.Native.Nat.{ℕ, _+_, _-_, _*_, _^_, _≤_, _<_}
@@ -10,7 +11,7 @@ use borrow.Author.Tests.{eq-eqb, ne-eqb, le-leb, lt-leb}
 use lib.Dec.{leb}
 use lib.ListN.{length, length-append}
 use lib.Seq.{slice, sets, append-snoc}
-use Rattle.status.specs.Status.{done, textTooLong, noSymbol, symbolNotAllowed, itemTooMany}
+use Rattle.status.specs.Status.{done, textTooLong, noSymbol, symbolNotAllowed, itemTooMany, numberOutOfRange}
 use Rattle.symbols.specs.declared.Symbol.{Symbol}
 use Rattle.symbols.specs.declared.Symbol.the-variants.{Bad, End, Name as NameSymbol, Number as NumberSymbol, Mark as MarkSymbol}
 use Rattle.numerals.specs.declared.Amount.{Amount}
@@ -34,7 +35,7 @@ use Rattle.grammar.specs.declared.Outcome.the-variants.{Go, Give, Refuse
 use Rattle.grammar.specs.declared.moves.Move.{Move}
 use Rattle.grammar.specs.declared.moves.Move.the-variants.{Missing, To}
 use Rattle.grammar.specs.declared.reading.Reading.{Reading}
-use Rattle.grammar.specs.Syntax.{Finish, end, nothing, Rule, rules}
+use Rattle.grammar.specs.Syntax.{Finish, end, Rule, rules}
 use Rattle.grammar.specs.Terminals.{terminalNumber, nodeNumber, nodeAt, picked, terminalOf, startOf, endOf, placed, isNothing}
 use Rattle.grammar.specs.Moves.{moveBy, moveOf}
 use Rattle.grammar.specs.Reading.{Read, limit, mostTerms, mostPositions, soFar, oneMore, withCounts, withPositions, noTerm, nextTerm, unlessFull, counted, positioned, judged, used, ifAllowed, numbered, acted, thenAt, notAllowed, byRule, stepped, begun, with, refusedAt, isFinished, readFrom, mostBytes, readItems, answered}
@@ -64,10 +65,10 @@ refusal P x h = go (isNothing x)
     go true = h noSymbol
     go false = h symbolNotAllowed
 
--- ---- an action adds at most one term, and no action refuses with 3
+-- ---- an action adds at most one term, and refuses with 4 or 9 alone
 
 abbrev pub Grown : ℕ → Outcome → Type 0
-Grown n (Refuse k p) = k ≡ symbolNotAllowed → ⊥
+Grown n (Refuse k p) = (k ≡ numberOutOfRange) ⊎ (k ≡ itemTooMany)
 Grown n (Go s) = s .term .before ≤ n + 1
 Grown n (Give s i) = s .term .before ≤ n + 1
 
@@ -75,7 +76,7 @@ full-grown : (n most k : ℕ) (x : Placed) (o : Outcome) → Grown n o → Grown
 full-grown n most k x o h = go (leb most k)
   where
     go : (b : Bool) → Grown n (cond b (Refuse itemTooMany (x .start)) o)
-    go true = λ e. omega arith
+    go true = inr refl
     go false = h
 
 counted-grown : (s : Progress) (k : Kind) (i : Item) (x : Placed) → Grown (s .term .before) (counted s k i x)
@@ -107,7 +108,7 @@ numbered-grown : (text : List ℕ) (s : Progress) (u : NumberUse) (a b : ℕ) (x
 numbered-grown text s u a b x = go (judged u (slice a b text))
   where
     go : (v : Amount) → Grown (s .term .before) (ifAllowed s u a x v)
-    go Outside = λ e. omega arith
+    go Outside = inl refl
     go (Value v) = used-grown s u v x
 
 pub acted-grown : (text : List ℕ) (s : Progress) (a : Action) (x : Placed) → Grown (s .term .before) (acted text s a x)

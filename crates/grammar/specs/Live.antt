@@ -1,11 +1,12 @@
--- "symbol that no continuation allows": 3 is given for such a symbol, and for no other (`three` of proofs/Live.antt).
-use mathlib.Core.Bool.{false}
+-- "symbol that no continuation allows": 3 is given for such a symbol, and for no other (`three-exactly` of proofs/Live.antt); and which number a refused
+-- symbol gets (`lower-number`).
+use mathlib.Core.Bool.{true, false}
 use mathlib.Core.List.{List, [], _∷_, _++_, map}
 use mathlib.Core.Logic.{_↔_}
 use mathlib.Core.Option.{Option, some, none}
 use mathlib.Core.Path.{_≡_}
 use Prim.Native.Nat.{ℕ}
-use Rattle.status.specs.Status.{symbolNotAllowed}
+use Rattle.status.specs.Status.{noSymbol, symbolNotAllowed, numberOutOfRange, itemTooMany}
 use Rattle.symbols.specs.declared.Symbol.{Symbol}
 use Rattle.grammar.specs.declared.Progress.{Progress}
 use Rattle.grammar.specs.declared.Outcome.the-variants.{Go, Give, Refuse}
@@ -37,3 +38,16 @@ abbrev pub ThreeExactly : Type 0
 ThreeExactly =
     (text : List ℕ) (ys : List Symbol) (y : Symbol) (s : Progress) → reached text begun ys ≡ some s → isNothing (placed text y) ≡ false
     → (stepped text s (placed text y) ≡ Refuse symbolNotAllowed (startOf y)) ↔ NoContinuation (map (terminalOf text) (ys ++ y ∷ []))
+
+-- "at one place the lower number": the number of a further symbol that is refused. 2 where no symbol begins there, 3 where no continuation allows it; 4 and 9
+-- only where one does
+pub data Refused (text : List ℕ) (ys : List Symbol) (y : Symbol) : ℕ → Type 0 where
+  two : isNothing (placed text y) ≡ true → Refused text ys y noSymbol
+  three : isNothing (placed text y) ≡ false → NoContinuation (map (terminalOf text) (ys ++ y ∷ [])) → Refused text ys y symbolNotAllowed
+  four : isNothing (placed text y) ≡ false → (NoContinuation (map (terminalOf text) (ys ++ y ∷ [])) → ⊥) → Refused text ys y numberOutOfRange
+  nine : isNothing (placed text y) ≡ false → (NoContinuation (map (terminalOf text) (ys ++ y ∷ [])) → ⊥) → Refused text ys y itemTooMany
+
+unfoldable pub LowerNumber : Type 0
+LowerNumber =
+    (text : List ℕ) (ys : List Symbol) (y : Symbol) (s : Progress) → reached text begun ys ≡ some s → (n p : ℕ) → stepped text s (placed text y) ≡ Refuse n p
+    → Refused text ys y n
