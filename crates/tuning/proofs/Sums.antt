@@ -7,12 +7,16 @@ use Rattle.cents.specs.Measure.{nearest, measure}
 use Rattle.cents.specs.Sums.{Row, _gives_, Hold, measureSums}
 use Rattle.cents.proofs.Sums.{measure-sums}
 use Rattle.tuning.specs.Desk.{firstFailing, anyBeyond, called}
-use Rattle.tuning.specs.Sums.{tuningSums, smallSums, comparedSums}
+use Rattle.tuning.specs.Sums.{startSums, tuningSums, smallSums, comparedSums}
 
 hold-append : (a b : List Row) → Hold a → Hold b → Hold (a ++ b)
 unfolding Hold
 hold-append [] b h k = k
 hold-append ((x gives y) ∷ a) b h k = (h .0, hold-append a b (h .1) k)
+
+pub start-sums : Hold startSums
+unfolding Hold startSums
+start-sums = (refl, (refl, (refl, (refl, tt))))
 
 tuning-sums : Hold tuningSums
 unfolding Hold tuningSums measure nearest L bits place leadingZeros called firstFailing anyBeyond

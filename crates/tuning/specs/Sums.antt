@@ -1,6 +1,6 @@
 -- "Small sums to try"
 use mathlib.Core.List.{List, [], _∷_, _++_}
-use Prim.Native.Nat.{ℕ}
+use Prim.Native.Nat.{ℕ, zero, suc, _+_, _*_}
 use lib.IntN.{ℤ, pos, negℤ, _+ℤ_, _*ℤ_}
 use Rattle.cents.specs.Measure.{hertz440, ratio, frequency}
 use Rattle.cents.specs.Sums.{Row, _gives_, measureSums}
@@ -8,7 +8,7 @@ use Rattle.status.specs.Status.{anchorOutOfRange, widthOutOfRange, periodOutOfR
 use Rattle.status.specs.Status as Status
 use Rattle.tuning.specs.declared.Operator.the-variants.{Plus, Minus, Times, Divide}
 use Rattle.tuning.specs.declared.Amount.the-variants.{Absolute, Kept, Relative}
-use Rattle.tuning.specs.Scale.{muted, sounds}
+use Rattle.tuning.specs.Scale.{Sound, muted, sounds}
 use Rattle.tuning.specs.Tuning.{Tuning, fresh, onward, mute, move, Action, anchorTo, widthTo, periodTo, tonesTo, width, soundOf, start}
 use Rattle.tuning.specs.Desk.{cents, called}
 
@@ -28,6 +28,19 @@ numberOf s c = called s c .number
 
 abbrev pub tuningAfter : Tuning cents → Action cents → Tuning cents
 tuningAfter s c = called s c .state
+
+-- "At the start: anchor 60, width 12, t(i) = 6,000,000 + 100,000·i, P = 1,200,000"
+abbrev pub startAt : ℕ → ℕ → List (Sound ℤ)
+startAt i zero = []
+startAt i (suc n) = sounds (pos (6_000_000 + 100_000 * i)) ∷ startAt (suc i) n
+
+unfoldable pub startSums : List Row
+startSums =
+    (start cents .anchor gives 60)
+    ∷ (width cents (start cents) gives 12)
+    ∷ (start cents .tones gives startAt 0 12)
+    ∷ (start cents .period gives pos 1_200_000)
+    ∷ []
 
 -- "in `Two`, key 70 is 7,601,955 and key 68 is 6,401,955; from the start, width `@*5` gives 60 with period 6,000,000 and width 61 gives 11"
 unfoldable pub tuningSums : List Row
