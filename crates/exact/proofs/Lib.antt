@@ -17,3 +17,7 @@ pub mod Claim
 pub mod Soundness
 pub mod Told
 pub mod CaseS
+pub mod TextCalls
+pub mod TextLetters
+pub mod DemandThree
+pub mod TwoLogics

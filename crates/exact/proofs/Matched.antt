@@ -24,6 +24,7 @@ use Rattle.mutabor.proofs.Decoded.{past-decoded}
 use Rattle.protocol.specs.Letters.{actionAt}
 use Rattle.exact.specs.Book.{Declared, entries}
 use Rattle.exact.specs.Actions.{total, placeOf, actionOf, declaredIn, bookAction, entryOf}
+use Rattle.exact.specs.TextCalls.{deskAction}
 use Rattle.exact.proofs.Measured.{measure-follows}
 use Rattle.exact.proofs.Decoded.{action-decoded}
 use Rattle.exact.proofs.Capped as Capped
@@ -32,10 +33,6 @@ use Rattle.exact.proofs.Worked as Worked
 use Rattle.exact.proofs.Worked.{CallBoth, action-follows}
 use Rattle.exact.proofs.Declared.{value-at, interval-entered, tone-entered}
 use Rattle.exact.proofs.Stream.{Matches, no-call, one-call, AllMatch}
-
--- what a declaration calls on the desk: with the values of the declarations
-abbrev pub deskAction : Program → ℕ → Option (Action cents)
-deskAction p k = actionOf cents (valueOf p) (valueOf p) (declarationAt p k)
 
 -- a call that keeps states valid, if there is one
 abbrev Safe : Option (Action cents) → Type 0

@@ -2,19 +2,23 @@
 use mathlib.Core.Path.{_≡_}
 use mathlib.Core.List.{List, [], _∷_}
 use mathlib.Core.Option.{Option, some, none}
-use Prim.Native.Nat.{ℕ}
-use Rattle.tuning.specs.Tuning.{Tuning, Action, start}
+use Prim.Native.Nat.{ℕ, _≤_}
+use lib.IntN.{ℤ}
+use Rattle.tuning.specs.Scale.{Sound}
+use Rattle.tuning.specs.Tuning.{Tuning, Action, start, soundOf}
 use Rattle.tuning.specs.State.{held}
 use Rattle.program.specs.Program.{Program}
+use Rattle.program.specs.Text.{accepted, readText}
 use Rattle.filling.specs.Tables.{tablesOf}
-use Rattle.frames.specs.Frames.{keyKind}
+use Rattle.frames.specs.Frames.{firstHouse, secondHouse, lastKey, keyKind}
 use Rattle.hexadecimal.specs.Digits.{hexes}
+use Rattle.answers.specs.Answer.{smallestBuffer}
 use Rattle.answers.specs.Told.{toldBy}
 use Rattle.protocol.specs.Answers.{Made, startDesk, soundAt, keyNumber, answerOf}
 use Rattle.protocol.specs.Streams.{Lent, deskAfter, madeIn}
 use Rattle.exact.specs.Book as book
 use Rattle.exact.specs.Book.{entries, bookFrom}
-use Rattle.exact.specs.Agreement.{Agrees}
+use Rattle.exact.specs.Agreement.{KeyAgrees, Agrees}
 use Rattle.exact.specs.Actions.{declaredIn, bookAction}
 
 -- "The exact book of demand 3 is fed the text and, frame by frame, each call that these rules make of a tone system or retuning, with its number."
@@ -45,3 +49,18 @@ pub record KeyAnswered (p : Program) (stream : List Lent) (house key room : ℕ)
       ≡ keyNumber (soundAt (deskAfter (tablesOf p) startDesk stream) key)
   pub told : toldBy (answerOf (tablesOf p) (deskAfter (tablesOf p) startDesk stream) (keyFrame house key) room .line)
       ≡ some (soundAt (deskAfter (tablesOf p) startDesk stream) key)
+
+-- what that line tells agrees with the book's entry of the key: silent in both, or at most w away, d being what the bytes say
+pub record AnswerAgrees (p : Program) (stream : List Lent) (house key room : ℕ) : Type 0 where
+  pub sound : Sound ℤ
+  pub told : toldBy (answerOf (tablesOf p) (deskAfter (tablesOf p) startDesk stream) (keyFrame house key) room .line) ≡ some sound
+  pub agrees : KeyAgrees (declaredIn p) (soundOf entries (bookAfter p stream) key) sound
+
+-- **demand 3**: "Over any stream under an accepted text, the desk and the exact book have the same anchor, width and silent keys, and each sounding key
+-- differs from its exact frequency by at most a thousandth of a cent for each power of a declared number" -- and it is the answer's bytes that say so
+pub record Demand3 (p : Program) (stream : List Lent) : Type 0 where
+  pub state : StreamAgrees p stream
+  pub answer : (house key room : ℕ) → firstHouse ≤ house → house ≤ secondHouse → key ≤ lastKey → smallestBuffer ≤ room → AnswerAgrees p stream house key room
+
+unfoldable pub DemandThree : Type 0
+DemandThree = (text : List ℕ) (p : Program) → readText text ≡ accepted p → (stream : List Lent) → Demand3 p stream

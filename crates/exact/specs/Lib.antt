@@ -3,6 +3,9 @@ pub mod Entry
 pub mod Book
 pub mod Agreement
 pub mod Actions
+pub mod TextCalls
+pub mod TextLetters
 pub mod Claim
 pub mod Soundness
 pub mod CaseS
+pub mod TwoLogics

@@ -18,13 +18,32 @@ use Rattle.program.specs.Meaning as Meaning
 use Rattle.program.specs.Text as Text
 use Rattle.cents.specs.Sums.{Hold}
 use Rattle.program.specs.CaseS.{text, program}
+use Rattle.program.specs.TwoLogics as twoLogics
 use Rattle.program.specs.Verdicts.{verdicts}
 
+-- all at once, since what is computed is opened at each
+read : (Text.readText text ≡ Text.accepted program) × (Text.readText twoLogics.text ≡ Text.accepted twoLogics.program) × Hold verdicts
+unfolding Hold verdicts leadingZeros grammarSyntax.rules symbolsBytes.isBlank symbolsBytes.isDigit symbolsBytes.isHexDigit symbolsBytes.isCapital
+    symbolsBytes.isLetter symbolsBytes.inName symbolsBytes.small symbolsBytes.takeWhile symbolsBytes.same symbolsSymbols.marks symbolsSymbols.markIn
+    symbolsSymbols.markOr symbolsSymbols.markAt symbolsSymbols.runEnd symbolsSymbols.digitsTo symbolsSymbols.pointed symbolsSymbols.decimalAt
+    symbolsSymbols.hexAt symbolsSymbols.symbolAt symbolsSymbols.nextSymbol symbolsSymbols.after symbolsSymbols.cut symbolsSymbols.symbolsFrom
+    symbolsSymbols.symbols symbolsSymbols.symbolFrom symbolsSymbols.afterComment symbolsNames.spelled symbolsNames.nameAt symbolsNames.letterOf
+    symbolsWords.words symbolsWords.wordIn symbolsWords.wordOf numeralsNumbers.digitOf numeralsNumbers.numeralAfter numeralsNumbers.numeral
+    numeralsNumbers.beforePoint numeralsNumbers.places numeralsNumbers.ranged numeralsNumbers.tenThousandths numeralsNumbers.pointOf
+    numeralsNumbers.decimalOf numeralsNumbers.wholeOf grammarTerminals.picked grammarTerminals.terminalOf grammarReading.acted grammarReading.stepped
+    grammarReading.readFrom grammarReading.readItems namesNames.declared namesNames.numberFrom namesNames.twiceFrom namesNames.calledIn namesNames.resolved
+    namesNames.meanings valuesValues.plus valuesValues.total valuesValues.ranged valuesValues.valueAt valuesValues.anyUsed valuesValues.leads
+    valuesValues.isBeyond valuesValues.firstFrom valuesValues.verdict valuesValues.outcome valuesValues.number valuesValues.numbers valuesValues.handed
+    valuesValues.valueTable centsLog.place centsLog.bits centsLog.L centsMeasure.nearest centsMeasure.measure Program.termsOf Program.placesOf
+    Program.grouped Program.ordersOf Program.startOf Program.partsOf Program.programOf Meaning.valueOf Meaning.valued Text.readText
+read = (refl, refl, (refl, (refl, (refl, (refl, (refl, (refl, (refl, (refl, (refl, (refl, (refl, (refl, (refl, tt))))))))))))))
+
 pub case-s-read : Text.readText text ≡ Text.accepted program
-unfolding leadingZeros grammarSyntax.rules symbolsBytes.isBlank symbolsBytes.isDigit symbolsBytes.isHexDigit symbolsBytes.isCapital symbolsBytes.isLetter symbolsBytes.inName symbolsBytes.small symbolsBytes.takeWhile symbolsBytes.same symbolsSymbols.marks symbolsSymbols.markIn symbolsSymbols.markOr symbolsSymbols.markAt symbolsSymbols.runEnd symbolsSymbols.digitsTo symbolsSymbols.pointed symbolsSymbols.decimalAt symbolsSymbols.hexAt symbolsSymbols.symbolAt symbolsSymbols.nextSymbol symbolsSymbols.after symbolsSymbols.cut symbolsSymbols.symbolsFrom symbolsSymbols.symbols symbolsSymbols.symbolFrom symbolsSymbols.afterComment symbolsNames.spelled symbolsNames.nameAt symbolsNames.letterOf symbolsWords.words symbolsWords.wordIn symbolsWords.wordOf numeralsNumbers.digitOf numeralsNumbers.numeralAfter numeralsNumbers.numeral numeralsNumbers.beforePoint numeralsNumbers.places numeralsNumbers.ranged numeralsNumbers.tenThousandths numeralsNumbers.pointOf numeralsNumbers.decimalOf numeralsNumbers.wholeOf grammarTerminals.picked grammarTerminals.terminalOf grammarReading.acted grammarReading.stepped grammarReading.readFrom grammarReading.readItems namesNames.declared namesNames.numberFrom namesNames.twiceFrom namesNames.calledIn namesNames.resolved namesNames.meanings valuesValues.plus valuesValues.total valuesValues.ranged valuesValues.valueAt valuesValues.anyUsed valuesValues.leads valuesValues.isBeyond valuesValues.firstFrom valuesValues.verdict valuesValues.outcome valuesValues.number valuesValues.numbers valuesValues.handed valuesValues.valueTable centsLog.place centsLog.bits centsLog.L centsMeasure.nearest centsMeasure.measure Program.termsOf Program.placesOf Program.grouped Program.ordersOf Program.startOf Program.partsOf Program.programOf Meaning.valueOf Meaning.valued Text.readText
-case-s-read = refl
+case-s-read = read .0
+
+pub two-logics-read : Text.readText twoLogics.text ≡ Text.accepted twoLogics.program
+two-logics-read = read .1
 
 -- each of the texts of specs/Verdicts.antt is read as it says
 pub verdicts-hold : Hold verdicts
-unfolding Hold verdicts leadingZeros grammarSyntax.rules symbolsBytes.isBlank symbolsBytes.isDigit symbolsBytes.isHexDigit symbolsBytes.isCapital symbolsBytes.isLetter symbolsBytes.inName symbolsBytes.small symbolsBytes.takeWhile symbolsBytes.same symbolsSymbols.marks symbolsSymbols.markIn symbolsSymbols.markOr symbolsSymbols.markAt symbolsSymbols.runEnd symbolsSymbols.digitsTo symbolsSymbols.pointed symbolsSymbols.decimalAt symbolsSymbols.hexAt symbolsSymbols.symbolAt symbolsSymbols.nextSymbol symbolsSymbols.after symbolsSymbols.cut symbolsSymbols.symbolsFrom symbolsSymbols.symbols symbolsSymbols.symbolFrom symbolsSymbols.afterComment symbolsNames.spelled symbolsNames.nameAt symbolsNames.letterOf symbolsWords.words symbolsWords.wordIn symbolsWords.wordOf numeralsNumbers.digitOf numeralsNumbers.numeralAfter numeralsNumbers.numeral numeralsNumbers.beforePoint numeralsNumbers.places numeralsNumbers.ranged numeralsNumbers.tenThousandths numeralsNumbers.pointOf numeralsNumbers.decimalOf numeralsNumbers.wholeOf grammarTerminals.picked grammarTerminals.terminalOf grammarReading.acted grammarReading.stepped grammarReading.readFrom grammarReading.readItems namesNames.declared namesNames.numberFrom namesNames.twiceFrom namesNames.calledIn namesNames.resolved namesNames.meanings valuesValues.plus valuesValues.total valuesValues.ranged valuesValues.valueAt valuesValues.anyUsed valuesValues.leads valuesValues.isBeyond valuesValues.firstFrom valuesValues.verdict valuesValues.outcome valuesValues.number valuesValues.numbers valuesValues.handed valuesValues.valueTable centsLog.place centsLog.bits centsLog.L centsMeasure.nearest centsMeasure.measure Program.termsOf Program.placesOf Program.grouped Program.ordersOf Program.startOf Program.partsOf Program.programOf Meaning.valueOf Meaning.valued Text.readText
-verdicts-hold = (refl, (refl, (refl, (refl, (refl, (refl, (refl, (refl, (refl, (refl, (refl, (refl, (refl, tt)))))))))))))
+verdicts-hold = read .2

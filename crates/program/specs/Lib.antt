@@ -4,4 +4,5 @@ pub mod Meaning
 pub mod Allowed
 pub mod Text
 pub mod CaseS
+pub mod TwoLogics
 pub mod Verdicts

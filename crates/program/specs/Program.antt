@@ -43,6 +43,25 @@ pub data Declaration : Type 0 where
   -- a logic: its letter, its start, its orders
   logic : ℕ → Option ℕ → List Order → Declaration
 
+-- a declaration as letters see it: a logic, with its letter, its start and its orders, or none
+pub data AsLogic : Type 0 where
+  no-logic : AsLogic
+  a-logic : ℕ → Option ℕ → List Order → AsLogic
+
+abbrev pub asLogic : Declaration → AsLogic
+asLogic (ratio p q) = no-logic
+asLogic (root a b) = no-logic
+asLogic (sequence ts) = no-logic
+asLogic (frequency f) = no-logic
+asLogic (from k ts) = no-logic
+asLogic (system a l ts) = no-logic
+asLogic (anchor m) = no-logic
+asLogic (width m) = no-logic
+asLogic (freshPeriod ts) = no-logic
+asLogic (onwardPeriod ts) = no-logic
+asLogic (tones l) = no-logic
+asLogic (logic c s os) = a-logic c s os
+
 -- a declaration and the place of its name
 pub record Placed : Type 0 where
   pub place : ℕ

@@ -1,0 +1,47 @@
+-- The second worked stream, by computing. Assumes nothing.
+use mathlib.Core.Path.{_≡_, refl, ap}
+use mathlib.Core.List.{List}
+use mathlib.Core.Option.{Option·elim}
+use lib.Count.{leadingZeros}
+use Rattle.cents.specs.Log.{place, bits, L}
+use Rattle.cents.specs.Measure.{measure, nearest}
+use Rattle.values.specs.Values.{plus, total, ranged, valueAt}
+use Rattle.tables.specs.Layout.{writtenAll, joined, rowOf}
+use Rattle.filling.specs.Tables.{filledFrom, tablesOf}
+use Rattle.validity.specs.Valid.{validTables, declarationRight, isOwn, rowsRight, declarations, kindsFrom, partsFollow, ordersRight, eachRight, allZero, allNought}
+use Rattle.tuning.specs.Tuning.{start}
+use Rattle.tuning.specs.Desk.{called, firstFailing, anyBeyond}
+use Rattle.tuning.specs.State.{validState, allMuted}
+use Rattle.hexadecimal.specs.Digits.{digitOf, byteOf, bytesOf}
+use Rattle.frames.specs.Frames.{framed, frameOf}
+use Rattle.protocol.specs.Letters.{firstLogic, firstOrder, pressed}
+use Rattle.protocol.specs.Answers.{Made, startDesk, callOn, tuningFrom, madeFrom, letterOutcome, keyOutcome, frameOutcome, answerOf}
+use Rattle.hexadecimal.specs.Digits.{hexOf, hexes}
+use Rattle.hexadecimal.specs.Numbers.{twos, fourOf}
+use Rattle.answers.specs.Answer.{tonesBytes}
+use Rattle.protocol.specs.Streams.{deskAfter, madeIn, linesOf}
+use Rattle.program.specs.Meaning.{valueOf}
+use Rattle.program.specs.TwoLogics.{program}
+use Rattle.program.proofs.Texts.{two-logics-read}
+use Rattle.exact.specs.Book.{entries, bookFrom, once}
+use Rattle.exact.specs.Actions.{entryWithin}
+use Rattle.exact.specs.Claim.{fedBy, bookAfter}
+use Rattle.exact.specs.TwoLogics.{frames, lines, calls, Whole}
+
+-- the lines, and the calls
+answers : (linesOf (tablesOf program) startDesk frames ≡ lines) × (madeIn (tablesOf program) startDesk frames ≡ calls)
+unfolding Option·elim leadingZeros place bits L measure nearest plus total ranged valueAt valueOf writtenAll joined rowOf filledFrom tablesOf validTables
+    declarationRight isOwn rowsRight declarations kindsFrom partsFollow ordersRight eachRight allZero allNought called firstFailing anyBeyond validState
+    allMuted digitOf byteOf bytesOf framed frameOf firstLogic firstOrder pressed callOn tuningFrom madeFrom letterOutcome keyOutcome frameOutcome answerOf
+    linesOf hexOf hexes twos fourOf tonesBytes deskAfter madeIn
+answers = (refl, refl)
+
+-- the book, fed these calls
+book : bookAfter program frames ≡ bookFrom (start entries) (fedBy program calls)
+unfolding bookAfter
+book = ap (λ (ms : List Made). bookFrom (start entries) (fedBy program ms)) (answers .1)
+
+pub two-logics : Whole
+unfolding entryWithin once fedBy bookFrom
+two-logics =
+    record { read = two-logics-read; answered = answers .0; made = answers .1; anchor = rw book; width = rw book }
