@@ -27,19 +27,19 @@ pub const ORDER_WIDTH: usize = 2;
 pub const COUNTS: usize = 4;
 
 // Two slices are lent. Numbers: rows, tones, changes; codes: counts, sounding, kinds, orders. Where each section begins, and how many there are.
-pub const TONES_AT: usize = 3_520;
+pub const TONES_AT: usize = ROW_WIDTH * ROWS;
 
-pub const CHANGES_AT: usize = 5_440;
+pub const CHANGES_AT: usize = TONES_AT + TONES;
 
-pub const NUMBERS: usize = 13_120;
+pub const NUMBERS: usize = CHANGES_AT + CHANGES;
 
-pub const SOUNDING_AT: usize = 4;
+pub const SOUNDING_AT: usize = COUNTS;
 
-pub const KINDS_AT: usize = 1_924;
+pub const KINDS_AT: usize = SOUNDING_AT + TONES;
 
-pub const ORDERS_AT: usize = 9_604;
+pub const ORDERS_AT: usize = KINDS_AT + CHANGES;
 
-pub const CODES: usize = 10_628;
+pub const CODES: usize = ORDERS_AT + ORDER_WIDTH * ORDERS;
 
 // The forms of rows.
 pub const UNUSED_FORM: u32 = 0;
