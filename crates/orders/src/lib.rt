@@ -1,10 +1,10 @@
-// Order records, and the search for the first with a trigger in a lent slice of them.
+// Order records, and the search for the first with a letter in a lent slice of them.
 ghost use mathlib.Core.Path.{_≡_};
 ghost use Rattle.orders.specs.Orders.{firstMatch};
 
-// What triggers it, the kind of what it calls, and the number of the declaration that is called.
+// A letter, the kind of what it calls, and the number of the declaration that is called.
 pub struct Order {
-    pub trigger: u16,
+    pub letter: u8,
     pub kind: u8,
     pub number: u16,
 }
@@ -14,9 +14,9 @@ pub enum Found {
     At(usize),
 }
 
-// The first of the `count` records from `first` on that has the trigger. The part may reach past the end.
-pub fn find_match(orders: &[Order], trigger: u16, first: usize, count: usize) -> Found
-    ensures { λ r. ⌜ r ≡ firstMatch trigger (now (orders .entry)) first count ⌝ }
+// The first of the `count` records from `first` on that has the letter. The part may reach past the end.
+pub fn find_match(orders: &[Order], letter: u8, first: usize, count: usize) -> Found
+    ensures { λ r. ⌜ r ≡ firstMatch letter (now (orders .entry)) first count ⌝ }
 {
     let mut i = first;
     let mut left = count;
@@ -24,7 +24,7 @@ pub fn find_match(orders: &[Order], trigger: u16, first: usize, count: usize) ->
         if i >= orders.len() {
             return Found::Nothing;
         }
-        if orders[i].trigger == trigger {
+        if orders[i].letter == letter {
             return Found::At(i);
         }
         i += 1;
@@ -34,8 +34,8 @@ pub fn find_match(orders: &[Order], trigger: u16, first: usize, count: usize) ->
 }
 
 // The same of an array that is lent here, for callers with plain parameters.
-pub fn find_match_in(orders: [Order; 512], trigger: u16, first: usize, count: usize) -> Found
-    ensures { λ r. ⌜ r ≡ firstMatch trigger orders first count ⌝ }
+pub fn find_match_in(orders: [Order; 512], letter: u8, first: usize, count: usize) -> Found
+    ensures { λ r. ⌜ r ≡ firstMatch letter orders first count ⌝ }
 {
-    find_match(&orders, trigger, first, count)
+    find_match(&orders, letter, first, count)
 }

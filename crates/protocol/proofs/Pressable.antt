@@ -12,7 +12,7 @@ use Rattle.tables.specs.declared.Row.{Row as TableRow}
 use Rattle.tables.specs.declared.Row.the-variants.{Unused, Interval, Tone, System, Retuning, Logic}
 use Rattle.tables.specs.Layout.{Tables, rowCount, rowAt}
 use Rattle.validity.specs.Valid.{isLogic, validTables}
-use Rattle.validity.proofs.Laws.{valid-of, ValidRow, row-valid, fields-fit, order-valid}
+use Rattle.validity.proofs.Laws.{valid-of, ValidRow, row-valid, fields-fit, order-valid, order-letter}
 use Rattle.protocol.specs.declared.Active.{Active}
 use Rattle.protocol.specs.declared.Active.the-variants as active
 use Rattle.protocol.specs.Letters.{firstLogic, orderBy, orderOf, elseOrder, callsBy, unlessUnbound, pressed}
@@ -43,6 +43,7 @@ module _ (t : Tables) (v : validTables t ≡ true) where
         most = omega (arith, h .within, w .room .orders);
         letters = omega (arith, h .within, w .room .orders, w .sizes .letters);
         calls = omega (arith, h .within, w .room .orders, w .sizes .calls);
+        bytes = λ i k. omega (arith, order-letter t v i (omega (arith, h .within)));
       }
 
   pub active-readable : (a : Active) → activeRight t a ≡ true → ActiveReadable t a

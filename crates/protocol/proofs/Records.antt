@@ -3,7 +3,7 @@ use mathlib.Core.Path.{_≡_, refl, sym, ap, _∙_}
 use mathlib.Core.Bool.{Bool, true, false}
 use mathlib.Core.List.{List, [], _∷_, _++_, zipWith}
 use mathlib.Core.Option.{some}
-use Prim.Native.Nat.{ℕ, suc, _+_, _-_, _*_, _≤_, _<_}
+use Prim.Native.Nat.{ℕ, suc, _+_, _-_, _*_, _≤_, _<_, _^_}
 use native.Mathlib.Numerals.{add-one}
 use native.Mathlib.Omega.{arith}
 use lib.Dec.{eqb}
@@ -56,7 +56,7 @@ module _ {rows : List ℤ} {letters calls : List ℕ} {from to : ℕ} (p : Order
 
   module _ {all : List Order} {i : ℕ} (g : Gathering rows letters calls from to all i) where
     pub gathering-next : {kind : ℕ} → i < to → kind ≡ kindAt rows (getD calls i 0)
-        → Gathering rows letters calls from to (set all (i - from) (record { trigger = getD letters i 0; kind = kind; number = getD calls i 0 })) (i + 1)
+        → Gathering rows letters calls from to (set all (i - from) (record { letter = getD letters i 0; kind = kind; number = getD calls i 0 })) (i + 1)
     unfolding zipWith
     gathering-next h e =
         let first : rest rows letters calls to i ≡ recordOf rows (getD letters i 0) (getD calls i 0) ∷ rest rows letters calls to (i + 1) =
@@ -72,13 +72,17 @@ module _ {rows : List ℤ} {letters calls : List ℕ} {from to : ℕ} (p : Order
 pub gathering-order : {rows : List ℤ} (orders : List ℕ) {from to : ℕ} → OrderPart (lettersIn orders) (callsIn orders) from to → {all : List Order} {i : ℕ}
     → Gathering rows (lettersIn orders) (callsIn orders) from to all i → {kind : ℕ} → i < to → kind ≡ kindAt rows (getD orders (orderWidth * i + 1) 0)
     → Gathering rows (lettersIn orders) (callsIn orders) from to
-    (set all (i - from) (record { trigger = getD orders (orderWidth * i) 0; kind = kind; number = getD orders (orderWidth * i + 1) 0 })) (i + 1)
+    (set all (i - from) (record { letter = getD orders (orderWidth * i) 0; kind = kind; number = getD orders (orderWidth * i + 1) 0 })) (i + 1)
 gathering-order {rows} orders p {all} {i} g h e =
     rw (letter-at orders i, call-at orders i) (gathering-next p g h (e ∙ ap (kindAt rows) (call-at orders i)))
 
--- both codes stand in the slice
-pub codes-there : (orders : List ℕ) {from to : ℕ} → OrderPart (lettersIn orders) (callsIn orders) from to → orderWidth * to ≤ length orders
-codes-there orders p = omega (arith, p .letters, p .calls, columns-length orders)
+-- the code of a letter is a byte, and both codes stand in the slice
+module _ (orders : List ℕ) {from to : ℕ} (p : OrderPart (lettersIn orders) (callsIn orders) from to) where
+  pub letter-byte : (i : ℕ) → i < to → getD orders (orderWidth * i) 0 < 2 ^ 8
+  letter-byte i h = rw (letter-at orders i) (p .bytes i h)
+
+  pub codes-there : orderWidth * to ≤ length orders
+  codes-there = omega (arith, p .letters, p .calls, columns-length orders)
 
 -- ---- searching
 

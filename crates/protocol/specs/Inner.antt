@@ -3,7 +3,7 @@ use mathlib.Core.Path.{_≡_}
 use mathlib.Core.Bool.{true, cond}
 use mathlib.Core.List.{List, [], _∷_, zipWith}
 use mathlib.Core.Option.{Option, some, none}
-use Prim.Native.Nat.{ℕ, zero, suc, _+_, _≤_, _<_}
+use Prim.Native.Nat.{ℕ, zero, suc, _+_, _≤_, _<_, _^_}
 use lib.Dec.{eqb}
 use lib.IntN.{ℤ}
 use lib.ListN.{length, getD}
@@ -109,9 +109,9 @@ calledIn rows (some k) = byKind (kindAt rows k) k
 abbrev pub calledBy : Tables → Active → ℕ → Called
 calledBy t a letter = calledIn (t .rows) (elseOrder t a letter (firstLogic (t .rows) letter 0 (rowCount t)))
 
--- orders as records: of each its trigger, the kind of the declaration that it calls, and that declaration's number
+-- orders as records: of each its letter, the kind of the declaration that it calls, and that declaration's number
 abbrev pub recordOf : List ℤ → ℕ → ℕ → Order
-recordOf rows trigger k = record { trigger = trigger; kind = kindAt rows k; number = k }
+recordOf rows letter k = record { letter = letter; kind = kindAt rows k; number = k }
 
 abbrev pub recordsOf : List ℤ → List ℕ → List ℕ → List Order
 recordsOf rows letters calls = zipWith (recordOf rows) letters calls
@@ -137,6 +137,7 @@ pub record OrderPart (cs ks : List ℕ) (from to : ℕ) : Type 0 where
   pub most : to ≤ from + mostOrders
   pub letters : to ≤ length cs
   pub calls : to ≤ length ks
+  pub bytes : (i : ℕ) → i < to → getD cs i 0 < 2 ^ 8
 
 -- the orders of a logic are all there
 abbrev pub OrdersThere : Tables → TableRow → Type 0

@@ -138,17 +138,17 @@ fn gather_orders(rows: &[i32], orders: &[u16], from: usize, to: usize) -> [Order
     ensures { λ r. ⌜ r ≡ gathered (now (rows .entry)) (lettersIn (now (orders .entry))) (callsIn (now (orders .entry))) from to ⌝ }
 {
     let mut all = [Order {
-        trigger: 0,
+        letter: 0,
         kind: NO_KIND,
         number: 0,
     }; ORDERS];
     for i in from..to {
         let at = ORDER_WIDTH * i;
-        let trigger = orders[at];
+        let letter = orders[at] as u8;
         let number = orders[at + 1];
         let kind = kind_of(rows, number as usize);
         all[i - from] = Order {
-            trigger,
+            letter,
             kind,
             number,
         };
@@ -162,7 +162,7 @@ fn find_order(rows: &[i32], orders: &[u16], from: usize, to: usize, letter: u8) 
     ensures { λ r. ⌜ r ≡ calledIn (now (rows .entry)) (firstOrder letter (slice from to (lettersIn (now (orders .entry)))) (slice from to (callsIn (now (orders .entry))))) ⌝ }
 {
     let all = gather_orders(rows, orders, from, to);
-    let orders::Found::At(i) = orders::find_match_in(all, letter as u16, 0, to - from) else {
+    let orders::Found::At(i) = orders::find_match_in(all, letter, 0, to - from) else {
         return Called::Nothing;
     };
     let order = all[i];

@@ -11,6 +11,7 @@ use opening::open_text;
 use protocol::Desk;
 use protocol::TRIGGERS;
 use protocol::index_logics;
+use protocol::is_valid;
 use status::DONE;
 use stream::Cursor;
 use stream::fill_ready;
@@ -197,13 +198,14 @@ fn take_input(chunk: &mut [u8], held: usize) -> Input
     }
 }
 
-// Serves the input to its end, with tables and a desk that are right. A proved loop has to end, and nothing says that the input does: it counts down
-// from a number that no run uses up.
-fn serve_all(numbers: &[i32], codes: &[u16], start: Desk)
-    requires { ⌜ validDesk (tablesIn (now numbers) (now codes)) start ≡ true ⌝ }
-{
-    let index = index_logics(numbers, codes);
+// Serves the input to its end. Tables and desk are tested once, before the first frame. A proved loop has to end, and nothing says that the input does: it
+// counts down from a number that no run uses up.
+fn serve_all(numbers: &[i32], codes: &[u16], start: Desk) {
     let mut desk = start;
+    if !is_valid(numbers, codes, desk) {
+        return;
+    }
+    let index = index_logics(numbers, codes);
     let mut held = [0u8; ENOUGH];
     let mut count: usize = 0;
     let mut chunk = io::large_buffer();

@@ -407,6 +407,9 @@ module _ (t : Tables) (h : validTables t ≡ true) (i : ℕ) (k : i < orderCount
       let r = readAt (t .rows) j in
       refers t isCalled systemForm logicForm j (called (r .first) (r .second) (r .from) (r .to) (r .form)) (order-right .1)
 
+  pub order-letter : getD (t .letters) i 0 ≤ lastLetter
+  order-letter = let n = getD (t .letters) i 0 in leb-true n lastLetter (both (leb firstLetter n) (leb n lastLetter) (order-right .0) .1)
+
 -- the slices of valid tables are of full size
 pub slices-valid : (numbers : List ℤ) (codes : List ℕ) → validTables (tablesIn numbers codes) ≡ true → Slices numbers codes
 slices-valid numbers codes h = slices-of numbers codes (sizes-is (tablesIn numbers codes) (valid-of (tablesIn numbers codes) h .sizes))

@@ -1,4 +1,4 @@
--- `sitedesk::run` is safe and ends: the line of a refusal lies within its buffer, and what an accepted text gives is right. Assumes nothing.
+-- `sitedesk::run` is safe and ends: the line of a refusal lies within its buffer. Assumes nothing.
 use mathlib.Core.Path.{sym}
 use Prim.Native.Nat.{_≤_}
 use native.Mathlib.Omega.{arith}
@@ -47,7 +47,7 @@ slice-aggregate-serve-all-2 : tie.Need-slice-aggregate-serve-all-2
 slice-aggregate-serve-all-2 c = search needs
 
 serve-all-requires : tie.Need-serve-all-requires
-serve-all-requires c κs = c .before .before .before .before .before .before .before .before .open-text .ensures .1 (c .before .before .before .if1 .left)
+serve-all-requires c κs = search needs
 
 returns-2 : tie.Need-returns-2
 returns-2 c = search needs

@@ -1,5 +1,5 @@
 -- `sitedesk::serve_all` is safe and ends. The loop counts down from a number that no run uses up.
-use mathlib.Core.Path.{_≡_, sym}
+use mathlib.Core.Path.{_≡_, sym, _∙_}
 use mathlib.Core.Bool.{true}
 use Prim.Native.Nat.{_≤_}
 use native.Mathlib.Omega.{arith}
@@ -25,10 +25,22 @@ abbrev μ-loop : tie.MeasureT-loop
 μ-loop numbers codes index desk₀ held₀ count₀ chunk₀ out₀ turns₀ desk held count chunk out turns =
     turns
 
+is-valid-requires : tie.Need-is-valid-requires Inv-loop μ-loop
+is-valid-requires c κs = search needs
+
+returns : tie.Need-returns Inv-loop μ-loop
+returns c = search needs
+
+-- the tables and the desk are right
+tested-valid : (c : tie.Else1 Inv-loop μ-loop)
+    → let a = c .before .before .before in validDesk (tablesIn (a .args .numbers .now) (a .args .codes .now)) (a .args .start) ≡ true
+tested-valid c = sym (c .before .is-valid .ensures) ∙ not-false _ (c .if1 .left)
+
 index-logics-requires : tie.Need-index-logics-requires Inv-loop μ-loop
 index-logics-requires c κs =
-    let a = c .before in
-    slices-valid (a .args .numbers .now) (a .args .codes .now) (tables-right (tablesIn (a .args .numbers .now) (a .args .codes .now)) (a .args .start) (a .pre))
+    let a = c .before .before .before in
+    slices-valid (a .args .numbers .now) (a .args .codes .now)
+    (tables-right (tablesIn (a .args .numbers .now) (a .args .codes .now)) (a .args .start) (tested-valid c))
 
 large-buffer-requires : tie.Need-large-buffer-requires Inv-loop μ-loop
 large-buffer-requires c κs = search needs
@@ -37,7 +49,7 @@ large-buffer-requires-2 : tie.Need-large-buffer-requires-2 Inv-loop μ-loop
 large-buffer-requires-2 c κs = search needs
 
 loop-holds : tie.Need-loop-holds Inv-loop μ-loop
-loop-holds c = (search needs, search needs, search needs, search needs, c .before .before .before .before .pre)
+loop-holds c = (search needs, search needs, search needs, search needs, tested-valid (c .before .before .before))
 
 slice-aggregate-take-input : tie.Need-slice-aggregate-take-input Inv-loop μ-loop
 slice-aggregate-take-input c = search needs
@@ -64,8 +76,8 @@ serve-chunk-requires c κs =
     let l = c .before .before .before .before .before .before .before .before in
     (search needs, (l .loop .inv .4, l .before .before .before .index-logics .ensures))
 
-returns : tie.Need-returns Inv-loop μ-loop
-returns c = search needs
+returns-2 : tie.Need-returns-2 Inv-loop μ-loop
+returns-2 c = search needs
 
 sub-turns : tie.Need-sub-turns Inv-loop μ-loop
 sub-turns c = search needs
@@ -78,10 +90,10 @@ loop-again c =
     let served = c .before .before .before .before .before .before in
     let taken = served .before .before .before .before .before .before in
     let v = taken .before .before .before .loop .inv in
-    (search needs, search needs, omega (arith, taken .take-input .kept, v), omega (arith, served .serve-chunk .kept, v), served .serve-chunk .ensures .1 .1 (both (taken .take-input .result .more) (served .serve-chunk .result .written) (not-false _ (c .if1 .left)) .1))
+    (search needs, search needs, omega (arith, taken .take-input .kept, v), omega (arith, served .serve-chunk .kept, v), served .serve-chunk .ensures .1 .1 (both (taken .take-input .result .more) (served .serve-chunk .result .written) (not-false _ (c .if2 .left)) .1))
 
-returns-2 : tie.Need-returns-2 Inv-loop μ-loop
-returns-2 c = search needs
+returns-3 : tie.Need-returns-3 Inv-loop μ-loop
+returns-3 c = search needs
 
 pub serve-all-spec : {M : Type 1} → statement M
 serve-all-spec =
@@ -89,6 +101,8 @@ serve-all-spec =
     (tie.spec
     Inv-loop
     μ-loop
+    is-valid-requires
+    returns
     index-logics-requires
     large-buffer-requires
     large-buffer-requires-2
@@ -100,8 +114,8 @@ serve-all-spec =
     slice-aggregate-serve-chunk-2
     slice-aggregate-serve-chunk-3
     serve-chunk-requires
-    returns
+    returns-2
     sub-turns
     loop-less
     loop-again
-    returns-2)
+    returns-3)
