@@ -10,7 +10,8 @@ use crate::text::Program;
 
 /// "intervals, tones | 256 each", "tone systems, logics | 32 each", "retunings |
 /// 128", "positions in one list | 60", "orders in all logics together | 512".
-const ROWS: usize = 256 + 256 + 32 + 32 + 128;
+const MOST: [usize; 5] = [256, 256, 32, 128, 32];
+const ROWS: usize = MOST[0] + MOST[1] + MOST[2] + MOST[3] + MOST[4];
 const TONES: usize = 32 * POSITIONS;
 const CHANGES_IN_ALL: usize = 128 * POSITIONS;
 const ORDERS: usize = 512;
@@ -48,11 +49,37 @@ impl Tables {
         has_sizes
             && has_room
             && rows.iter().take(row_count).all(|row| self.is_row(row))
+            && self.is_laid_out()
             && rows.iter().skip(row_count).all(|row| *row == UNUSED)
             && is_list(tones, tone_count, 1, |number| VALUES.contains(&number.into()))
             && is_list(changes, change_count, 2, is_sum)
             && orders.iter().take(order_count).all(|order| self.is_order(order))
             && orders.iter().skip(order_count).all(|order| *order == (0, 0))
+    }
+
+    /// No more declarations of a kind than allowed; and the positions and orders
+    /// of rows stand one row's after the other's, none left over.
+    fn is_laid_out(&self) -> bool {
+        let mut kinds = [0; 5];
+        let mut ends = [0; 3];
+        for &[form, _, _, from, to] in self.lists.rows.iter().take(self.used[0]) {
+            let (kind, list) = match u8::try_from(form) {
+                Ok(rows::INTERVAL) => (0, None),
+                Ok(rows::TONE) => (1, None),
+                Ok(rows::SYSTEM) => (2, Some(0)),
+                Ok(rows::TONES) => (3, Some(1)),
+                Ok(rows::LOGIC) => (4, Some(2)),
+                _ => (3, None),
+            };
+            kinds[kind] += 1;
+            let Some(list) = list else { continue };
+            if from != ends[list] {
+                return false;
+            }
+            ends[list] = to;
+        }
+        let counts = self.used.map(|count| count as i32);
+        kinds.iter().zip(MOST).all(|(count, most)| *count <= most) && counts[1..] == ends
     }
 
     fn is_row(&self, row: &Row) -> bool {
@@ -102,9 +129,8 @@ impl Tables {
 /// The used ones have a kind and a number in its range, 0 where the kind is 0;
 /// the others are zero.
 fn is_list(list: &[Pair], used: usize, last: u8, is_number: impl Fn(i32) -> bool) -> bool {
-    let is_pair = |(kind, number): &Pair| {
-        *kind <= last && is_number(*number) && (*kind != 0 || *number == 0)
-    };
+    let is_pair =
+        |(kind, number): &Pair| *kind <= last && is_number(*number) && (*kind != 0 || *number == 0);
     list.iter().take(used).all(is_pair) && list.iter().skip(used).all(|pair| *pair == (0, 0))
 }
 
@@ -153,6 +179,24 @@ mod tests {
         assert!(!tables.is_valid());
         tables.lists.changes[CHANGES_IN_ALL - 1].1 = 0;
         tables.lists.rows[4][4] = 3;
+        assert!(!tables.is_valid());
+    }
+
+    #[test]
+    fn a_logic_too_many_and_orders_of_two_logics_are_damage() {
+        let mut tables = Tables::of(&text::read(CASE_S.as_bytes()).unwrap());
+        let used = tables.used[0];
+        let empty = [i32::from(rows::LOGIC), 65, 0, 1, 1];
+        for row in &mut tables.lists.rows[used..used + 31] {
+            *row = empty;
+        }
+        tables.used[0] = used + 31;
+        assert!(tables.is_valid());
+        tables.lists.rows[used][3] = 0;
+        assert!(!tables.is_valid());
+        tables.lists.rows[used][3] = 1;
+        tables.lists.rows[used + 31] = empty;
+        tables.used[0] = used + 32;
         assert!(!tables.is_valid());
     }
 }
