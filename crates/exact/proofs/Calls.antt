@@ -2,8 +2,8 @@
 use mathlib.Core.Path.{_≡_, refl, sym, subst}
 use mathlib.Core.List.{List, [], _∷_, _++_}
 use mathlib.Core.Option.{Option}
-use Prim.Native.Nat.{ℕ, zero, suc, _*_, _^_}
-use lib.IntN.{ℤ, pos, _+ℤ_, _-ℤ_}
+use Prim.Native.Nat.{ℕ, zero, suc}
+use lib.IntN.{ℤ, _+ℤ_, _-ℤ_}
 use Rattle.integers.specs.Parts.{up, dn}
 use Rattle.integers.proofs.Signed.{signed, one, _⊕_, _⊖_, lin}
 use Rattle.cents.specs.Measure.{pitch440}

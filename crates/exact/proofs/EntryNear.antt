@@ -1,12 +1,12 @@
 -- An entry's pitch is near its exact value.
 use mathlib.Core.Path.{_≡_, refl, sym, _∙_, ap, ap₂}
-use mathlib.Core.List.{List, [], _∷_}
+use mathlib.Core.List.{[], _∷_}
 use Prim.Native.Nat.{ℕ, zero, suc, _+_, _*_, _^_, _≤_, _<_}
-use native.Mathlib.Nat.{mul-comm, pow-zero, zero-mul, mul-mul-mul-comm, mul-pos, one-le-pow, mul-le-mul-left, le-of-mul-le-mul-left, eq-of-mul-eq-mul-right, mul-assoc}
+use native.Mathlib.Nat.{mul-comm, pow-zero, zero-mul, mul-pos, one-le-pow, mul-le-mul-left, le-of-mul-le-mul-left, eq-of-mul-eq-mul-right}
 use native.Mathlib.Omega.{arith}
-use lib.IntN.{ℤ, pos, negsuc, natAbs, _+ℤ_, _-ℤ_, _*ℤ_}
+use lib.IntN.{ℤ, pos, negsuc, natAbs, _+ℤ_, _*ℤ_}
 use lib.Pow.{pow-add}
-use Rattle.integers.proofs.Powers.{Under, under-less, under-root, mul-pow, pow-mul, pow-swap}
+use Rattle.integers.proofs.Powers.{Under, mul-pow, pow-mul}
 use Rattle.integers.specs.Parts.{up, dn}
 use Rattle.integers.proofs.Difference.{Is, is-self, is-add, is-pos, is-scale, is-flip, is-mul}
 use Rattle.cents.specs.Measure.{measure}

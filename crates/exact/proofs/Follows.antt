@@ -8,7 +8,7 @@ use Rattle.integers.specs.Parts.{up}
 use Rattle.integers.specs.Floor.{floorDiv, floorMod}
 use Rattle.tuning.specs.declared.Amount.{Amount}
 use Rattle.tuning.specs.Scale.{Scale, Sound, muted, sounds}
-use Rattle.tuning.specs.Tuning.{Tuning, PeriodTo, fresh, onward, PositionTo, mute, move, setTo, Action, anchorTo, widthTo, periodTo, tonesTo, system, amounts, width, raised, toneAt, soundOf, apart, reach, anchoredBy, anchored, keysFrom, widenedBy, widened, newPeriod, newTone, newTones, done, startTones, start}
+use Rattle.tuning.specs.Tuning.{Tuning, PeriodTo, fresh, onward, PositionTo, mute, move, setTo, Action, anchorTo, widthTo, periodTo, tonesTo, system, amounts, raised, toneAt, soundOf, apart, reach, anchoredBy, anchored, keysFrom, widenedBy, widened, newPeriod, newTone, newTones, done, startTones, start}
 
 pub record Follows (A B : Scale) : Type 1 where
   pub tone : A .Tone → B .Tone → Type 0

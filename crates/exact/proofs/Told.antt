@@ -1,17 +1,14 @@
 -- The line that answers a frame of kind 02 tells the sound of the key: the frame is read back from its digits, and the pitch from its four bytes.
-use mathlib.Core.Path.{_≡_, refl, sym, ap, _∙_}
-use mathlib.Core.Bool.{Bool, true, false}
+use mathlib.Core.Path.{_≡_}
+use mathlib.Core.Bool.{true}
 use mathlib.Core.List.{List, [], _∷_}
 use mathlib.Core.Option.{some, Option·elim}
-use Prim.Native.Nat.{ℕ, _^_, _≤_, _<_}
+use Prim.Native.Nat.{ℕ, _≤_, _<_}
 use native.Mathlib.Omega.{arith}
 use borrow.Author.Tests.{le-ltb, le-leb}
 use lib.IntN.{ℤ}
-use Rattle.status.specs.Status.{done, keySilent}
 use Rattle.tuning.specs.Scale.{Sound, muted, sounds}
-use Rattle.tuning.specs.Tuning.{soundOf}
-use Rattle.tuning.specs.Desk.{cents}
-use Rattle.tuning.specs.State.{held, toneOf}
+use Rattle.tuning.specs.State.{toneOf}
 use Rattle.tuning.specs.Inner.{size}
 use Rattle.tuning.proofs.Valid.{valid-of}
 use Rattle.tuning.proofs.Tones.{sound-size}

@@ -10,4 +10,3 @@ pub mod Callable
 pub mod Ways
 pub mod Stays
 pub mod Kept
-pub mod CaseS

@@ -13,7 +13,7 @@ use Rattle.tuning.specs.Desk.{cents}
 use Rattle.tuning.specs.State.{meant}
 use Rattle.tables.specs.declared.Row.{Row}
 use Rattle.tables.specs.declared.Row.the-variants.{Unused, Interval, Tone, System, Retuning, Logic}
-use Rattle.tables.specs.Layout.{Tables, rowCount, rowOf, readAt, rowAt, tonesFrom, changesFrom}
+use Rattle.tables.specs.Layout.{Tables, rowCount, rowOf, readAt, rowAt, AsLogic, no-logic, a-logic, asLogic, tonesFrom, changesFrom}
 use Rattle.tables.specs.Values as values
 use Rattle.tables.specs.Values.{listed}
 use Rattle.protocol.specs.declared.Active.{Active}
@@ -35,13 +35,12 @@ actionAt t k = actionBy t (rowAt t k)
 
 -- ---- logics and their orders
 
+abbrev pub hasLetter : ℕ → AsLogic → Bool
+hasLetter letter no-logic = false
+hasLetter letter (a-logic c s from to) = eqb c letter
+
 abbrev pub isLogicOf : ℕ → Row → Bool
-isLogicOf letter Unused = false
-isLogicOf letter (Interval d) = false
-isLogicOf letter (Tone p) = false
-isLogicOf letter (System a P from to) = false
-isLogicOf letter (Retuning r from to) = false
-isLogicOf letter (Logic c s from to) = eqb c letter
+isLogicOf letter r = hasLetter letter (asLogic r)
 
 -- the first of n rows from row i on that is a logic with this letter
 unfoldable pub firstLogic : List ℤ → ℕ → ℕ → ℕ → Option ℕ
@@ -55,13 +54,12 @@ firstOrder letter [] calls = none
 firstOrder letter (c ∷ cs) [] = none
 firstOrder letter (c ∷ cs) (k ∷ ks) = elim (eqb c letter) [ true ↦ some k | false ↦ firstOrder letter cs ks ]
 
+abbrev pub orderIn : Tables → ℕ → AsLogic → Option ℕ
+orderIn t letter no-logic = none
+orderIn t letter (a-logic c s from to) = firstOrder letter (slice from to (t .letters)) (slice from to (t .calls))
+
 abbrev pub orderBy : Tables → ℕ → Row → Option ℕ
-orderBy t letter Unused = none
-orderBy t letter (Interval d) = none
-orderBy t letter (Tone p) = none
-orderBy t letter (System a P from to) = none
-orderBy t letter (Retuning r from to) = none
-orderBy t letter (Logic c s from to) = firstOrder letter (slice from to (t .letters)) (slice from to (t .calls))
+orderBy t letter r = orderIn t letter (asLogic r)
 
 abbrev pub orderOf : Tables → ℕ → Active → Option ℕ
 orderOf t letter active.Nothing = none
@@ -80,13 +78,12 @@ startCalls zero = []
 startCalls (suc k) = k ∷ []
 
 -- a called declaration: "a called logic becomes active, its start called"; a tone system or retuning leaves the active logic
+abbrev pub callsAs : Active → ℕ → AsLogic → Pressed
+callsAs a k no-logic = record { bound = true; active = a; calls = k ∷ [] }
+callsAs a k (a-logic c s from to) = record { bound = true; active = active.Logic k; calls = startCalls s }
+
 abbrev pub callsBy : Active → ℕ → Row → Pressed
-callsBy a k Unused = record { bound = true; active = a; calls = k ∷ [] }
-callsBy a k (Interval d) = record { bound = true; active = a; calls = k ∷ [] }
-callsBy a k (Tone p) = record { bound = true; active = a; calls = k ∷ [] }
-callsBy a k (System b P from to) = record { bound = true; active = a; calls = k ∷ [] }
-callsBy a k (Retuning r from to) = record { bound = true; active = a; calls = k ∷ [] }
-callsBy a k (Logic c s from to) = record { bound = true; active = active.Logic k; calls = startCalls s }
+callsBy a k r = callsAs a k (asLogic r)
 
 -- "letter bound to nothing"
 abbrev pub unlessUnbound : Tables → Active → Option ℕ → Pressed

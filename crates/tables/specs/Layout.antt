@@ -302,6 +302,19 @@ readAt rows i =
 abbrev pub rowAt : Tables → ℕ → Row
 rowAt t i = rowOf (readAt (t .rows) i)
 
+-- a row as letters see it: a logic, with its letter, its start and from where to where its orders stand, or none
+pub data AsLogic : Type 0 where
+  no-logic : AsLogic
+  a-logic : ℕ → ℕ → ℕ → ℕ → AsLogic
+
+abbrev pub asLogic : Row → AsLogic
+asLogic Unused = no-logic
+asLogic (Interval d) = no-logic
+asLogic (Tone p) = no-logic
+asLogic (System a P from to) = no-logic
+asLogic (Retuning r from to) = no-logic
+asLogic (Logic c s from to) = a-logic c s from to
+
 -- ---- tones and changes
 
 -- a tone: whether it sounds, and its pitch; a muted one is zeros
