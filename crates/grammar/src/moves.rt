@@ -13,7 +13,7 @@ const NODES: u8 = 67;
 
 const TERMINALS: u8 = 26;
 
-// For each node (row) and terminal (column) the number of the next node, 0 where the symbol is not allowed.
+// For each node (row) and terminal (column) the number of the next node, 0 where the symbol is not allowed. `tools/moves` prints both tables from the rules.
 // A constant is built anew wherever it is read: who reads many entries keeps the two tables in locals, and lends them.
 pub const NEXT: [u8; 1742] = *b"\
     \x02\x0c\x13\x1e\x38\x00\x00\x00\x00\x00\x00\x00\x00\x00\x00\x00\x00\x00\x00\x00\x00\x00\x00\x00\x01\x00\
