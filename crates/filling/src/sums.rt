@@ -1,6 +1,7 @@
 // "Sequences add factor times measure": the sums of terms, over items.
 use grammar::Item;
 use grammar::items;
+use limits::FARTHEST_TONE;
 ghost use mathlib.Core.Path.{_≡_};
 ghost use mathlib.Core.List.{[]};
 ghost use Prim.Native.Nat.{_≤_};
@@ -14,9 +15,9 @@ ghost use Rattle.filling.specs.Tables.{sumOf, capped};
 ghost use Rattle.filling.specs.Inner.{valueIn, FitValue, FitTerm, Summable};
 
 // Twice the range of tones, and 1 more.
-const LOWEST: i64 = -200_000_001;
+const LOWEST: i64 = -HIGHEST;
 
-const HIGHEST: i64 = 200_000_001;
+const HIGHEST: i64 = 2 * FARTHEST_TONE as i64 + 1;
 
 // The value of a declaration, so many times.
 fn multiply(values: &[i64], k: usize, times: i64) -> i64

@@ -13,6 +13,20 @@ use crate::NumberUse;
 use crate::Outcome;
 use crate::Placed;
 use crate::Progress;
+use limits::LEAST_DEGREE;
+use limits::LEAST_DIVISOR;
+use limits::MOST_AMOUNT;
+use limits::MOST_ANCHOR;
+use limits::MOST_DEGREE;
+use limits::MOST_FACTOR;
+use limits::MOST_INTERVALS;
+use limits::MOST_LOGICS;
+use limits::MOST_ORDERS;
+use limits::MOST_POSITIONS;
+use limits::MOST_RETUNINGS;
+use limits::MOST_SYSTEMS;
+use limits::MOST_TERMS;
+use limits::MOST_TONE_NAMES;
 use numerals::Amount;
 use symbols::spelling;
 use symbols::spelling::Letter;
@@ -25,28 +39,18 @@ ghost use Rattle.grammar.specs.Terminals.{letterAt};
 ghost use Rattle.grammar.specs.Reading.{allowed, judged, limit, soFar, oneMore, heldFirst, judgedFirst, noTerm, nextTerm, counted, signed, termed, positioned, named, marked, lettered, used, numbered, orderCounted, acted};
 ghost use Rattle.grammar.specs.Inner.{roomForTerm};
 
-const MOST_TERMS: u32 = 16;
-
-const MOST_POSITIONS: u8 = 60;
-
-const MOST_DEGREE: u32 = 65535;
-
-const MOST_FACTOR: u32 = 999;
-
-const MOST_ANCHOR_KEY: u32 = 127;
-
-const MOST_IN_RETUNING: u32 = 9999;
+const MOST_ANCHOR_KEY: u32 = MOST_ANCHOR as u32;
 
 fn limit_of(kind: Kind) -> u16
     ensures { λ r. ⌜ r ≡ limit kind ⌝ }
 {
     match kind {
-        Kind::Interval => 256,
-        Kind::Tone => 256,
-        Kind::System => 32,
-        Kind::Retuning => 128,
-        Kind::Logic => 32,
-        Kind::Order => 512,
+        Kind::Interval => MOST_INTERVALS,
+        Kind::Tone => MOST_TONE_NAMES,
+        Kind::System => MOST_SYSTEMS,
+        Kind::Retuning => MOST_RETUNINGS,
+        Kind::Logic => MOST_LOGICS,
+        Kind::Order => MOST_ORDERS,
     }
 }
 
@@ -249,20 +253,20 @@ fn range_of(purpose: NumberUse) -> NumberRange
     match purpose {
         NumberUse::RatioFirst => NumberRange::Decimal,
         NumberUse::RatioSecond => NumberRange::Decimal,
-        NumberUse::Degree => NumberRange::Whole(1, MOST_DEGREE),
+        NumberUse::Degree => NumberRange::Whole(LEAST_DEGREE, MOST_DEGREE),
         NumberUse::Radicand => NumberRange::Decimal,
         NumberUse::FirstFactor => NumberRange::Whole(0, MOST_FACTOR),
         NumberUse::Factor => NumberRange::Whole(0, MOST_FACTOR),
         NumberUse::Frequency => NumberRange::Decimal,
         NumberUse::AnchorKey => NumberRange::Whole(0, MOST_ANCHOR_KEY),
-        NumberUse::AnchorTo => NumberRange::Whole(0, MOST_IN_RETUNING),
-        NumberUse::AnchorUp => NumberRange::Whole(0, MOST_IN_RETUNING),
-        NumberUse::AnchorDown => NumberRange::Whole(0, MOST_IN_RETUNING),
-        NumberUse::WidthTo => NumberRange::Whole(0, MOST_IN_RETUNING),
-        NumberUse::WidthUp => NumberRange::Whole(0, MOST_IN_RETUNING),
-        NumberUse::WidthDown => NumberRange::Whole(0, MOST_IN_RETUNING),
-        NumberUse::WidthTimes => NumberRange::Whole(0, MOST_IN_RETUNING),
-        NumberUse::WidthOver => NumberRange::Whole(1, MOST_IN_RETUNING),
+        NumberUse::AnchorTo => NumberRange::Whole(0, MOST_AMOUNT),
+        NumberUse::AnchorUp => NumberRange::Whole(0, MOST_AMOUNT),
+        NumberUse::AnchorDown => NumberRange::Whole(0, MOST_AMOUNT),
+        NumberUse::WidthTo => NumberRange::Whole(0, MOST_AMOUNT),
+        NumberUse::WidthUp => NumberRange::Whole(0, MOST_AMOUNT),
+        NumberUse::WidthDown => NumberRange::Whole(0, MOST_AMOUNT),
+        NumberUse::WidthTimes => NumberRange::Whole(0, MOST_AMOUNT),
+        NumberUse::WidthOver => NumberRange::Whole(LEAST_DIVISOR, MOST_AMOUNT),
     }
 }
 

@@ -10,6 +10,7 @@ use crate::items;
 use crate::moves;
 use crate::moves::Move;
 use crate::terminals;
+use limits::MOST_BYTES;
 use symbols::Symbol;
 use symbols::spelling;
 use symbols::spelling::Letter;
@@ -23,8 +24,6 @@ ghost use Rattle.grammar.specs.Reading.{atNode, thenAt, notAllowed, step
 ghost use Rattle.grammar.specs.Moves.{Moves};
 ghost use Rattle.grammar.specs.Items.{holding, itemSlots};
 ghost use Rattle.grammar.specs.Inner.{roomForTerm};
-
-const MOST_BYTES: usize = 32768;
 
 // The node at which a text is complete.
 const FINISH: u8 = 1;

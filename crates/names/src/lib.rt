@@ -2,6 +2,7 @@
 use grammar::Item;
 use grammar::Kind;
 use grammar::items;
+use limits::MOST_DECLARATIONS;
 use status::DONE;
 use status::NAME_NOT_DECLARED;
 use status::NAME_TWICE;
@@ -38,7 +39,7 @@ const MARK_ROOM: u32 = TAG_ROOM * KIND_ROOM;
 const BUCKETS: usize = 1024;
 
 // How many declarations a text may have.
-const MOST_DECLARATIONS: usize = 704;
+const DECLARATIONS: usize = MOST_DECLARATIONS;
 
 // The row of a declaration that was looked for.
 pub enum Found {
@@ -316,7 +317,7 @@ pub fn resolve_names(
     ensures { λ is r. ⌜ BothPasses (now (text .entry)) is (now (items .entry)) (now (declared .entry)) (now (starts .entry)) r (now (items .exit)) (now (declared .exit)) (now (starts .exit)) ⌝ }
 {
     let mut heads = [0u16; BUCKETS];
-    let mut links = [0u16; MOST_DECLARATIONS];
+    let mut links = [0u16; DECLARATIONS];
     let first = declare_all(text, items, count, declared, starts, &mut heads, &mut links);
     if first.number != DONE {
         return first;

@@ -1,4 +1,7 @@
 // The values of numbers.
+use limits::LEAST_PART;
+use limits::MOST_PART;
+use limits::MOST_PLACES;
 use symbols::bytes;
 ghost use mathlib.Core.Path.{_≡_};
 ghost use Prim.Native.Nat.{ℕ, _-_, _≤_, _<_, _^_, min};
@@ -18,11 +21,9 @@ const CAP: u64 = 4294967296;
 // In ten-thousandths: 1, 0.0001 and 429496.7295.
 const ONE: u64 = 10000;
 
-const LEAST: u64 = 1;
+const LEAST: u64 = LEAST_PART as u64;
 
-const GREATEST: u64 = 4294967295;
-
-const MOST_PLACES: usize = 4;
+const GREATEST: u64 = MOST_PART as u64;
 
 // The number from `start` to `end` in ten-thousandths: a ratio part, a radicand or a frequency.
 pub fn read_decimal(text: &[u8], start: usize, end: usize) -> Amount

@@ -6,21 +6,26 @@ pub mod encode;
 use cents::Interval;
 use cents::KeyNumber;
 use cents::Pitch;
+use limits::MOST_DECLARATIONS;
+use limits::MOST_ORDERS;
+use limits::MOST_POSITIONS;
+use limits::MOST_RETUNINGS;
+use limits::MOST_SYSTEMS;
 use tuning::Retuning;
 ghost use mathlib.Core.Path.{_≡_};
 ghost use lib.ListN.{length};
 ghost use Rattle.tables.specs.Layout.{tablesIn, fullSize, countsSize, countsOf};
 
 // Full sizes: how many rows, tones, changes and orders there is room for, and how many numbers a row and how many codes an order has.
-pub const ROWS: usize = 704;
+pub const ROWS: usize = MOST_DECLARATIONS;
 
 pub const ROW_WIDTH: usize = 5;
 
-pub const TONES: usize = 1_920;
+pub const TONES: usize = MOST_SYSTEMS as usize * MOST_POSITIONS as usize;
 
-pub const CHANGES: usize = 7_680;
+pub const CHANGES: usize = MOST_RETUNINGS as usize * MOST_POSITIONS as usize;
 
-pub const ORDERS: usize = 512;
+pub const ORDERS: usize = MOST_ORDERS as usize;
 
 pub const ORDER_WIDTH: usize = 2;
 

@@ -14,6 +14,8 @@ use crate::ToneChanges;
 use crate::is_period;
 use cents::Interval;
 use cents::KeyNumber;
+use limits::MOST_ANCHOR;
+use limits::MOST_POSITIONS;
 ghost use mathlib.Core.Path.{_≡_};
 ghost use mathlib.Core.Bool.{true};
 ghost use Prim.Native.Nat.{_≤_, _<_, _+_};
@@ -24,9 +26,9 @@ ghost use Rattle.tuning.specs.Desk.{cents};
 ghost use Rattle.tuning.specs.State.{heard, held, toneOf, coded, validState, replied, periodMeant, toneMeant, tonesMeant, meant};
 ghost use Rattle.tuning.specs.Inner.{size, reachOf, reachSize, allModest, modestChange, modestPeriod, modestRetuning};
 
-const HIGHEST_KEY: i32 = 127;
+const HIGHEST_KEY: i32 = MOST_ANCHOR as i32;
 
-const WIDEST: i32 = 60;
+const WIDEST: i32 = MOST_POSITIONS as i32;
 
 fn operate(operator: Operator, old: u8, n: u16) -> i32
     ensures { λ r. ⌜ r ≡ operated operator old n ⌝ }

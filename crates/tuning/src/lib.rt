@@ -5,6 +5,10 @@ use cents::Interval;
 use cents::KeyNumber;
 use cents::KeySteps;
 use cents::Pitch;
+use limits::FARTHEST_TONE;
+use limits::LONGEST_PERIOD;
+use limits::MOST_ANCHOR;
+use limits::MOST_POSITIONS;
 ghost use mathlib.Core.Path.{_≡_};
 ghost use mathlib.Core.Bool.{true, not};
 ghost use mathlib.Core.List.{map};
@@ -17,15 +21,7 @@ ghost use Rattle.tuning.specs.State.{heard, heardAt, held, toneOf, coded
 ghost use Rattle.tuning.specs.Inner.{placeOf, size};
 
 // How many positions a state has room for, and the width that takes them all.
-pub const PLACES: usize = 60;
-
-const WIDEST: u8 = 60;
-
-const HIGHEST_KEY: u8 = 127;
-
-const LONGEST_PERIOD: i32 = 12_000_000;
-
-const FARTHEST_TONE: i32 = 100_000_000;
+pub const PLACES: usize = MOST_POSITIONS as usize;
 
 // The start: its anchor, its width, so many tones, the pitch of the first, an octave and its twelfth part.
 const START_KEY: u8 = 60;
@@ -234,13 +230,13 @@ impl State {
     pub fn is_valid(self) -> bool
         ensures { λ r. ⌜ r ≡ validState self ⌝ }
     {
-        if HIGHEST_KEY < self.anchor.0 {
+        if MOST_ANCHOR < self.anchor.0 {
             return false;
         }
         if self.width < 1 {
             return false;
         }
-        if WIDEST < self.width {
+        if MOST_POSITIONS < self.width {
             return false;
         }
         let period = self.period;

@@ -1,5 +1,16 @@
 // Whether tables are valid. It is tested at every frame: long runs of zeros go a block at a time. Within a block there is no way out, so that its
 // numbers go many at once.
+use limits::FARTHEST_TONE;
+use limits::FIRST_LETTER;
+use limits::LAST_LETTER;
+use limits::LONGEST_PERIOD;
+use limits::MOST_AMOUNT;
+use limits::MOST_ANCHOR;
+use limits::MOST_INTERVALS;
+use limits::MOST_LOGICS;
+use limits::MOST_RETUNINGS;
+use limits::MOST_SYSTEMS;
+use limits::MOST_TONE_NAMES;
 use tables::ANCHOR_FORM;
 use tables::CHANGES;
 use tables::CHANGES_AT;
@@ -44,32 +55,27 @@ ghost use Rattle.tables.specs.Values.{Slices};
 ghost use Rattle.validity.specs.Valid.{countsRight, isSum, noPart, kinds, kindsRight, ends, endsRight, allZero, allNought, validTables};
 ghost use Rattle.validity.specs.Inner.{isZero, isAmount, isPartAt, isForm, isStartCode, fastRow, hasNaturals, isValue, valueRight, kindsWith, others, kindsAmong, endsWith, fastRows, fastOrders, fastEach, fastList};
 
-const FARTHEST_TONE: i32 = 100_000_000;
+const HIGHEST_KEY: i32 = MOST_ANCHOR as i32;
 
-const LONGEST_PERIOD: i32 = 12_000_000;
+const FARTHEST_SUM: i32 = 2 * FARTHEST_TONE + 1;
 
-const HIGHEST_KEY: i32 = 127;
+const HIGHEST_AMOUNT: i32 = MOST_AMOUNT as i32;
 
-const FARTHEST_SUM: i32 = 200_000_001;
-
-const MOST_AMOUNT: i32 = 9_999;
-
-const MOST_INTERVALS: u32 = 256;
-
-const MOST_TONES: u32 = 256;
-
-const MOST_SYSTEMS: u32 = 32;
-
-const MOST_RETUNINGS: u32 = 128;
-
-const MOST_LOGICS: u32 = 32;
+// How many declarations of each kind there may be.
+const FEW: Kinds = Kinds {
+    intervals: MOST_INTERVALS as u32,
+    tones: MOST_TONE_NAMES as u32,
+    systems: MOST_SYSTEMS as u32,
+    retunings: MOST_RETUNINGS as u32,
+    logics: MOST_LOGICS as u32,
+};
 
 // So many zeros are tested before there is a way out.
 const BLOCK: usize = 256;
 
-const LETTER_A: u16 = 65;
+const LETTER_A: u16 = FIRST_LETTER as u16;
 
-const LETTER_Z: u16 = 90;
+const LETTER_Z: u16 = LAST_LETTER as u16;
 
 // How many declarations there are of each kind.
 struct Kinds {
@@ -120,11 +126,11 @@ impl Kinds {
     fn are_few(self) -> bool
         ensures { λ r. ⌜ r ≡ kindsRight self ⌝ }
     {
-        (self.intervals <= MOST_INTERVALS)
-            & (self.tones <= MOST_TONES)
-            & (self.systems <= MOST_SYSTEMS)
-            & (self.retunings <= MOST_RETUNINGS)
-            & (self.logics <= MOST_LOGICS)
+        (self.intervals <= FEW.intervals)
+            & (self.tones <= FEW.tones)
+            & (self.systems <= FEW.systems)
+            & (self.retunings <= FEW.retunings)
+            & (self.logics <= FEW.logics)
     }
 }
 
@@ -191,7 +197,7 @@ fn is_amount(last: u32, code: i32, n: i32) -> bool
     ensures { λ r. ⌜ r ≡ isAmount last code n ⌝ }
 {
     let known = is_between(KEPT_CODE as i32, last as i32, code);
-    let whole = is_between(0, MOST_AMOUNT, n);
+    let whole = is_between(0, HIGHEST_AMOUNT, n);
     let bare = !(code <= KEPT_CODE as i32) | (n <= 0);
     let divided = !(DIVIDE_CODE as i32 <= code) | (1 <= n);
     known & whole & bare & divided

@@ -3,6 +3,8 @@ use crate::FACTORS;
 use crate::PER_DECLARATION;
 use crate::PERIOD_RANGE;
 use crate::Value;
+use limits::FARTHEST_TONE;
+use limits::LONGEST_PERIOD;
 ghost use mathlib.Core.Path.{_≡_};
 ghost use Prim.Native.Nat.{_+_, _≤_, _<_};
 ghost use lib.IntN.{pos, natAbs, _+ℤ_, _*ℤ_};
@@ -11,11 +13,11 @@ ghost use Rattle.values.specs.Values.{Range, farthestTone, within, range
 ghost use Rattle.values.specs.Rows.{perDeclaration, termOf, rangeOf};
 ghost use Rattle.values.specs.Inner.{size, greatestFactor, largestMeasure, largestTerm, largestSum};
 
-const LOWEST_TONE: i64 = -100_000_000;
+const LOWEST_TONE: i64 = -HIGHEST_TONE;
 
-pub const HIGHEST_TONE: i64 = 100_000_000;
+pub const HIGHEST_TONE: i64 = FARTHEST_TONE as i64;
 
-const LONGEST_PERIOD: i64 = 12_000_000;
+const HIGHEST_PERIOD: i64 = LONGEST_PERIOD as i64;
 
 // Whether it is in the range of intervals and tones.
 fn fits_tone(z: i64) -> bool
@@ -29,7 +31,7 @@ pub fn fits_range(range: u8, z: i64) -> bool
     ensures { λ r. ⌜ r ≡ within (rangeOf range) z ⌝ }
 {
     if range == PERIOD_RANGE {
-        return 0 <= z && z <= LONGEST_PERIOD;
+        return 0 <= z && z <= HIGHEST_PERIOD;
     }
     fits_tone(z)
 }
