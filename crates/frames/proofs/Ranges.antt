@@ -9,7 +9,7 @@ use lib.Dec.{eqb}
 use Rattle.frames.specs.declared.Frame.{Frame}
 use Rattle.frames.specs.declared.Frame.the-variants.{Bad, Letter, Key, Dump}
 use Rattle.hexadecimal.specs.Digits.{bytesOf}
-use Rattle.frames.specs.Frames.{firstHouse, secondHouse, isHouse, letterKind, keyKind, dumpKind, firstLetter, lastLetter, isLetter, lastKey, isKey, dumpData, letterFrame, keyFrame, dumpFrame, kindFrame, framed, frameOf, inside}
+use Rattle.frames.specs.Frames.{firstHouse, secondHouse, isHouse, letterKind, keyKind, dumpKind, firstLetter, lastLetter, isCapital, lastKey, isKey, dumpData, letterFrame, keyFrame, dumpFrame, kindFrame, framed, frameOf, inside}
 use Rattle.ascii.proofs.Between.{each, in-range}
 
 -- ---- for callers: what `inside` says of a frame that has come
@@ -17,7 +17,7 @@ use Rattle.ascii.proofs.Between.{each, in-range}
 pub letter-ranges : (house letter : ℕ) → inside (Letter house letter) ≡ true
     → (firstHouse ≤ house) × (house ≤ secondHouse) × (firstLetter ≤ letter) × (letter ≤ lastLetter)
 letter-ranges house letter e =
-    let k = each (isHouse house) (isLetter letter) e in
+    let k = each (isHouse house) (isCapital letter) e in
     let h = in-range firstHouse secondHouse house (k .0) in
     let l = in-range firstLetter lastLetter letter (k .1) in
     (h .0, h .1, l .0, l .1)
@@ -44,7 +44,7 @@ inside-either false f g h k = k
 module _ (house : ℕ) (h : isHouse house ≡ true) where
   letter-inside : (rest : List ℕ) → inside (letterFrame house rest) ≡ true
   letter-inside [] = refl
-  letter-inside (b ∷ []) = inside-if (isLetter b) (Letter house b) (λ e. rw (h, e))
+  letter-inside (b ∷ []) = inside-if (isCapital b) (Letter house b) (λ e. rw (h, e))
   letter-inside (b ∷ c ∷ more) = refl
 
   key-inside : (rest : List ℕ) → inside (keyFrame house rest) ≡ true

@@ -38,15 +38,15 @@ lastKey = 0x7F
 abbrev pub dumpData : ℕ
 dumpData = 0x00
 
-abbrev pub isLetter : ℕ → Bool
-isLetter b = between firstLetter lastLetter b
+abbrev pub isCapital : ℕ → Bool
+isCapital b = between firstLetter lastLetter b
 
 abbrev pub isKey : ℕ → Bool
 isKey b = leb b lastKey
 
 -- what stands after house and kind, a case for each kind
 abbrev pub letterFrame : ℕ → List ℕ → Frame
-letterFrame house (b ∷ []) = cond (isLetter b) (Letter house b) Bad
+letterFrame house (b ∷ []) = cond (isCapital b) (Letter house b) Bad
 letterFrame house [] = Bad
 letterFrame house (b ∷ c ∷ more) = Bad
 
@@ -80,7 +80,7 @@ frameOf line = Option·elim (bytesOf line) Bad framed
 -- ---- what holds of every frame that a line is: its house, its letter or its key lies in its range
 abbrev pub inside : Frame → Bool
 inside Bad = true
-inside (Letter house letter) = isHouse house && isLetter letter
+inside (Letter house letter) = isHouse house && isCapital letter
 inside (Key house key) = isHouse house && isKey key
 inside (Dump house) = isHouse house
 

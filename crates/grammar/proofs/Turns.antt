@@ -14,8 +14,8 @@ use lib.Seq.{slice, sets, append-snoc}
 use Rattle.status.specs.Status.{done, textTooLong, noSymbol, symbolNotAllowed, itemTooMany, numberOutOfRange}
 use Rattle.symbols.specs.declared.Symbol.{Symbol}
 use Rattle.symbols.specs.declared.Symbol.the-variants.{Bad, End, Name as NameSymbol, Number as NumberSymbol, Mark as MarkSymbol}
-use Rattle.numerals.specs.declared.Amount.{Amount}
-use Rattle.numerals.specs.declared.Amount.the-variants.{Outside, Value}
+use Rattle.numerals.specs.declared.WrittenNumber.{WrittenNumber}
+use Rattle.numerals.specs.declared.WrittenNumber.the-variants.{Outside, Value}
 use Rattle.symbols.specs.Symbols.{nextSymbol, after, symbolsFrom, symbols}
 use Rattle.symbols.proofs.Progress.{Placed as Within, next-placed, after-within, goingOn, symbols-next}
 use Rattle.grammar.specs.declared.Kind.{Kind}
@@ -38,7 +38,7 @@ use Rattle.grammar.specs.declared.reading.Reading.{Reading}
 use Rattle.grammar.specs.Syntax.{Finish, end, Rule, rules}
 use Rattle.grammar.specs.Terminals.{terminalNumber, nodeNumber, nodeAt, picked, terminalOf, startOf, endOf, placed, isNothing}
 use Rattle.grammar.specs.Moves.{moveBy, moveOf}
-use Rattle.grammar.specs.Reading.{Read, limit, mostTerms, mostPositions, soFar, oneMore, withCounts, withPositions, noTerm, nextTerm, unlessFull, counted, positioned, judged, used, ifAllowed, numbered, acted, thenAt, notAllowed, byRule, stepped, begun, with, refusedAt, isFinished, readFrom, mostBytes, readItems, answered}
+use Rattle.grammar.specs.Reading.{Read, limit, mostTerms, mostPositions, soFar, oneMore, withCounts, withPositions, noTerm, nextTerm, unlessFull, counted, positioned, judged, used, ifAllowed, numbered, acted, thenAt, notAllowed, byRule, stepped, begun, with, readWhole, refusedAt, isFinished, readFrom, mostBytes, readItems, answered}
 use Rattle.grammar.specs.Items.{row, rowSize, rows, holding, itemSlots}
 use Rattle.grammar.proofs.Diagrams.{none-at-nothing, finish-at-end, passes-to-finish}
 use Rattle.grammar.proofs.Rows.{holding-more, length-holding}
@@ -107,7 +107,7 @@ used-grown s WidthOver v x = omega arith
 numbered-grown : (text : List ℕ) (s : Progress) (u : NumberUse) (a b : ℕ) (x : Placed) → Grown (s .term .before) (numbered text s u a b x)
 numbered-grown text s u a b x = go (judged u (slice a b text))
   where
-    go : (v : Amount) → Grown (s .term .before) (ifAllowed s u a x v)
+    go : (v : WrittenNumber) → Grown (s .term .before) (ifAllowed s u a x v)
     go Outside = inl refl
     go (Value v) = used-grown s u v x
 
@@ -220,7 +220,7 @@ end-after (MarkSymbol k a b) q = cc
 -- what is read after an outcome
 abbrev turned : List ℕ → Outcome → List Symbol → Read
 turned text (Refuse n p) ys = refusedAt n p
-turned text (Go s) ys = elim (isFinished s) [ true ↦ refusedAt done 0 | false ↦ readFrom text s ys ]
+turned text (Go s) ys = elim (isFinished s) [ true ↦ readWhole | false ↦ readFrom text s ys ]
 turned text (Give s i) ys = with i (readFrom text s ys)
 
 turned-is : (text : List ℕ) (s : Progress) (y : Symbol) (ys : List Symbol) → readFrom text s (y ∷ ys) ≡ turned text (stepped text s (placed text y)) ys
@@ -231,7 +231,7 @@ turned-is text s y ys = go (stepped text s (placed text y))
         → _≡_ {A = Read}
         (elim o [
           | Refuse n p ↦ refusedAt n p
-          | Go s′ ↦ elim (isFinished s′) [ true ↦ refusedAt done 0 | false ↦ readFrom text s′ ys ]
+          | Go s′ ↦ elim (isFinished s′) [ true ↦ readWhole | false ↦ readFrom text s′ ys ]
           | Give s′ i ↦ with i (readFrom text s′ ys)
         ])
         (turned text o ys)

@@ -8,8 +8,8 @@ use lib.ListN.{length}
 use lib.Seq.{slice}
 use Rattle.status.specs.Status.{done, textTooLong, noSymbol, symbolNotAllowed, numberOutOfRange, itemTooMany}
 use Rattle.numerals.specs.Numbers.{decimalOf, wholeOf}
-use Rattle.numerals.specs.declared.Amount.{Amount}
-use Rattle.numerals.specs.declared.Amount.the-variants.{Outside, Value}
+use Rattle.numerals.specs.declared.WrittenNumber.{WrittenNumber}
+use Rattle.numerals.specs.declared.WrittenNumber.the-variants.{Outside, Value}
 use Rattle.grammar.specs.declared.Kind.{Kind}
 use Rattle.grammar.specs.declared.Kind.the-variants.{Interval, Tone, System, Retuning, Logic, Order as AnOrder}
 use Rattle.grammar.specs.declared.NumberUse.{NumberUse}
@@ -64,11 +64,11 @@ allowed WidthTimes = Whole 0 mostAmount
 allowed WidthOver = Whole leastDivisor mostAmount
 
 -- the value of the number that these bytes write, if it is in a range
-abbrev pub within : NumberRange → List ℕ → Amount
+abbrev pub within : NumberRange → List ℕ → WrittenNumber
 within Decimal bytes = decimalOf bytes
 within (Whole low high) bytes = wholeOf low high bytes
 
-abbrev pub judged : NumberUse → List ℕ → Amount
+abbrev pub judged : NumberUse → List ℕ → WrittenNumber
 judged u bytes = within (allowed u) bytes
 
 -- "intervals, tones: 256 each; tone systems, logics: 32 each; retunings: 128; orders in all logics together: 512"
@@ -201,7 +201,7 @@ used s WidthTimes v x = Give s (item.WidthTimes v)
 used s WidthOver v x = Give s (item.WidthOver v)
 
 -- "number out of range, too many places, or a point where whole is asked; its place": the number from `start` to `end`
-abbrev pub ifAllowed : Progress → NumberUse → ℕ → Placed → Amount → Outcome
+abbrev pub ifAllowed : Progress → NumberUse → ℕ → Placed → WrittenNumber → Outcome
 ifAllowed s u start x Outside = Refuse numberOutOfRange start
 ifAllowed s u start x (Value v) = used s u v x
 
@@ -263,16 +263,20 @@ with i r = record { items = i ∷ r .items; number = r .number; place = r .place
 abbrev pub refusedAt : ℕ → ℕ → Read
 refusedAt n p = record { items = []; number = n; place = p }
 
+-- nothing is left to read
+abbrev pub readWhole : Read
+readWhole = record { items = []; number = done; place = 0 }
+
 abbrev pub isFinished : Progress → Bool
 isFinished s = eqb (s .node) (nodeNumber Finish)
 
 -- the rest of the symbols, of which the last is the text's end, or a place where no symbol begins
 unfoldable pub readFrom : List ℕ → Progress → List Symbol → Read
-readFrom text s [] = refusedAt done 0
+readFrom text s [] = readWhole
 readFrom text s (x ∷ xs) =
     elim (stepped text s (placed text x)) [
       | Refuse n p ↦ refusedAt n p
-      | Go s′ ↦ elim (isFinished s′) [ true ↦ refusedAt done 0 | false ↦ readFrom text s′ xs ]
+      | Go s′ ↦ elim (isFinished s′) [ true ↦ readWhole | false ↦ readFrom text s′ xs ]
       | Give s′ i ↦ with i (readFrom text s′ xs)
     ]
 

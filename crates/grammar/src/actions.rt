@@ -27,7 +27,7 @@ use limits::MOST_RETUNINGS;
 use limits::MOST_SYSTEMS;
 use limits::MOST_TERMS;
 use limits::MOST_TONE_NAMES;
-use numerals::Amount;
+use numerals::WrittenNumber;
 use symbols::spelling;
 use symbols::spelling::Letter;
 ghost use mathlib.Core.Path.{_≡_};
@@ -271,7 +271,7 @@ fn range_of(purpose: NumberUse) -> NumberRange
 }
 
 // The number from `start` to `end`, where its use allows it.
-fn judge(text: &[u8], purpose: NumberUse, start: usize, end: usize) -> Amount
+fn judge(text: &[u8], purpose: NumberUse, start: usize, end: usize) -> WrittenNumber
     ensures { λ r. ⌜ r ≡ judged purpose (slice start end (now (text .entry))) ⌝ }
 {
     match range_of(purpose) {
@@ -316,7 +316,7 @@ fn read_number(
     requires { ⌜ roomForTerm s ⌝ }
     ensures { λ r. ⌜ r ≡ numbered (now (text .entry)) s purpose start end x ⌝ }
 {
-    let Amount::Value(value) = judge(text, purpose, start as usize, end as usize) else {
+    let WrittenNumber::Value(value) = judge(text, purpose, start as usize, end as usize) else {
         return Outcome::Refuse {
             number: status::NUMBER_OUT_OF_RANGE,
             place: start,

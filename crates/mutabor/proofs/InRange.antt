@@ -12,7 +12,7 @@ use Rattle.tuning.specs.declared.Operator.the-variants.{Plus, Minus, Times, Div
 use Rattle.tuning.specs.declared.Amount.{Amount}
 use Rattle.tuning.specs.declared.Amount.the-variants.{Kept, Absolute, Relative}
 use Rattle.tables.specs.Layout.{farthestSum}
-use Rattle.validity.specs.Valid.{isSum, isAnchorAmount, isWidthAmount, isLetter, isPart}
+use Rattle.validity.specs.Valid.{isSum, isAnchorAmount, isWidthAmount, isCapital, isPart}
 use Rattle.program.specs.Allowed.{AnchorAmount, WidthAmount, Letter}
 use Rattle.filling.specs.Tables.{capped}
 
@@ -48,7 +48,7 @@ width-right (Relative Minus n) h = le-leb n mostAmount h
 width-right (Relative Times n) h = le-leb n mostAmount h
 width-right (Relative Divide n) h = rw (le-leb leastDivisor n (h .0), le-leb n mostAmount (h .1))
 
-pub letter-right : (c : ℕ) → Letter c → isLetter c ≡ true
+pub letter-right : (c : ℕ) → Letter c → isCapital c ≡ true
 letter-right c h = rw (le-leb firstLetter c (h .least), le-leb c lastLetter (h .most))
 
 pub part-right : (least most from n : ℕ) → least ≤ n → n ≤ most → isPart least most from (from + n) ≡ true

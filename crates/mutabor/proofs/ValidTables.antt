@@ -23,7 +23,7 @@ use Rattle.tables.specs.declared.Row.the-variants.{Unused}
 use Rattle.tables.specs.Layout.{Tables, used, rowWidth, mostRows, mostTones, mostChanges, mostOrders, rowAt, writtenAll, soundingOf, pitchOf, changeCode, changeNumber}
 use Rattle.tables.proofs.Lists.{full-length}
 use Rattle.tables.proofs.Stored.{written-length}
-use Rattle.validity.specs.Valid.{isSum, isLetter, isSystemOrRetuning, isCalled, refersTo, isStart, declarationRight, validTables}
+use Rattle.validity.specs.Valid.{isSum, isCapital, isSystemOrRetuning, isCalled, refersTo, isStart, declarationRight, validTables}
 use Rattle.validity.proofs.Sizes.{Sizes}
 use Rattle.validity.proofs.Laid.{valid-is, row-laid, rows-laid, declarations-laid, tones-laid, changes-laid, orders-laid, zeros-after, noughts-after}
 use Rattle.program.specs.Program.{Declaration, ratio, root, sequence, frequency, from, system, anchor, width, freshPeriod, onwardPeriod, tones, logic, Placed, Program, Position, mute, same, named, Order}
@@ -156,7 +156,7 @@ module _ (p : Program) (a : Allowed p) (v : valued p ≡ Done) where
       own d fit = only-retunings value (λ xs. every changeRight xs ≡ true) d (positions-right []) (λ l e. positions-right l)
 
   abbrev orderRight : Order → Bool
-  orderRight x = isLetter (x .letter) && refersTo isCalled laid (x .calls)
+  orderRight x = isCapital (x .letter) && refersTo isCalled laid (x .calls)
 
   order-right : (x : Order) → FitOrder p x → orderRight x ≡ true
   order-right x fit =
@@ -176,7 +176,7 @@ module _ (p : Program) (a : Allowed p) (v : valued p ≡ Done) where
       own d fit = only-logics (λ os. every orderRight os ≡ true) d (logic-right [] tt) (λ c s os e. logic-right os (subst (Fits p) e fit .orders))
 
   order-at : (i : ℕ) → i < length (filled p .orders)
-      → isLetter (getD (laid .letters) i 0) && refersTo isCalled laid (getD (laid .calls) i 0) ≡ true
+      → isCapital (getD (laid .letters) i 0) && refersTo isCalled laid (getD (laid .calls) i 0) ≡ true
   order-at i h =
       let os = filled p .orders in
       let nought : Order = record { letter = 0; calls = 0 } in

@@ -10,8 +10,8 @@ use lib.ListN.{length, getD}
 use Rattle.status.specs.Status.{dependsOnItself, valueOutOfRange}
 use Rattle.values.specs.Values.{isBeyond, circular, firstFrom, verdict, valueAt, outcome}
 use Rattle.values.specs.Rows.{rows, Resolved}
-use Rattle.values.specs.declared.Found.{Found}
-use Rattle.values.specs.declared.Found.the-variants.{Nothing, At}
+use Rattle.values.specs.declared.Fault.{Fault}
+use Rattle.values.specs.declared.Fault.the-variants.{Nothing, At}
 use Rattle.values.specs.declared.Value.{Value}
 use Rattle.values.specs.declared.Outcome.{Outcome}
 use Rattle.values.specs.declared.Outcome.the-variants.{Done, Circular, OutOfRange}
@@ -27,7 +27,7 @@ use Rattle.mutabor.specs.declared.TextReading.{TextReading}
 use Rattle.mutabor.specs.Reading.{byVerdict, Leaves}
 use Rattle.mutabor.proofs.Steps.{refuses}
 
-NothingFound : Found → Type 0
+NothingFound : Fault → Type 0
 NothingFound Nothing = Unit
 NothingFound (At i) = ⊥
 
@@ -54,7 +54,7 @@ fault-within : (p : Program) (n : ℕ) → at-fault (outcome (own p) (terms p) n
 unfolding outcome verdict at-fault
 fault-within p n = go (firstFrom (circular (terms p) n) 0 n) refl (firstFrom (λ i. isBeyond (valueAt (own p) (terms p) n i)) 0 n) refl
   where
-    go : (f : Found) → firstFrom (circular (terms p) n) 0 n ≡ f → (g : Found) → firstFrom (λ i. isBeyond (valueAt (own p) (terms p) n i)) 0 n ≡ g → at-fault (verdict f g) n
+    go : (f : Fault) → firstFrom (circular (terms p) n) 0 n ≡ f → (g : Fault) → firstFrom (λ i. isBeyond (valueAt (own p) (terms p) n i)) 0 n ≡ g → at-fault (verdict f g) n
     go (At i) e g q = omega (arith, first-within (circular (terms p) n) 0 n i e)
     go Nothing e (At i) q = omega (arith, first-within (λ i. isBeyond (valueAt (own p) (terms p) n i)) 0 n i q)
     go Nothing e Nothing q = tt

@@ -7,19 +7,17 @@ use native.Mathlib.Omega.{arith}
 use lib.ListN.{length, take}
 use lib.Seq.{take-length}
 use Rattle.status.specs.Status.{nameTwice}
-use Rattle.names.specs.declared.Found.{Found}
-use Rattle.names.specs.declared.Found.the-variants.{Nothing, Row}
 use Rattle.grammar.specs.declared.Item.{Item}
 use Rattle.grammar.specs.Items.{holding}
 use Rattle.names.specs.declared.Naming.{Naming}
-use Rattle.names.specs.Names.{declared, twiceFrom, resolved, unlessMissing, meanings}
+use Rattle.names.specs.Names.{declared, Repeat, noRepeat, repeatAt, twiceFrom, resolved, unlessMissing, meanings}
 use Rattle.names.specs.Inner.{namedOf, packed, Kept, begunWith, rewritten, leftItems, numberIf, placeIf, Declarable, mostDeclarations, FirstPass, SecondPass, BothPasses}
 use Rattle.names.proofs.Marks.{kept-names, kept-now}
 use Rattle.names.proofs.FirstPass.{distinct-few, distinct-all, distinct-once}
 
 module _ (text : List ℕ) (is : List Item) where
   -- a name stands twice in a kind
-  module _ {p : ℕ} (t : twiceFrom text [] (declared is) ≡ Row p) where
+  module _ {p : ℕ} (t : twiceFrom text [] (declared is) ≡ repeatAt p) where
     twice-number : meanings text is .number ≡ nameTwice
     unfolding meanings
     twice-number = rw t
@@ -32,7 +30,7 @@ module _ (text : List ℕ) (is : List Item) where
     twice-left = rw t
 
   -- none does
-  module _ (t : twiceFrom text [] (declared is) ≡ Nothing) where
+  module _ (t : twiceFrom text [] (declared is) ≡ noRepeat) where
     once : meanings text is ≡ unlessMissing (resolved text (declared is) is)
     unfolding meanings
     once = rw t
@@ -41,12 +39,12 @@ module _ (text : List ℕ) (is : List Item) where
     once-left = rw t
 
   -- the first pass tells which
-  told : (n : ℕ) → n ≡ numberIf nameTwice (twiceFrom text [] (declared is)) → n ≡ 0 → twiceFrom text [] (declared is) ≡ Nothing
+  told : (n : ℕ) → n ≡ numberIf nameTwice (twiceFrom text [] (declared is)) → n ≡ 0 → twiceFrom text [] (declared is) ≡ noRepeat
   told n e z = go (twiceFrom text [] (declared is)) (sym e ∙ z)
     where
-      go : (f : Found) → numberIf nameTwice f ≡ 0 → f ≡ Nothing
-      go Nothing q = refl
-      go (Row p) q = absurd (omega arith)
+      go : (f : Repeat) → numberIf nameTwice f ≡ 0 → f ≡ noRepeat
+      go noRepeat q = refl
+      go (repeatAt p) q = absurd (omega arith)
 
   -- what the first pass keeps
   module _ {names starts : List ℕ} {r : Naming} {names′ starts′ : List ℕ} (first : FirstPass text is names starts r names′ starts′) where
@@ -69,10 +67,10 @@ module _ (text : List ℕ) (is : List Item) where
         → BothPasses text is items names starts r items names′ starts′
     both-stop held {r} {names′} {starts′} first n = go _ refl
       where
-        go : (f : Found) → twiceFrom text [] (declared is) ≡ f
+        go : (f : Repeat) → twiceFrom text [] (declared is) ≡ f
             → BothPasses text is items names starts r items names′ starts′
-        go Nothing t = absurd (n (first .number ∙ ap (numberIf nameTwice) t))
-        go (Row p) t =
+        go noRepeat t = absurd (n (first .number ∙ ap (numberIf nameTwice) t))
+        go (repeatAt p) t =
             record {
               number = first .number ∙ ap (numberIf nameTwice) t ∙ sym (twice-number t);
               place = first .place ∙ ap placeIf t ∙ sym (twice-place t);

@@ -13,8 +13,8 @@ use lib.ListN.{length, getD, take, drop, set, replicate, length-map, length-set,
 use lib.Seq.{take-suc, take-length, split-at, length-take-le, getD-take, getD-set-same, getD-set-other}
 use Rattle.symbols.specs.Bytes.{same}
 use Rattle.symbols.specs.Names.{nameAt}
-use Rattle.names.specs.declared.Found.{Found}
-use Rattle.names.specs.declared.Found.the-variants.{Nothing, Row}
+use Rattle.names.specs.declared.Bearer.{Bearer}
+use Rattle.names.specs.declared.Bearer.the-variants.{Nothing, Row}
 use Rattle.grammar.specs.declared.Kind.{Kind}
 use Rattle.names.specs.Names.{numberFrom, numberOf, twiceFrom}
 use Rattle.names.specs.Inner.{markOf, markRoom, unpacked, namedOf, Kept, buckets, bucketOf, lastIn, Chained, mostDeclarations}
@@ -120,7 +120,7 @@ module _ (l : List ℕ) {n : ℕ} (h : n < length l) (few : n < mostDeclarations
 -- ---- the search
 
 -- what is found below row n
-abbrev foundBelow : List ℕ → List ℕ → Kind → List ℕ → ℕ → Found
+abbrev foundBelow : List ℕ → List ℕ → Kind → List ℕ → ℕ → Bearer
 foundBelow text l k name n = numberOf text (namedOf (take n l)) k name
 
 -- one row more

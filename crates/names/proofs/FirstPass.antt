@@ -10,8 +10,8 @@ use denote.Enum.Declared.{tagOf}
 use lib.ListN.{length, getD, take, drop, set, length-set, drop-of-length-le}
 use Rattle.status.specs.Status.{done, nameTwice}
 use Rattle.symbols.specs.Names.{nameAt}
-use Rattle.names.specs.declared.Found.{Found}
-use Rattle.names.specs.declared.Found.the-variants.{Nothing, Row}
+use Rattle.names.specs.declared.Bearer.{Bearer}
+use Rattle.names.specs.declared.Bearer.the-variants.{Nothing, Row}
 use Rattle.grammar.specs.declared.Kind.{Kind}
 use Rattle.grammar.specs.declared.Item.{Item}
 use Rattle.grammar.specs.Reading.{mostBytes}
@@ -19,9 +19,9 @@ use Rattle.names.specs.declared.Role.{Role}
 use Rattle.names.specs.declared.Role.the-variants as role
 use Rattle.names.proofs.Role as roles
 use Rattle.names.specs.Parts.{Part, declares, gives, uses, says, part}
-use Rattle.names.specs.Names.{Named, namedBy, declared, numberOf, twiceFrom}
+use Rattle.names.specs.Names.{Named, namedBy, declared, numberOf, noRepeat, repeatAt, twiceFrom}
 use Rattle.names.specs.Inner.{roleOf, packed, namedOf, Kept, beginningBy, beginningsFrom, beginnings, distinctFrom, begunWith, InText, FirstPass}
-use Rattle.names.proofs.Searching.{nothing-no-row}
+use Rattle.names.proofs.Searching.{no-repeat-at}
 use Rattle.names.proofs.Marks.{kept-names, kept-now}
 use Rattle.names.proofs.Lists.{head-fits, head-rest, head-taken, here, begun-set, drop-map}
 
@@ -46,13 +46,13 @@ role-other (says m) h = (λ ds. refl, λ i xs. refl)
 
 -- ---- the declarations before the n-th, and those from it on
 
-module _ (text : List ℕ) (ds : List Named) (n : ℕ) {d : Named} {rest : List Named} (e : drop n ds ≡ d ∷ rest) {f : Found}
+module _ (text : List ℕ) (ds : List Named) (n : ℕ) {d : Named} {rest : List Named} (e : drop n ds ≡ d ∷ rest) {f : Bearer}
     (q : f ≡ numberOf text (take n ds) (d .kind) (nameAt text (d .place))) where
   twice-on : f ≡ Nothing → twiceFrom text (take (n + 1) ds) (drop (n + 1) ds) ≡ twiceFrom text (take n ds) (drop n ds)
   unfolding twiceFrom
   twice-on z = rw (e, head-rest ds n e, head-taken ds n e, twiceFrom, ← q, z)
 
-  twice-stop : {m : ℕ} → f ≡ Row m → twiceFrom text (take n ds) (drop n ds) ≡ Row (d .place)
+  twice-stop : {m : ℕ} → f ≡ Row m → twiceFrom text (take n ds) (drop n ds) ≡ repeatAt (d .place)
   unfolding twiceFrom
   twice-stop z = rw (e, twiceFrom, ← q, z)
 
@@ -71,33 +71,33 @@ unfolding distinctFrom
 distinct-few text before [] = omega arith
 distinct-few text before (d ∷ ds) = go (numberOf text before (d .kind) (nameAt text (d .place))) (distinct-few text (before ++ d ∷ []) ds)
   where
-    go : (f : Found) → distinctFrom text (before ++ d ∷ []) ds ≤ length ds
+    go : (f : Bearer) → distinctFrom text (before ++ d ∷ []) ds ≤ length ds
         → elim f [ Row n ↦ 0 | Nothing ↦ suc (distinctFrom text (before ++ d ∷ []) ds) ] ≤ suc (length ds)
     go (Row n) h = omega arith
     go Nothing h = omega arith
 
-pub distinct-all : (text : List ℕ) (before ds : List Named) → twiceFrom text before ds ≡ Nothing → distinctFrom text before ds ≡ length ds
+pub distinct-all : (text : List ℕ) (before ds : List Named) → twiceFrom text before ds ≡ noRepeat → distinctFrom text before ds ≡ length ds
 unfolding distinctFrom twiceFrom
 distinct-all text before [] e = refl
 distinct-all text before (d ∷ ds) e = go (numberOf text before (d .kind) (nameAt text (d .place))) (distinct-all text (before ++ d ∷ []) ds) e
   where
-    go : (f : Found) → (twiceFrom text (before ++ d ∷ []) ds ≡ Nothing → distinctFrom text (before ++ d ∷ []) ds ≡ length ds)
-        → elim f [ Row n ↦ Row (d .place) | Nothing ↦ twiceFrom text (before ++ d ∷ []) ds ] ≡ Nothing
+    go : (f : Bearer) → (twiceFrom text (before ++ d ∷ []) ds ≡ noRepeat → distinctFrom text (before ++ d ∷ []) ds ≡ length ds)
+        → elim f [ Row n ↦ repeatAt (d .place) | Nothing ↦ twiceFrom text (before ++ d ∷ []) ds ] ≡ noRepeat
         → elim f [ Row n ↦ 0 | Nothing ↦ suc (distinctFrom text (before ++ d ∷ []) ds) ] ≡ suc (length ds)
-    go (Row n) later q = absurd (nothing-no-row (sym q))
+    go (Row n) later q = absurd (no-repeat-at (sym q))
     go Nothing later q = ap suc (later q)
 
 -- and among those that are kept none does
-pub distinct-once : (text : List ℕ) (before ds : List Named) (n : ℕ) → n ≤ distinctFrom text before ds → twiceFrom text before (take n ds) ≡ Nothing
+pub distinct-once : (text : List ℕ) (before ds : List Named) (n : ℕ) → n ≤ distinctFrom text before ds → twiceFrom text before (take n ds) ≡ noRepeat
 unfolding distinctFrom twiceFrom
 distinct-once text before ds zero h = refl
 distinct-once text before [] (suc n) h = absurd (omega arith)
 distinct-once text before (d ∷ ds) (suc n) h =
     go (numberOf text before (d .kind) (nameAt text (d .place))) (distinct-once text (before ++ d ∷ []) ds n) h
   where
-    go : (f : Found) → (n ≤ distinctFrom text (before ++ d ∷ []) ds → twiceFrom text (before ++ d ∷ []) (take n ds) ≡ Nothing)
+    go : (f : Bearer) → (n ≤ distinctFrom text (before ++ d ∷ []) ds → twiceFrom text (before ++ d ∷ []) (take n ds) ≡ noRepeat)
         → suc n ≤ elim f [ Row m ↦ 0 | Nothing ↦ suc (distinctFrom text (before ++ d ∷ []) ds) ]
-        → elim f [ Row m ↦ Row (d .place) | Nothing ↦ twiceFrom text (before ++ d ∷ []) (take n ds) ] ≡ Nothing
+        → elim f [ Row m ↦ repeatAt (d .place) | Nothing ↦ twiceFrom text (before ++ d ∷ []) (take n ds) ] ≡ noRepeat
     go (Row m) later q = absurd (omega arith)
     go Nothing later q = later (omega arith)
 
@@ -144,7 +144,7 @@ module _ (text : List ℕ) (is : List Item) (names₀ starts₀ : List ℕ) wher
     unfolding declared twiceFrom distinctFrom
     passed-all h =
         let z : drop n (declared is) ≡ [] = p .names ∙ ap declared (drop-of-length-le is h) in
-        let t : twiceFrom text [] (declared is) ≡ Nothing = sym (p .twice) ∙ ap (twiceFrom text (take n (declared is))) z in
+        let t : twiceFrom text [] (declared is) ≡ noRepeat = sym (p .twice) ∙ ap (twiceFrom text (take n (declared is))) z in
         let c : n + 0 ≡ distinctFrom text [] (declared is) = ap (λ ds. n + distinctFrom text (take n (declared is)) ds) (sym z) ∙ p .distinct in
         let e : distinctFrom text [] (declared is) ≡ n = omega arith in
         record { number = rw t; place = rw t; count = sym e; kept = rw e (p .kept); begun = rw e (p .begun) }
@@ -200,14 +200,14 @@ module _ (text : List ℕ) (is : List Item) (names₀ starts₀ : List ℕ) wher
         pub one-more : n < length (declared is)
         one-more = head-fits (declared is) n names-here
 
-        module _ {f : Found} (found : f ≡ numberOf text (namedOf (take n l)) k (nameAt text q)) where
+        module _ {f : Bearer} (found : f ≡ numberOf text (namedOf (take n l)) k (nameAt text q)) where
           found-before : f ≡ numberOf text (take n (declared is)) k (nameAt text q)
           found-before = found ∙ ap (λ ds. numberOf text ds k (nameAt text q)) (kept-names text (declared is) names₀ n (p .few) (p .kept))
 
           -- the name stood before in its kind
           pub passed-stop : {j : ℕ} → f ≡ Row j → FirstPass text is names₀ starts₀ (record { number = nameTwice; place = q; declarations = n }) l m
           passed-stop z =
-              let t : twiceFrom text [] (declared is) ≡ Row q = sym (p .twice) ∙ twice-stop text (declared is) n names-here found-before z in
+              let t : twiceFrom text [] (declared is) ≡ repeatAt q = sym (p .twice) ∙ twice-stop text (declared is) n names-here found-before z in
               let s = distinct-stop text (declared is) n names-here found-before z in
               let c = p .distinct in
               let e : distinctFrom text [] (declared is) ≡ n = omega arith in

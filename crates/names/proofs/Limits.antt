@@ -10,13 +10,13 @@ use borrow.Author.Tests.{leb-true, leb-false}
 use lib.Dec.{T, leb}
 use lib.ListN.{length, length-append}
 use lib.Seq.{slice}
-use Rattle.status.specs.Status.{done, itemTooMany, noSymbol, symbolNotAllowed, textTooLong}
+use Rattle.status.specs.Status.{itemTooMany, noSymbol, symbolNotAllowed, textTooLong}
 use Rattle.symbols.specs.declared.Symbol.{Symbol}
 use Rattle.symbols.specs.declared.Symbol.the-variants as symbol
 use Rattle.symbols.specs.Symbols.{nextSymbol, after, cut, symbolsFrom, symbols}
 use Rattle.symbols.proofs.Progress.{Placed as StandsFrom, next-placed, after-within}
-use Rattle.numerals.specs.declared.Amount.{Amount}
-use Rattle.numerals.specs.declared.Amount.the-variants.{Outside, Value}
+use Rattle.numerals.specs.declared.WrittenNumber.{WrittenNumber}
+use Rattle.numerals.specs.declared.WrittenNumber.the-variants.{Outside, Value}
 use Rattle.grammar.specs.declared.Kind.{Kind}
 use Rattle.grammar.specs.declared.Kind.the-variants.{Interval, Tone, System, Retuning, Logic, Order as AnOrder}
 use Rattle.grammar.specs.declared.NumberUse.{NumberUse}
@@ -35,7 +35,7 @@ use Rattle.grammar.specs.declared.Outcome.{Outcome}
 use Rattle.grammar.specs.declared.Outcome.the-variants.{Go, Give, Refuse}
 use Rattle.grammar.specs.Syntax.{Node, Finish, Rule, rules}
 use Rattle.grammar.specs.Terminals.{nodes, nodeAt, nodeNumber, picked, startOf, placed, isNothing}
-use Rattle.grammar.specs.Reading.{Read, limit, soFar, oneMore, mostTerms, mostPositions, nextTerm, withCounts, withPositions, noTerm, unlessFull, counted, termItem, termed, positioned, used, judged, ifAllowed, numbered, acted, thenAt, byRule, stepped, begun, with, refusedAt, isFinished, readFrom, mostBytes, readItems}
+use Rattle.grammar.specs.Reading.{Read, limit, soFar, oneMore, mostTerms, mostPositions, nextTerm, withCounts, withPositions, noTerm, unlessFull, counted, termItem, termed, positioned, used, judged, ifAllowed, numbered, acted, thenAt, byRule, stepped, begun, with, readWhole, refusedAt, isFinished, readFrom, mostBytes, readItems}
 use Rattle.grammar.proofs.Table.{each, read-of}
 use Rattle.grammar.proofs.Diagrams.{picked-of}
 use Rattle.names.specs.Parts.{Part, declares, gives, uses, says, part}
@@ -139,7 +139,7 @@ module _ (s : Progress) (x : Placed) where
   numbered-counts : (text : List ℕ) (u : NumberUse) (a b : ℕ) → Fine (numbered text s u a b x)
   numbered-counts text u a b = go (judged u (slice a b text))
     where
-      go : (v : Amount) → Fine (ifAllowed s u a x v)
+      go : (v : WrittenNumber) → Fine (ifAllowed s u a x v)
       go Outside = tt
       go (Value v) = used-counts u v
 
@@ -279,13 +279,13 @@ read-left text (y ∷ ys) s h w = go (stepped text s (placed text y)) (step-coun
         → ((t : Progress) → Limited (t .counts) → Left (t .counts) (declared (readFrom text t ys .items)))
         → Left (s .counts) (declared (itemsOf (elim o [
           | Refuse n p ↦ refusedAt n p
-          | Go t ↦ elim (isFinished t) [ true ↦ refusedAt done 0 | false ↦ readFrom text t ys ]
+          | Go t ↦ elim (isFinished t) [ true ↦ readWhole | false ↦ readFrom text t ys ]
           | Give t i ↦ with i (readFrom text t ys)
         ])))
     go (Refuse n p) c later = none-left (s .counts) w
     go (Go t) c later = ended (isFinished t)
       where
-        ended : (b : Bool) → Left (s .counts) (declared (itemsOf (elim b [ true ↦ refusedAt done 0 | false ↦ readFrom text t ys ])))
+        ended : (b : Bool) → Left (s .counts) (declared (itemsOf (elim b [ true ↦ readWhole | false ↦ readFrom text t ys ])))
         ended true = none-left (s .counts) w
         ended false = some-left [] c (h .0) (later t (c .limits w))
     go (Give t i) c later = rw names-front (some-left (namedBy (part i) []) c (h .0) (later t (c .limits w)))

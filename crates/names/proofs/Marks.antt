@@ -12,11 +12,10 @@ use lib.ListN.{length, getD, take, length-map}
 use Rattle.symbols.specs.Bytes.{inName, small, same}
 use Rattle.symbols.specs.Names.{nameAt}
 use Rattle.symbols.proofs.Letters.{same-true, name-out, name-stop, name-on}
-use Rattle.names.specs.declared.Found.the-variants.{Nothing}
 use Rattle.grammar.specs.declared.Kind.{Kind}
 use Rattle.grammar.specs.declared.Kind.the-variants.{Interval, Tone, System, Retuning, Logic, Order as AnOrder}
 use Rattle.grammar.specs.Moves.{kindNumber}
-use Rattle.names.specs.Names.{Named, twiceFrom}
+use Rattle.names.specs.Names.{Named, noRepeat, twiceFrom}
 use Rattle.names.specs.Inner.{kindRoom, tagRoom, tagFactor, markRoom, tagFrom, tagOf, markOf, packed, unpacked, namedOf, Kept, begunWith}
 use Rattle.names.proofs.Searching.{kind-back, isNamed}
 use Rattle.names.proofs.Lists.{begun-taken, take-map}
@@ -99,7 +98,7 @@ module _ (text : List ℕ) where
     pub kept-names : namedOf (take n l) ≡ take n ds
     kept-names = ap namedOf kept-taken ∙ named-packed (take n ds)
 
-    pub kept-now : twiceFrom text [] (take n ds) ≡ Nothing → Kept text (take n l)
+    pub kept-now : twiceFrom text [] (take n ds) ≡ noRepeat → Kept text (take n l)
     kept-now o = record { of-text = ap (map (packed text)) kept-names ∙ sym kept-taken; once = ap (twiceFrom text []) kept-names ∙ o }
 
   -- a number that is kept is that of a declaration of the text

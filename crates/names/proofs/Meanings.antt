@@ -7,11 +7,11 @@ use native.Mathlib.Omega.{arith}
 use lib.ListN.{length, getD}
 use Rattle.status.specs.Status.{done}
 use Rattle.symbols.specs.Names.{nameAt}
-use Rattle.names.specs.declared.Found.{Found}
-use Rattle.names.specs.declared.Found.the-variants.{Nothing, Row}
+use Rattle.names.specs.declared.Bearer.{Bearer}
+use Rattle.names.specs.declared.Bearer.the-variants.{Nothing, Row}
 use Rattle.grammar.specs.declared.Item.{Item}
 use Rattle.names.specs.Parts.{Part, declares, gives, uses, says, part, Use, add, subtract, base, position, start, order}
-use Rattle.names.specs.Names.{Named, namedBy, declared, twiceFrom, calledIn, meant, numbered, Resolved, all, missing, andThen, ifFound, resolvedBy, resolved, unlessMissing, unlessTwice, meanings}
+use Rattle.names.specs.Names.{Named, namedBy, declared, Repeat, noRepeat, repeatAt, twiceFrom, calledIn, meant, numbered, Resolved, all, missing, andThen, ifFound, resolvedBy, resolved, unlessMissing, unlessTwice, meanings}
 use Rattle.names.specs.Inner.{beginningBy, beginningsFrom, distinct, rewritten, unlessTwiceRewritten, leftItems}
 use Rattle.names.proofs.Searching.{OfKinds, called-found}
 use Rattle.names.proofs.FirstPass.{distinct-all}
@@ -80,7 +80,7 @@ module _ (text : List ℕ) (ds : List Named) where
   stays i is m e (missing p) w = tt
 
   -- an item that uses a name
-  becomes : (i : Item) (is : List Item) (u : Use) (a p : ℕ) → part i ≡ uses u a p → (f : Found) → calledIn text ds (meant u) (nameAt text p) ≡ f
+  becomes : (i : Item) (is : List Item) (u : Use) (a p : ℕ) → part i ≡ uses u a p → (f : Bearer) → calledIn text ds (meant u) (nameAt text p) ≡ f
       → (r : Resolved) → SettledBy is r → SettledBy (i ∷ is) (ifFound u a p f r)
   unfolding SettledBy declared beginningsFrom rewritten
   becomes i is u a p e (Row n) c (all js) w =
@@ -112,7 +112,7 @@ module _ (text : List ℕ) (ds : List Named) where
 -- ---- the number is 0
 
 pub record Accepted (text : List ℕ) (is : List Item) : Type 0 where
-  pub once : twiceFrom text [] (declared is) ≡ Nothing
+  pub once : twiceFrom text [] (declared is) ≡ noRepeat
   pub resolves : resolved text (declared is) is ≡ all (meanings text is .items)
   pub settles : Settled text (declared is) is (meanings text is .items)
   pub left : leftItems text is ≡ meanings text is .items
@@ -122,12 +122,12 @@ pub accepted : (text : List ℕ) (is : List Item) → meanings text is .number �
 unfolding meanings
 accepted text is e = go _ refl _ refl e
   where
-    go : (f : Found) → twiceFrom text [] (declared is) ≡ f → (r : Resolved) → resolved text (declared is) is ≡ r
+    go : (f : Repeat) → twiceFrom text [] (declared is) ≡ f → (r : Resolved) → resolved text (declared is) is ≡ r
         → unlessTwice f (unlessMissing r) .number ≡ done → Accepted text is
-    go Nothing t (all js) q z =
+    go noRepeat t (all js) q z =
         let m : meanings text is .items ≡ js = rw (t, q) in
         let s : resolved text (declared is) is ≡ all (meanings text is .items) = q ∙ ap all (sym m) in
         let w = settled text (declared is) is s in
         record { once = t; resolves = s; settles = w; left = ap (λ f. unlessTwiceRewritten f is (rewritten text (declared is) is)) t ∙ w .left; kept = distinct-all text [] (declared is) t }
-    go Nothing t (missing p) q z = absurd (omega arith)
-    go (Row p) t r q z = absurd (omega arith)
+    go noRepeat t (missing p) q z = absurd (omega arith)
+    go (repeatAt p) t r q z = absurd (omega arith)

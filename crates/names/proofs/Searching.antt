@@ -11,13 +11,13 @@ use lib.ListN.{length, getD}
 use lib.Seq.{append-snoc}
 use Rattle.symbols.specs.Bytes.{same}
 use Rattle.symbols.specs.Names.{nameAt}
-use Rattle.names.specs.declared.Found.{Found}
-use Rattle.names.specs.declared.Found.the-variants.{Nothing, Row}
+use Rattle.names.specs.declared.Bearer.{Bearer}
+use Rattle.names.specs.declared.Bearer.the-variants.{Nothing, Row}
 use Rattle.symbols.proofs.Letters.{same-true}
 use Rattle.grammar.specs.declared.Kind.{Kind}
 use Rattle.grammar.specs.declared.Kind.the-variants.{Interval, Tone, System, Retuning, Logic, Order as AnOrder}
 use Rattle.grammar.specs.Moves.{kinds, kindNumber}
-use Rattle.names.specs.Names.{Named, numberFrom, numberOf, twiceFrom, calledIn}
+use Rattle.names.specs.Names.{Named, numberFrom, numberOf, Repeat, noRepeat, repeatAt, twiceFrom, calledIn}
 
 -- kinds are told apart by their numbers
 pub kind-back : (k : Kind) → getD kinds (kindNumber k) AnOrder ≡ k
@@ -34,17 +34,20 @@ kind-told j k e = sym (kind-back j) ∙ ap (λ n. getD kinds n AnOrder) e ∙ ki
 pub nothing-no-row : {n : ℕ} → Nothing ≡ Row n → ⊥
 nothing-no-row e = let z : _≡_ {A = ℕ} 0 1 = cc in omega arith
 
+pub no-repeat-at : {p : ℕ} → noRepeat ≡ repeatAt p → ⊥
+no-repeat-at e = let z : _≡_ {A = ℕ} 0 1 = cc in omega arith
+
 -- whether a declaration is of the kind and has the name
 abbrev pub isNamed : List ℕ → Named → Kind → List ℕ → Bool
 isNamed text d k name = eqb (kindNumber (d .kind)) (kindNumber k) && same (nameAt text (d .place)) name
 
 -- a choice that finds nothing
-no-row : {rest : Found} (n : ℕ) (b : Bool) → elim b [ true ↦ Row n | false ↦ rest ] ≡ Nothing → (b ≡ false) × (rest ≡ Nothing)
+no-row : {rest : Bearer} (n : ℕ) (b : Bool) → elim b [ true ↦ Row n | false ↦ rest ] ≡ Nothing → (b ≡ false) × (rest ≡ Nothing)
 no-row n true e = absurd (nothing-no-row (sym e))
 no-row n false e = (refl, e)
 
-none-else : {rest : Found} (p : ℕ) (f : Found) → elim f [ Row n ↦ Row p | Nothing ↦ rest ] ≡ Nothing → (f ≡ Nothing) × (rest ≡ Nothing)
-none-else p (Row n) e = absurd (nothing-no-row (sym e))
+none-else : {rest : Repeat} (p : ℕ) (f : Bearer) → elim f [ Row n ↦ repeatAt p | Nothing ↦ rest ] ≡ noRepeat → (f ≡ Nothing) × (rest ≡ noRepeat)
+none-else p (Row n) e = absurd (no-repeat-at (sym e))
 none-else p Nothing e = (refl, e)
 
 -- one declaration more
@@ -63,7 +66,7 @@ module _ (text : List ℕ) (d : Named) (k : Kind) (name : List ℕ) where
       rw (numberFrom, w .0) (number-last e (suc n) ds (w .1) ∙ ap Row (omega arith))
 
   -- where no name stands twice, none in front of a declaration is of its kind and name
-  once-before : (before xs ys : List Named) → twiceFrom text before (xs ++ d ∷ ys) ≡ Nothing
+  once-before : (before xs ys : List Named) → twiceFrom text before (xs ++ d ∷ ys) ≡ noRepeat
       → numberOf text (before ++ xs) (d .kind) (nameAt text (d .place)) ≡ Nothing
   unfolding twiceFrom
   once-before before [] ys e = rw append-nil (none-else (d .place) (numberOf text before (d .kind) (nameAt text (d .place))) e .0)
@@ -71,7 +74,7 @@ module _ (text : List ℕ) (d : Named) (k : Kind) (name : List ℕ) where
       rw append-snoc at (once-before (before ++ x ∷ []) xs ys (none-else (x .place) (numberOf text before (x .kind) (nameAt text (x .place))) e .1))
 
   -- so a declaration of the kind and the name, though it is the last, is the one that is found
-  pub number-once : (xs ys : List Named) → twiceFrom text [] (xs ++ d ∷ ys) ≡ Nothing → isNamed text d k name ≡ true
+  pub number-once : (xs ys : List Named) → twiceFrom text [] (xs ++ d ∷ ys) ≡ noRepeat → isNamed text d k name ≡ true
       → numberOf text (xs ++ d ∷ []) k name ≡ Row (length xs)
   number-once xs ys o e =
       let h = and-eq-true-iff _ _ .0 e in
@@ -86,7 +89,7 @@ module _ (text : List ℕ) (ds : List Named) (name : List ℕ) where
   unfolding calledIn
   called-one k = go (numberOf text ds k name)
     where
-      go : (f : Found) → f ≡ elim f [ Row n ↦ Row n | Nothing ↦ Nothing ]
+      go : (f : Bearer) → f ≡ elim f [ Row n ↦ Row n | Nothing ↦ Nothing ]
       go (Row n) = refl
       go Nothing = refl
 
@@ -95,7 +98,7 @@ module _ (text : List ℕ) (ds : List Named) (name : List ℕ) where
   called-here [] js e = absurd (nothing-no-row e)
   called-here (k ∷ ks) js {n} e = go (called-here ks js) (numberOf text ds k name) e
     where
-      go : (calledIn text ds ks name ≡ Row n → calledIn text ds (ks ++ js) name ≡ Row n) → (f : Found)
+      go : (calledIn text ds ks name ≡ Row n → calledIn text ds (ks ++ js) name ≡ Row n) → (f : Bearer)
           → elim f [ Row m ↦ Row m | Nothing ↦ calledIn text ds ks name ] ≡ Row n
           → elim f [ Row m ↦ Row m | Nothing ↦ calledIn text ds (ks ++ js) name ] ≡ Row n
       go later (Row m) q = q
@@ -106,7 +109,7 @@ module _ (text : List ℕ) (ds : List Named) (name : List ℕ) where
   called-on [] js e = refl
   called-on (k ∷ ks) js e = go (called-on ks js) (numberOf text ds k name) e
     where
-      go : (calledIn text ds ks name ≡ Nothing → calledIn text ds (ks ++ js) name ≡ calledIn text ds js name) → (f : Found)
+      go : (calledIn text ds ks name ≡ Nothing → calledIn text ds (ks ++ js) name ≡ calledIn text ds js name) → (f : Bearer)
           → elim f [ Row m ↦ Row m | Nothing ↦ calledIn text ds ks name ] ≡ Nothing
           → elim f [ Row m ↦ Row m | Nothing ↦ calledIn text ds (ks ++ js) name ] ≡ calledIn text ds js name
       go later (Row m) q = absurd (nothing-no-row (sym q))
@@ -148,7 +151,7 @@ unfolding calledIn
 called-found text ds [] name e = absurd (nothing-no-row e)
 called-found text ds (k ∷ ks) name {r} e = go _ refl (called-found text ds ks name) e
   where
-    go : (f : Found) → numberOf text ds k name ≡ f → (calledIn text ds ks name ≡ Row r → OfKinds ds ks r)
+    go : (f : Bearer) → numberOf text ds k name ≡ f → (calledIn text ds ks name ≡ Row r → OfKinds ds ks r)
         → elim f [ Row n ↦ Row n | Nothing ↦ calledIn text ds ks name ] ≡ Row r → OfKinds ds (k ∷ ks) r
     go (Row n) t later q =
         let w = number-found 0 text ds k name (t ∙ q) in

@@ -9,8 +9,8 @@ use denote.Enum.Declared.{tagOf}
 use lib.ListN.{length, getD, take, drop, set, length-set, drop-of-length-le, take-append-drop}
 use Rattle.status.specs.Status.{done, nameNotDeclared}
 use Rattle.symbols.specs.Names.{nameAt}
-use Rattle.names.specs.declared.Found.{Found}
-use Rattle.names.specs.declared.Found.the-variants.{Nothing, Row}
+use Rattle.names.specs.declared.Bearer.{Bearer}
+use Rattle.names.specs.declared.Bearer.the-variants.{Nothing, Row}
 use Rattle.grammar.specs.declared.Item.{Item}
 use Rattle.grammar.specs.declared.Item.the-variants as item
 use Rattle.grammar.specs.Items.{code, value, place, rowSize, holding, itemAt}
@@ -120,7 +120,7 @@ replaced order a n p = record { code-same = refl; value-same = refl; place-new =
 
 -- ---- the place of the first name that is not declared
 
-pub missingIn : Resolved → Found
+pub missingIn : Resolved → Bearer
 missingIn (all is) = Nothing
 missingIn (missing p) = Row p
 
@@ -146,7 +146,7 @@ unfolding rewritten
 length-rewritten text ds [] = refl
 length-rewritten text ds (i ∷ is) = by (part i) (length-rewritten text ds is)
   where
-    called : (u : Use) (a : ℕ) (f : Found) → length (rewritten text ds is) ≡ length is
+    called : (u : Use) (a : ℕ) (f : Bearer) → length (rewritten text ds is) ≡ length is
         → length (ifCalled u a f i is (rewritten text ds is)) ≡ suc (length is)
     called u a (Row n) e = ap suc e
     called u a Nothing e = refl
@@ -218,7 +218,7 @@ module _ (text : List ℕ) (ds : List Named) (is : List Item) (items₀ : List �
             }
 
         -- it uses a name at the place q
-        module _ {s : Scope} {q : ℕ} (g : r ≡ role.Uses s q) {f : Found} (c : f ≡ calledIn text ds (kindsIn s) (nameAt text q)) where
+        module _ {s : Scope} {q : ℕ} (g : r ≡ role.Uses s q) {f : Bearer} (c : f ≡ calledIn text ds (kindsIn s) (nameAt text q)) where
           the-use : Using (part (getD is i none)) s q
           the-use = role-uses (part (getD is i none)) (sym e ∙ g)
 

@@ -6,8 +6,8 @@ use Prim.Native.Nat.{ℕ, zero, suc, _+_, _*_, _/_, _%_, _≤_, _<_}
 use lib.Dec.{eqb}
 use lib.ListN.{length, getD, take, drop}
 use Rattle.symbols.specs.Names.{nameAt}
-use Rattle.names.specs.declared.Found.{Found}
-use Rattle.names.specs.declared.Found.the-variants.{Nothing, Row}
+use Rattle.names.specs.declared.Bearer.{Bearer}
+use Rattle.names.specs.declared.Bearer.the-variants.{Nothing, Row}
 use Rattle.grammar.specs.declared.Kind.{Kind}
 use Rattle.grammar.specs.declared.Kind.the-variants.{Order as AnOrder}
 use Rattle.grammar.specs.declared.Item.{Item}
@@ -21,7 +21,7 @@ use Rattle.names.specs.declared.Role.the-variants as role
 use Rattle.names.specs.declared.Scope.{Scope}
 use Rattle.names.specs.declared.Scope.the-variants.{Intervals, Tones, Starts, Orders}
 use Rattle.names.specs.Parts.{Part, declares, gives, uses, says, part, Use, add, subtract, base, position, start, order}
-use Rattle.names.specs.Names.{Named, declared, numberOf, calledIn, meant, numbered, twiceFrom, resolved, unlessMissing, meanings}
+use Rattle.names.specs.Names.{Named, declared, numberOf, calledIn, meant, numbered, Repeat, noRepeat, repeatAt, twiceFrom, resolved, unlessMissing, meanings}
 
 -- ---- what an item does with a name
 
@@ -84,7 +84,7 @@ namedOf xs = map unpacked xs
 -- numbers of declarations of this text, no two of the same kind and name
 pub record Kept (text l : List ℕ) : Type 0 where
   pub of-text : map (packed text) (namedOf l) ≡ l
-  pub once : twiceFrom text [] (namedOf l) ≡ Nothing
+  pub once : twiceFrom text [] (namedOf l) ≡ noRepeat
 
 -- ---- buckets of declarations, by which one is found
 
@@ -136,7 +136,7 @@ begunWith n xs before = take n xs ++ drop n before
 -- ---- what the second pass leaves
 
 -- the items, with the names that are used in front of the first that is not declared replaced by numbers
-abbrev pub ifCalled : Use → ℕ → Found → Item → List Item → List Item → List Item
+abbrev pub ifCalled : Use → ℕ → Bearer → Item → List Item → List Item → List Item
 ifCalled u a (Row n) i is rest = numbered u a n ∷ rest
 ifCalled u a Nothing i is rest = i ∷ is
 
@@ -151,9 +151,9 @@ rewritten text ds [] = []
 rewritten text ds (i ∷ is) = rewrittenBy text ds (part i) i is (rewritten text ds is)
 
 -- the items after both passes: as they were where a name is used twice in a kind, those of `meanings` where the number is 0 (`accepted`)
-abbrev pub unlessTwiceRewritten : Found → List Item → List Item → List Item
-unlessTwiceRewritten Nothing is new = new
-unlessTwiceRewritten (Row p) is new = is
+abbrev pub unlessTwiceRewritten : Repeat → List Item → List Item → List Item
+unlessTwiceRewritten noRepeat is new = new
+unlessTwiceRewritten (repeatAt p) is new = is
 
 abbrev pub leftItems : List ℕ → List Item → List Item
 leftItems text is = unlessTwiceRewritten (twiceFrom text [] (declared is)) is (rewritten text (declared is) is)
@@ -196,13 +196,13 @@ pub record Room (kept begun : List ℕ) : Type 0 where
 -- ---- what each pass does
 
 -- the number and the place of a refusal, or 0 and 0
-abbrev pub numberIf : ℕ → Found → ℕ
-numberIf number Nothing = done
-numberIf number (Row p) = number
+abbrev pub numberIf : ℕ → Repeat → ℕ
+numberIf number noRepeat = done
+numberIf number (repeatAt p) = number
 
-abbrev pub placeIf : Found → ℕ
-placeIf Nothing = 0
-placeIf (Row p) = p
+abbrev pub placeIf : Repeat → ℕ
+placeIf noRepeat = 0
+placeIf (repeatAt p) = p
 
 -- the first pass: names used twice in a kind; `names` and `starts` before and after it
 pub record FirstPass (text : List ℕ) (is : List Item) (names starts : List ℕ) (r : Naming) (names′ starts′ : List ℕ) : Type 0 where

@@ -7,8 +7,8 @@ use lib.Dec.{eqb}
 use Rattle.status.specs.Status.{done, nameTwice, nameNotDeclared}
 use Rattle.symbols.specs.Bytes.{same}
 use Rattle.symbols.specs.Names.{nameAt}
-use Rattle.names.specs.declared.Found.{Found}
-use Rattle.names.specs.declared.Found.the-variants.{Nothing, Row}
+use Rattle.names.specs.declared.Bearer.{Bearer}
+use Rattle.names.specs.declared.Bearer.the-variants.{Nothing, Row}
 use Rattle.grammar.specs.declared.Kind.{Kind}
 use Rattle.grammar.specs.declared.Kind.the-variants.{Interval, Tone, System, Retuning, Logic}
 use Rattle.grammar.specs.declared.Item.{Item}
@@ -33,7 +33,7 @@ declared [] = []
 declared (i ∷ is) = namedBy (part i) (declared is)
 
 -- the number of the declaration of a kind and a name, counted from n
-unfoldable pub numberFrom : ℕ → List ℕ → List Named → Kind → List ℕ → Found
+unfoldable pub numberFrom : ℕ → List ℕ → List Named → Kind → List ℕ → Bearer
 numberFrom n text [] k name = Nothing
 numberFrom n text (d ∷ ds) k name =
     elim (eqb (kindNumber (d .kind)) (kindNumber k) && same (nameAt text (d .place)) name) [
@@ -41,24 +41,29 @@ numberFrom n text (d ∷ ds) k name =
       | false ↦ numberFrom (suc n) text ds k name
     ]
 
-abbrev pub numberOf : List ℕ → List Named → Kind → List ℕ → Found
+abbrev pub numberOf : List ℕ → List Named → Kind → List ℕ → Bearer
 numberOf text ds k name = numberFrom 0 text ds k name
 
 -- ---- 5: "name used twice in a kind; the second"
 
--- the first of ds whose name stood before in its kind, `before` being those in front: its place
-unfoldable pub twiceFrom : List ℕ → List Named → List Named → Found
-twiceFrom text before [] = Nothing
+-- no name is used twice, or the place of one that is
+pub data Repeat : Type 0 where
+  noRepeat : Repeat
+  repeatAt : ℕ → Repeat
+
+-- the first of ds whose name stood before in its kind, `before` being those in front
+unfoldable pub twiceFrom : List ℕ → List Named → List Named → Repeat
+twiceFrom text before [] = noRepeat
 twiceFrom text before (d ∷ ds) =
     elim (numberOf text before (d .kind) (nameAt text (d .place))) [
-      | Row n ↦ Row (d .place)
+      | Row n ↦ repeatAt (d .place)
       | Nothing ↦ twiceFrom text (before ++ d ∷ []) ds
     ]
 
 -- ---- 6: "name not declared; the use"
 
 -- a name is looked for in one kind, else in the next
-unfoldable pub calledIn : List ℕ → List Named → List Kind → List ℕ → Found
+unfoldable pub calledIn : List ℕ → List Named → List Kind → List ℕ → Bearer
 calledIn text ds [] name = Nothing
 calledIn text ds (k ∷ ks) name = elim (numberOf text ds k name) [ Row n ↦ Row n | Nothing ↦ calledIn text ds ks name ]
 
@@ -90,7 +95,7 @@ abbrev pub andThen : Item → Resolved → Resolved
 andThen i (all is) = all (i ∷ is)
 andThen i (missing p) = missing p
 
-abbrev pub ifFound : Use → ℕ → ℕ → Found → Resolved → Resolved
+abbrev pub ifFound : Use → ℕ → ℕ → Bearer → Resolved → Resolved
 ifFound u a p (Row n) rest = andThen (numbered u a n) rest
 ifFound u a p Nothing rest = missing p
 
@@ -116,9 +121,9 @@ abbrev pub unlessMissing : Resolved → Meant
 unlessMissing (all is) = record { items = is; number = done; place = 0 }
 unlessMissing (missing p) = record { items = []; number = nameNotDeclared; place = p }
 
-abbrev pub unlessTwice : Found → Meant → Meant
-unlessTwice Nothing m = m
-unlessTwice (Row p) m = record { items = []; number = nameTwice; place = p }
+abbrev pub unlessTwice : Repeat → Meant → Meant
+unlessTwice noRepeat m = m
+unlessTwice (repeatAt p) m = record { items = []; number = nameTwice; place = p }
 
 unfoldable pub meanings : List ℕ → List Item → Meant
 meanings text is = unlessTwice (twiceFrom text [] (declared is)) (unlessMissing (resolved text (declared is) is))

@@ -42,7 +42,7 @@ const BUCKETS: usize = 1024;
 const DECLARATIONS: usize = MOST_DECLARATIONS;
 
 // The row of a declaration that was looked for.
-pub enum Found {
+pub enum Bearer {
     Nothing,
     Row(usize),
 }
@@ -145,7 +145,7 @@ fn find_declaration(
     links: &[u16],
     kind: Kind,
     at: usize,
-) -> Found
+) -> Bearer
     requires { ⌜ Kept (now text) (now declared) ⌝ }
     requires { ⌜ Chained (now declared) (now heads) (now links) ⌝ }
     ensures { λ r. ⌜ r ≡ numberOf (now (text .entry)) (namedOf (now (declared .entry))) kind (nameAt (now (text .entry)) at) ⌝ }
@@ -155,36 +155,36 @@ fn find_declaration(
     while next != 0 {
         let row = next as usize - 1;
         if declares(text, declared[row], mark, at) {
-            return Found::Row(row);
+            return Bearer::Row(row);
         }
         next = links[row];
     }
-    Found::Nothing
+    Bearer::Nothing
 }
 
 // The retuning of the name at `at`, else the tone system.
-fn find_start(text: &[u8], declared: &[u32], heads: &[u16], links: &[u16], at: usize) -> Found
+fn find_start(text: &[u8], declared: &[u32], heads: &[u16], links: &[u16], at: usize) -> Bearer
     requires { ⌜ Kept (now text) (now declared) ⌝ }
     requires { ⌜ Chained (now declared) (now heads) (now links) ⌝ }
     ensures { λ r. ⌜ r ≡ calledIn (now (text .entry)) (namedOf (now (declared .entry))) (kindsIn Scope.Starts) (nameAt (now (text .entry)) at) ⌝ }
 {
-    let Found::Row(number) = find_declaration(text, declared, heads, links, Kind::Retuning, at)
+    let Bearer::Row(number) = find_declaration(text, declared, heads, links, Kind::Retuning, at)
     else {
         return find_declaration(text, declared, heads, links, Kind::System, at);
     };
-    Found::Row(number)
+    Bearer::Row(number)
 }
 
 // The retuning or the tone system of the name at `at`, else the logic.
-fn find_order(text: &[u8], declared: &[u32], heads: &[u16], links: &[u16], at: usize) -> Found
+fn find_order(text: &[u8], declared: &[u32], heads: &[u16], links: &[u16], at: usize) -> Bearer
     requires { ⌜ Kept (now text) (now declared) ⌝ }
     requires { ⌜ Chained (now declared) (now heads) (now links) ⌝ }
     ensures { λ r. ⌜ r ≡ calledIn (now (text .entry)) (namedOf (now (declared .entry))) (kindsIn Scope.Orders) (nameAt (now (text .entry)) at) ⌝ }
 {
-    let Found::Row(number) = find_start(text, declared, heads, links, at) else {
+    let Bearer::Row(number) = find_start(text, declared, heads, links, at) else {
         return find_declaration(text, declared, heads, links, Kind::Logic, at);
     };
-    Found::Row(number)
+    Bearer::Row(number)
 }
 
 // What the name at `at` means.
@@ -195,7 +195,7 @@ fn find_meaning(
     links: &[u16],
     scope: Scope,
     at: usize,
-) -> Found
+) -> Bearer
     requires { ⌜ Kept (now text) (now declared) ⌝ }
     requires { ⌜ Chained (now declared) (now heads) (now links) ⌝ }
     ensures { λ r. ⌜ r ≡ calledIn (now (text .entry)) (namedOf (now (declared .entry))) (kindsIn scope) (nameAt (now (text .entry)) at) ⌝ }
@@ -245,7 +245,7 @@ fn declare_all(
             continue;
         };
         let found = find_declaration(text, &declared[..n], heads, links, kind, place as usize);
-        if let Found::Row(_) = found {
+        if let Bearer::Row(_) = found {
             return Naming {
                 number: NAME_TWICE,
                 place,
@@ -284,7 +284,7 @@ fn resolve_uses(
         let Role::Uses(scope, place) = role_of(items::item_at(items, i)) else {
             continue;
         };
-        let Found::Row(number) = find_meaning(text, declared, heads, links, scope, place as usize)
+        let Bearer::Row(number) = find_meaning(text, declared, heads, links, scope, place as usize)
         else {
             return Naming {
                 number: NAME_NOT_DECLARED,

@@ -2,7 +2,7 @@
 use mathlib.Core.Path.{_≡_, refl}
 use Rattle.ascii.specs.Ascii.{bytes}
 use Rattle.symbols.specs.Bytes.{isDigit, isHexDigit, isCapital, small, takeWhile}
-use Rattle.numerals.specs.declared.Amount.the-variants.{Outside, Value}
+use Rattle.numerals.specs.declared.WrittenNumber.the-variants.{Outside, Value}
 use Rattle.numerals.specs.Numbers.{digitOf, numeralAfter, numeral, beforePoint, places, ranged, tenThousandths, pointOf, decimalOf, wholeOf}
 
 -- all that the examples compute with

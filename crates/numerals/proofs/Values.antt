@@ -16,7 +16,7 @@ use Rattle.ascii.specs.Ascii.{byte}
 use Rattle.symbols.specs.Bytes.{isDigit, isHexDigit, small, hash, point}
 use Rattle.symbols.proofs.Scan.{drop-here, while-front}
 use Rattle.symbols.proofs.Parts.{rest-whole}
-use Rattle.numerals.specs.declared.Amount.the-variants.{Outside, Value}
+use Rattle.numerals.specs.declared.WrittenNumber.the-variants.{Outside, Value}
 use Rattle.numerals.specs.Numbers.{digitOf, numeralAfter, numeral, beforePoint, places, ranged, tenThousandths, pointOf, decimalOf, wholeOf}
 
 -- digits

@@ -4,8 +4,8 @@ use mathlib.Core.List.{List, [], _∷_}
 use mathlib.Core.Bool.{Bool, true, false, cond, _&&_, not}
 use lib.ListN.{length, drop}
 use lib.Dec.{ltb, leb, eqb}
-use Rattle.numerals.specs.declared.Amount.{Amount}
-use Rattle.numerals.specs.declared.Amount.the-variants.{Outside, Value}
+use Rattle.numerals.specs.declared.WrittenNumber.{WrittenNumber}
+use Rattle.numerals.specs.declared.WrittenNumber.the-variants.{Outside, Value}
 use Rattle.ascii.specs.Ascii.{byte}
 use Rattle.limits.specs.Limits.{leastPart, mostPart, mostPlaces}
 use Rattle.symbols.specs.Bytes.{hash, point, isDigit, isHexDigit, small, takeWhile}
@@ -31,27 +31,27 @@ unfoldable pub places : List ℕ → List ℕ
 places number = drop (length (beforePoint number) + 1) number
 
 -- a number from `low` to `high`, or "number out of range"
-unfoldable pub ranged : ℕ → ℕ → ℕ → Amount
+unfoldable pub ranged : ℕ → ℕ → ℕ → WrittenNumber
 ranged low high x = cond (leb low x && leb x high) (Value x) Outside
 
 -- "ratio parts, radicand, frequency: 0.0001 to 429496.7295", in ten-thousandths
-unfoldable pub tenThousandths : ℕ → Amount
+unfoldable pub tenThousandths : ℕ → WrittenNumber
 tenThousandths x = ranged leastPart mostPart x
 
 -- "at most four places"
-unfoldable pub pointOf : List ℕ → List ℕ → Amount
+unfoldable pub pointOf : List ℕ → List ℕ → WrittenNumber
 pointOf whole part =
     cond (ltb mostPlaces (length part)) Outside
     (tenThousandths (numeral 10 whole * 10 ^ mostPlaces + numeral 10 part * 10 ^ (mostPlaces - length part)))
 
 -- the number of these bytes as a ratio part, a radicand or a frequency
-unfoldable pub decimalOf : List ℕ → Amount
+unfoldable pub decimalOf : List ℕ → WrittenNumber
 decimalOf [] = Outside
 decimalOf (b ∷ rest) =
     cond (eqb b hash) (tenThousandths (numeral 16 rest * 10 ^ mostPlaces)) (pointOf (beforePoint (b ∷ rest)) (places (b ∷ rest)))
 
 -- the number of these bytes as a whole number from `low` to `high`: "a point where whole is asked" is outside
-unfoldable pub wholeOf : ℕ → ℕ → List ℕ → Amount
+unfoldable pub wholeOf : ℕ → ℕ → List ℕ → WrittenNumber
 wholeOf low high [] = Outside
 wholeOf low high (b ∷ rest) =
     cond (eqb b hash) (ranged low high (numeral 16 rest))

@@ -10,7 +10,7 @@ ghost use lib.Seq.{slice};
 ghost use Rattle.numerals.specs.Numbers.{digitOf, numeral, beforePoint, places, ranged, pointOf, decimalOf, wholeOf};
 
 // A number's value, where it is one that is allowed.
-pub enum Amount {
+pub enum WrittenNumber {
     Outside,
     Value(u32),
 }
@@ -26,12 +26,12 @@ const LEAST: u64 = LEAST_PART as u64;
 const GREATEST: u64 = MOST_PART as u64;
 
 // The number from `start` to `end` in ten-thousandths: a ratio part, a radicand or a frequency.
-pub fn read_decimal(text: &[u8], start: usize, end: usize) -> Amount
+pub fn read_decimal(text: &[u8], start: usize, end: usize) -> WrittenNumber
     ensures { λ r. ⌜ r ≡ decimalOf (slice start end (now (text .entry))) ⌝ }
 {
     let end = bytes::within(text, end);
     if end <= start {
-        return Amount::Outside;
+        return WrittenNumber::Outside;
     }
     let number = &text[start..end];
     if number[0] == b'#' {
@@ -41,25 +41,25 @@ pub fn read_decimal(text: &[u8], start: usize, end: usize) -> Amount
 }
 
 // The whole number from `start` to `end`, where it is `low` to `high`.
-pub fn read_whole(text: &[u8], start: usize, end: usize, low: u32, high: u32) -> Amount
+pub fn read_whole(text: &[u8], start: usize, end: usize, low: u32, high: u32) -> WrittenNumber
     ensures { λ r. ⌜ r ≡ wholeOf low high (slice start end (now (text .entry))) ⌝ }
 {
     let end = bytes::within(text, end);
     if end <= start {
-        return Amount::Outside;
+        return WrittenNumber::Outside;
     }
     let number = &text[start..end];
     if number[0] == b'#' {
         return within_range(low as u64, high as u64, value_of(16, &number[1..]));
     }
     if find_point(number) < number.len() {
-        return Amount::Outside;
+        return WrittenNumber::Outside;
     }
     within_range(low as u64, high as u64, value_of(10, number))
 }
 
 // The decimal number in ten-thousandths.
-fn decimal_value(number: &[u8]) -> Amount
+fn decimal_value(number: &[u8]) -> WrittenNumber
     ensures { λ r. ⌜ r ≡ pointOf (beforePoint (now (number .entry))) (places (now (number .entry))) ⌝ }
 {
     let point = find_point(number);
@@ -68,7 +68,7 @@ fn decimal_value(number: &[u8]) -> Amount
     }
     let part = &number[point + 1..];
     if MOST_PLACES < part.len() {
-        return Amount::Outside;
+        return WrittenNumber::Outside;
     }
     let whole = value_of(10, &number[..point]) * ONE;
     within_range(
@@ -141,15 +141,15 @@ fn place_value(count: usize) -> u64
     }
 }
 
-fn within_range(low: u64, high: u64, x: u64) -> Amount
+fn within_range(low: u64, high: u64, x: u64) -> WrittenNumber
     requires { ⌜ high < 4294967296 ⌝ }
     ensures { λ r. ⌜ r ≡ ranged low high x ⌝ }
 {
     if x < low {
-        return Amount::Outside;
+        return WrittenNumber::Outside;
     }
     if high < x {
-        return Amount::Outside;
+        return WrittenNumber::Outside;
     }
-    Amount::Value(x as u32)
+    WrittenNumber::Value(x as u32)
 }

@@ -4,8 +4,8 @@ use mathlib.Core.List.{List, [], _∷_, map, map-append}
 use Prim.Native.Nat.{ℕ}
 use Rattle.status.specs.Status.{done}
 use Rattle.symbols.specs.Names.{nameAt}
-use Rattle.names.specs.declared.Found.{Found}
-use Rattle.names.specs.declared.Found.the-variants.{Nothing, Row}
+use Rattle.names.specs.declared.Bearer.{Bearer}
+use Rattle.names.specs.declared.Bearer.the-variants.{Nothing, Row}
 use Rattle.grammar.specs.declared.Kind.{Kind}
 use Rattle.grammar.specs.declared.Item.{Item}
 use Rattle.names.specs.Parts.{Part, declares, gives, uses, says, part, Use, add, subtract, base, position, start, order}
@@ -104,7 +104,7 @@ module _ (number : Use → ℕ → ℕ) where
 
 -- ---- the items of a text whose names are all declared
 
-abbrev numberIn : Found → ℕ
+abbrev numberIn : Bearer → ℕ
 numberIn (Row n) = n
 numberIn Nothing = 0
 
@@ -131,7 +131,7 @@ module _ (text : List ℕ) (ds : List Named) where
       by (says m) e r w = becomes-one i i is (rw e) r w
       by (uses u a p) e r w = found (calledIn text ds (meant u) (nameAt text p)) refl
         where
-          found : (f : Found) → calledIn text ds (meant u) (nameAt text p) ≡ f → Becomes (i ∷ is) (ifFound u a p f r)
+          found : (f : Bearer) → calledIn text ds (meant u) (nameAt text p) ≡ f → Becomes (i ∷ is) (ifFound u a p f r)
           found (Row n) c = becomes-one i (numbered u a n) is (rw (e, c)) r w
           found Nothing c = tt
 

@@ -9,8 +9,8 @@ use borrow.Author.Tests.{leb-false}
 use lib.Dec.{leb}
 use lib.Seq.{slice}
 use Rattle.status.specs.Status.{done, numberOutOfRange, itemTooMany}
-use Rattle.numerals.specs.declared.Amount.{Amount}
-use Rattle.numerals.specs.declared.Amount.the-variants.{Outside, Value}
+use Rattle.numerals.specs.declared.WrittenNumber.{WrittenNumber}
+use Rattle.numerals.specs.declared.WrittenNumber.the-variants.{Outside, Value}
 use Rattle.grammar.specs.declared.NumberUse.{NumberUse}
 use Rattle.grammar.specs.declared.Progress.{Progress}
 use Rattle.grammar.specs.declared.Placed.{Placed}
@@ -31,6 +31,6 @@ module _ (F : Outcome → Type 0) (refused : (k p : ℕ) → (k ≡ done → ⊥
       → ((v : ℕ) → InRange (allowed u) v → F (used s u v x)) → F (numbered text s u start end x)
   if-allowed text s u start end x h = go (judged u (slice start end text)) (judged-fits u (slice start end text))
     where
-      go : (v : Amount) → Judged (InRange (allowed u)) v → F (ifAllowed s u start x v)
+      go : (v : WrittenNumber) → Judged (InRange (allowed u)) v → F (ifAllowed s u start x v)
       go Outside r = refused numberOutOfRange start (λ (q : numberOutOfRange ≡ done). omega arith)
       go (Value v) (value w) = h v w

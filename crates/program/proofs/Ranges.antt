@@ -21,8 +21,8 @@ use Rattle.ascii.specs.Ascii.{byte}
 use Rattle.symbols.specs.Bytes.{among, hash, small}
 use Rattle.symbols.specs.Names.{spelled, letterOf}
 use Rattle.symbols.specs.Words.{wordOf}
-use Rattle.numerals.specs.declared.Amount.{Amount}
-use Rattle.numerals.specs.declared.Amount.the-variants.{Outside, Value}
+use Rattle.numerals.specs.declared.WrittenNumber.{WrittenNumber}
+use Rattle.numerals.specs.declared.WrittenNumber.the-variants.{Outside, Value}
 use Rattle.numerals.specs.Numbers.{numeral, beforePoint, places, ranged, tenThousandths, pointOf, decimalOf, wholeOf}
 use Rattle.grammar.specs.declared.NumberUse.{NumberUse}
 use Rattle.grammar.specs.declared.NumberUse.the-variants as numberUse
@@ -44,11 +44,11 @@ InRange range.Decimal v = Decimal v
 InRange (range.Whole low high) v = Between low high v
 
 -- a number is outside its range, or P holds of its value
-pub data Judged (P : ℕ → Type 0) : Amount → Type 0 where
+pub data Judged (P : ℕ → Type 0) : WrittenNumber → Type 0 where
   outside : Judged P Outside
   value : {v : ℕ} → P v → Judged P (Value v)
 
-either : {P : ℕ → Type 0} (b : Bool) {o p : Amount} → Judged P o → Judged P p → Judged P (cond b o p)
+either : {P : ℕ → Type 0} (b : Bool) {o p : WrittenNumber} → Judged P o → Judged P p → Judged P (cond b o p)
 either true h k = h
 either false h k = k
 

@@ -22,7 +22,7 @@ use Rattle.grammar.specs.declared.Outcome.{Outcome}
 use Rattle.grammar.specs.declared.Outcome.the-variants.{Go, Give, Refuse}
 use Rattle.grammar.specs.Syntax.{Node, Begin, Finish, end, Rule, rules}
 use Rattle.grammar.specs.Terminals.{terminalNumber, nodeNumber, nodeAt, picked, terminalOf, placed, isNothing}
-use Rattle.grammar.specs.Reading.{Read, atNode, acted, thenAt, byRule, stepped, begun, with, refusedAt, isFinished, readFrom, mostBytes, readItems}
+use Rattle.grammar.specs.Reading.{Read, atNode, acted, thenAt, byRule, stepped, begun, with, readWhole, refusedAt, isFinished, readFrom, mostBytes, readItems}
 use Rattle.grammar.proofs.Diagrams.{none-at-nothing, finish-at-end}
 
 -- what an outcome keeps: where X holds of what is still to come after it, B holds of what is to come from here on
@@ -36,7 +36,7 @@ abbrev turned : List ℕ → Outcome → List Symbol → Read
 turned text o ys =
     elim o [
       | Refuse n p ↦ refusedAt n p
-      | Go s′ ↦ elim (isFinished s′) [ true ↦ refusedAt done 0 | false ↦ readFrom text s′ ys ]
+      | Go s′ ↦ elim (isFinished s′) [ true ↦ readWhole | false ↦ readFrom text s′ ys ]
       | Give s′ i ↦ with i (readFrom text s′ ys)
     ]
 
@@ -64,7 +64,7 @@ module _ (text : List ℕ) (A : Node → Progress → List Item → Type 0) wher
     turn n B (Refuse k p) ys (refuses not-done) later e = absurd (not-done e)
     turn n B (Go t) ys (goes _ f) later e = go (isFinished (atNode n t)) refl e
       where
-        go : (b : Bool) → eqb n (nodeNumber Finish) ≡ b → Whole B (elim b [ true ↦ refusedAt done 0 | false ↦ readFrom text (atNode n t) ys ])
+        go : (b : Bool) → eqb n (nodeNumber Finish) ≡ b → Whole B (elim b [ true ↦ readWhole | false ↦ readFrom text (atNode n t) ys ])
         go true q e = f [] (subst (λ (r : Node). A r (atNode n t) []) (sym (ap nodeAt (eqb-true n (nodeNumber Finish) q))) (finished (atNode n t)))
         go false q e = f _ (later (atNode n t) e)
     turn n B (Give t i) ys (gives _ _ f) later e = f _ (later (atNode n t) e)

@@ -23,8 +23,8 @@ use Rattle.tables.proofs.Lists.{part-length}
 use Rattle.validity.specs.Valid.{validTables}
 use Rattle.validity.specs.Inner.{ValidSystem}
 use Rattle.validity.proofs.Laws.{ValidRow, row-valid, fields-fit}
-use Rattle.protocol.specs.declared.Found.{Found}
-use Rattle.protocol.specs.declared.Found.the-variants.{Nothing, Row}
+use Rattle.protocol.specs.declared.Callee.{Callee}
+use Rattle.protocol.specs.declared.Callee.the-variants.{Nothing, Row}
 use Rattle.protocol.specs.Letters.{actionBy, actionAt}
 use Rattle.protocol.specs.Answers.{byAction, callOn, tuningFrom}
 use Rattle.protocol.specs.Inner.{callsOf, CallableRow, Callable, CallableFound}
@@ -46,7 +46,7 @@ module _ (t : Tables) (v : validTables t ≡ true) where
   callable : (k : ℕ) → k < rowCount t → Callable t k
   callable k h = record { fields = fields-fit t v k h; row = callable-row (rowAt t k) (row-valid t v k h) }
 
-  pub callable-found : (f : Found) → Within t (callsOf f) → CallableFound t f
+  pub callable-found : (f : Callee) → Within t (callsOf f) → CallableFound t f
   callable-found Nothing h = tt
   callable-found (Row k) h = callable k (h .0)
 

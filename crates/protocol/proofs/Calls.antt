@@ -11,8 +11,8 @@ use Rattle.tables.specs.declared.Row.{Row as TableRow}
 use Rattle.tables.specs.declared.Row.the-variants.{Unused, Interval, Tone, System, Retuning, Logic}
 use Rattle.tables.specs.Layout.{Tables, rowAt}
 use Rattle.tables.proofs.Row as variants
-use Rattle.protocol.specs.declared.Found.{Found}
-use Rattle.protocol.specs.declared.Found.the-variants.{Nothing, Row}
+use Rattle.protocol.specs.declared.Callee.{Callee}
+use Rattle.protocol.specs.declared.Callee.the-variants.{Nothing, Row}
 use Rattle.protocol.specs.Letters.{actionBy}
 use Rattle.protocol.specs.Answers.{byAction, callOn, tuningFrom, madeFrom}
 use Rattle.protocol.specs.Inner.{CallableRow, Callable, CallsFound}
@@ -41,7 +41,7 @@ row-callable {t} h e f = subst (CallableRow t) (sym e ∙ f) (h .row)
 
 -- ---- at most one call
 
-module _ (t : Tables) (s : State) (f : Found) where
+module _ (t : Tables) (s : State) (f : Callee) where
   pub made-none : f ≡ Nothing → CallsFound t s f (record { state = s; number = done })
   unfolding tuningFrom madeFrom
   made-none e = record { state = rw e; number = rw e }

@@ -16,7 +16,7 @@ use lib.Seq.{getD-set-same, getD-set-other}
 use Rattle.integers.specs.Parts.{up}
 use Rattle.tables.specs.declared.Numbers.{Numbers}
 use Rattle.tables.specs.Layout.{readAt, rowOf, logicForm}
-use Rattle.protocol.specs.declared.Found.{Found}
+use Rattle.protocol.specs.declared.Callee.{Callee}
 use Rattle.protocol.specs.Letters.{isLogicOf, firstLogic}
 use Rattle.protocol.specs.Inner.{found, oneMore, decoded, triggers, logicTrigger, Indexed}
 use Rattle.protocol.proofs.Forms.{logic-by}
@@ -80,7 +80,7 @@ module _ (rows : List ℤ) (count : ℕ) where
       record { first = λ letter h. w .first letter h ∙ ap (λ (j : ℕ). oneMore (firstLogic rows letter j (count - j))) z ∙ ap (λ (n : ℕ). oneMore (firstLogic rows letter 0 n)) (sub-zero count) }
 
   -- what the index tells of a letter
-  pub indexed : {index : List ℕ} {f : Found} (letter : ℕ) → letter < triggers → Indexed rows count index → f ≡ found (decoded (getD index letter 0))
+  pub indexed : {index : List ℕ} {f : Callee} (letter : ℕ) → letter < triggers → Indexed rows count index → f ≡ found (decoded (getD index letter 0))
       → f ≡ found (firstLogic rows letter 0 count)
   indexed letter h x e = e ∙ ap (λ (n : ℕ). found (decoded n)) (x .first letter h) ∙ ap found (back (firstLogic rows letter 0 count))
     where

@@ -17,8 +17,8 @@ use Rattle.tables.proofs.Row as variants
 use Rattle.tables.proofs.Rows.{form-row}
 use Rattle.protocol.specs.declared.Active.{Active}
 use Rattle.protocol.specs.declared.Active.the-variants as active
-use Rattle.protocol.specs.declared.Found.{Found}
-use Rattle.protocol.specs.declared.Found.the-variants.{Nothing, Row}
+use Rattle.protocol.specs.declared.Callee.{Callee}
+use Rattle.protocol.specs.declared.Callee.the-variants.{Nothing, Row}
 use Rattle.protocol.specs.declared.letters.Called.{Called}
 use Rattle.protocol.specs.declared.letters.Called.the-variants as called
 use Rattle.protocol.specs.Letters.{isLogicOf, Pressed, firstLogic, orderBy, orderOf, elseOrder, startCalls, callsBy, unlessUnbound, pressed}
@@ -27,11 +27,11 @@ use Rattle.protocol.proofs.Forms.{logic-kind}
 
 -- ---- what the code's enum says
 
-abbrev pub optionOf : Found → Option ℕ
+abbrev pub optionOf : Callee → Option ℕ
 optionOf Nothing = none
 optionOf (Row k) = some k
 
-pub told : (o : Option ℕ) {f g : Found} → f ≡ found o → f ≡ g → o ≡ optionOf g
+pub told : (o : Option ℕ) {f g : Callee} → f ≡ found o → f ≡ g → o ≡ optionOf g
 told o e h = back o ∙ ap optionOf (sym e ∙ h)
   where
     back : (o : Option ℕ) → o ≡ optionOf (found o)

@@ -28,8 +28,8 @@ use Rattle.hexadecimal.specs.Lines.{begunWith}
 use Rattle.answers.specs.Answer.{smallestBuffer}
 use Rattle.protocol.specs.declared.Active.{Active}
 use Rattle.protocol.specs.declared.Active.the-variants as active
-use Rattle.protocol.specs.declared.Found.{Found}
-use Rattle.protocol.specs.declared.Found.the-variants.{Nothing, Row}
+use Rattle.protocol.specs.declared.Callee.{Callee}
+use Rattle.protocol.specs.declared.Callee.the-variants.{Nothing, Row}
 use Rattle.protocol.specs.declared.Desk.{Desk}
 use Rattle.protocol.specs.declared.Told.{Told}
 use Rattle.protocol.specs.declared.letters.Press.{Press}
@@ -41,7 +41,7 @@ use Rattle.protocol.specs.Answers.{tuningFrom, madeFrom, lastNumber, act
 -- ---- the code's values
 
 -- a declaration's number, or none, as the code's enum
-abbrev pub found : Option ℕ → Found
+abbrev pub found : Option ℕ → Callee
 found none = Nothing
 found (some k) = Row k
 
@@ -70,7 +70,7 @@ abbrev pub IndexOf : Tables → List ℕ → Type 0
 IndexOf t index = Indexed (t .rows) (rowCount t) index
 
 -- the first logic with a letter
-abbrev pub logicFor : Tables → ℕ → Found
+abbrev pub logicFor : Tables → ℕ → Callee
 logicFor t letter = found (firstLogic (t .rows) letter 0 (rowCount t))
 
 -- the kinds of what is called
@@ -121,7 +121,7 @@ abbrev pub gathered : List ℤ → List ℕ → List ℕ → ℕ → ℕ → Lis
 gathered rows letters calls from to = full noOrder mostOrders (recordsOf rows (slice from to letters) (slice from to calls))
 
 -- the declarations that are called: at most one
-abbrev pub callsOf : Found → List ℕ
+abbrev pub callsOf : Callee → List ℕ
 callsOf Nothing = []
 callsOf (Row k) = k ∷ []
 
@@ -166,12 +166,12 @@ pub record Callable (t : Tables) (k : ℕ) : Type 0 where
   pub fields : FieldsFit (readAt (t .rows) k)
   pub row : CallableRow t (rowAt t k)
 
-abbrev pub CallableFound : Tables → Found → Type 0
+abbrev pub CallableFound : Tables → Callee → Type 0
 CallableFound t Nothing = Unit
 CallableFound t (Row k) = Callable t k
 
 -- the state that a call leaves, and its number
-pub record CallsFound (t : Tables) (s : State) (f : Found) (r : Reply) : Type 0 where
+pub record CallsFound (t : Tables) (s : State) (f : Callee) (r : Reply) : Type 0 where
   pub state : r .state ≡ tuningFrom t s (callsOf f)
   pub number : r .number ≡ lastNumber (madeFrom t s (callsOf f))
 

@@ -1,6 +1,6 @@
 // What a letter calls: logics are tried in declared order, else the active logic's orders; and the call of a declaration.
 use crate::Active;
-use crate::Found;
+use crate::Callee;
 use crate::TRIGGERS;
 use orders::Order;
 use status::DONE;
@@ -58,7 +58,7 @@ enum Called {
 pub struct Press {
     pub bound: bool,
     pub active: Active,
-    pub called: Found,
+    pub called: Callee,
 }
 
 // Whether a row is a logic with this letter.
@@ -71,19 +71,19 @@ fn is_logic(n: Numbers, letter: u8) -> bool
 }
 
 // The first of the rows that is a logic with this letter.
-fn find_logic(rows: &[i32], count: u32, letter: u8) -> Found
+fn find_logic(rows: &[i32], count: u32, letter: u8) -> Callee
     ensures { λ r. ⌜ r ≡ found (firstLogic (now (rows .entry)) letter 0 count) ⌝ }
 {
     for i in 0..count {
         if is_logic(decode::numbers_at(rows, i as usize), letter) {
-            return Found::Row(i);
+            return Callee::Row(i);
         }
     }
-    Found::Nothing
+    Callee::Nothing
 }
 
 // The first logic with this letter, from the rows.
-pub fn first_logic(numbers: &[i32], codes: &[u16], letter: u8) -> Found
+pub fn first_logic(numbers: &[i32], codes: &[u16], letter: u8) -> Callee
     requires { ⌜ Slices (now numbers) (now codes) ⌝ }
     ensures { λ r. ⌜ r ≡ logicFor (tablesIn (now (numbers .entry)) (now (codes .entry))) letter ⌝ }
 {
@@ -174,13 +174,13 @@ fn find_order(rows: &[i32], orders: &[u16], from: usize, to: usize, letter: u8) 
 }
 
 // `logic`, the first with this letter, else what the active logic's first order with it calls.
-fn find_called(numbers: &[i32], codes: &[u16], active: Active, letter: u8, logic: Found) -> Called
+fn find_called(numbers: &[i32], codes: &[u16], active: Active, letter: u8, logic: Callee) -> Called
     requires { ⌜ Slices (now numbers) (now codes) ⌝ }
     requires { ⌜ logic ≡ logicFor (tablesIn (now numbers) (now codes)) letter ⌝ }
     requires { ⌜ ActiveReadable (tablesIn (now numbers) (now codes)) active ⌝ }
     ensures { λ r. ⌜ r ≡ calledBy (tablesIn (now (numbers .entry)) (now (codes .entry))) active letter ⌝ }
 {
-    if let Found::Row(i) = logic {
+    if let Callee::Row(i) = logic {
         return Called::Logic(i);
     }
     let Active::Logic(i) = active else {
@@ -201,13 +201,13 @@ fn find_called(numbers: &[i32], codes: &[u16], active: Active, letter: u8, logic
 }
 
 // The declaration of a logic's start: none where it is 0.
-fn find_start(start: u32) -> Found
+fn find_start(start: u32) -> Callee
     ensures { λ r. ⌜ callsOf r ≡ startCalls start ⌝ }
 {
     if start == 0 {
-        return Found::Nothing;
+        return Callee::Nothing;
     }
-    Found::Row(start - 1)
+    Callee::Row(start - 1)
 }
 
 // What a letter comes to. A called logic becomes active, and its start is called.
@@ -216,7 +216,7 @@ pub fn press_letter(
     codes: &[u16],
     active: Active,
     letter: u8,
-    logic: Found,
+    logic: Callee,
 ) -> Press
     requires { ⌜ Slices (now numbers) (now codes) ⌝ }
     requires { ⌜ logic ≡ logicFor (tablesIn (now numbers) (now codes)) letter ⌝ }
@@ -227,12 +227,12 @@ pub fn press_letter(
         Called::Nothing => Press {
             bound: false,
             active,
-            called: Found::Nothing,
+            called: Callee::Nothing,
         },
         Called::Other(k) => Press {
             bound: true,
             active,
-            called: Found::Row(k),
+            called: Callee::Row(k),
         },
         Called::Logic(k) => {
             let n = decode::numbers_at(&numbers[0..TONES_AT], k as usize);
@@ -281,13 +281,13 @@ fn call_declaration(numbers: &[i32], codes: &[u16], s: State, k: u32) -> Reply
 }
 
 // The call that a letter makes, if it makes one.
-pub fn make_call(numbers: &[i32], codes: &[u16], s: State, called: Found) -> Reply
+pub fn make_call(numbers: &[i32], codes: &[u16], s: State, called: Callee) -> Reply
     requires { ⌜ Slices (now numbers) (now codes) ⌝ }
     requires { ⌜ validState s ≡ true ⌝ }
     requires { ⌜ CallableFound (tablesIn (now numbers) (now codes)) called ⌝ }
     ensures { λ r. ⌜ CallsFound (tablesIn (now (numbers .entry)) (now (codes .entry))) s called r ⌝ }
 {
-    let Found::Row(k) = called else {
+    let Callee::Row(k) = called else {
         return Reply {
             state: s,
             number: DONE,

@@ -60,7 +60,7 @@ pub struct Told {
 }
 
 // A declaration's number, where there is one.
-pub enum Found {
+pub enum Callee {
     Nothing,
     Row(u32),
 }
@@ -115,14 +115,14 @@ pub fn index_logics(numbers: &[i32], codes: &[u16]) -> [u32; TRIGGERS]
 }
 
 // The first logic with this letter, from the index.
-pub fn find_indexed(index: &[u32; TRIGGERS], letter: u8) -> Found
+pub fn find_indexed(index: &[u32; TRIGGERS], letter: u8) -> Callee
     ensures { λ r. ⌜ r ≡ found (decoded (getD (now (index .entry)) letter 0)) ⌝ }
 {
     let k = index[letter as usize];
     if k == 0 {
-        return Found::Nothing;
+        return Callee::Nothing;
     }
-    Found::Row(k - 1)
+    Callee::Row(k - 1)
 }
 
 // Nothing is answered but a number.
@@ -150,7 +150,7 @@ pub fn answer_letter(
     desk: Desk,
     house: u8,
     letter: u8,
-    logic: Found,
+    logic: Callee,
     buffer: &mut [u8],
 ) -> Answered
     requires { ⌜ Ready (tablesIn (now numbers) (now codes)) desk (now buffer) ⌝ }

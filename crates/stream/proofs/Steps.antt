@@ -13,7 +13,7 @@ use lib.ListN.{length, getD, take, drop, set, take-append-drop, length-append, l
 use lib.Seq.{drop-cons, take-suc-set, take-all, take-at, drop-at, drop-drop, drop-append-le, length-take-le}
 use Rattle.hexadecimal.specs.Lines.{lineFeed}
 use Rattle.tuning.proofs.Lists.{both}
-use Rattle.frames.specs.Frames.{firstLetter, lastLetter, isHouse, isLetter, frameOf, inside, enough}
+use Rattle.frames.specs.Frames.{firstLetter, lastLetter, isHouse, isCapital, frameOf, inside, enough}
 use Rattle.frames.specs.declared.Frame.{Frame}
 use Rattle.frames.specs.declared.Frame.the-variants.{Letter}
 use Rattle.frames.proofs.Frame as variants
@@ -137,7 +137,7 @@ module _ (chunk : List ℕ) (i : ℕ) (k : i < length chunk) where
 
 pub letter-byte : {f : Frame} (house letter : ℕ) → f ≡ Letter house letter → inside f ≡ true → letter < triggers
 letter-byte house letter e h =
-    let b = both (isHouse house) (isLetter letter) (ap inside (sym e) ∙ h) .1 in
+    let b = both (isHouse house) (isCapital letter) (ap inside (sym e) ∙ h) .1 in
     omega (arith, leb-true letter lastLetter (both (leb firstLetter letter) (leb letter lastLetter) b .1))
 
 module _ (t : Tables) (d : Desk) (line : List ℕ) (room : ℕ) (m : smallestBuffer ≤ room) (v : validDesk t d ≡ true) {f : Frame} (e : f ≡ frameOf line) where

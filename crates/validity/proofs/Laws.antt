@@ -34,7 +34,7 @@ use Rattle.tables.specs.Values.{system, FieldsFit, Slices}
 use Rattle.tables.proofs.Lists.{part-length}
 use Rattle.tables.proofs.Sizes.{sizes-is, slices-of}
 use Rattle.validity.specs.declared.Ends.{Ends}
-use Rattle.validity.specs.Valid.{same, isSum, isLetter, isAnchorAmount, isWidthAmount, isSystemOrRetuning, isCalled, refersTo, isStart, isPart, noPart, declarationRight, isOwn, rowsRight, declarations, kinds, kindsFrom, kindsRight, Belonging, nothing, tones, changes, orders, belonging, ends, follows, endsAfter, partsFollow, ordersRight, toneRight, changeRight, eachRight, allZero, allNought, listRight, countsRight, validTables}
+use Rattle.validity.specs.Valid.{same, isSum, isCapital, isAnchorAmount, isWidthAmount, isSystemOrRetuning, isCalled, refersTo, isStart, isPart, noPart, declarationRight, isOwn, rowsRight, declarations, kinds, kindsFrom, kindsRight, Belonging, nothing, tones, changes, orders, belonging, ends, follows, endsAfter, partsFollow, ordersRight, toneRight, changeRight, eachRight, allZero, allNought, listRight, countsRight, validTables}
 use Rattle.validity.specs.Inner.{ValidSystem, ValidRetuning}
 use Rattle.validity.proofs.Same.{started, called}
 use Rattle.validity.proofs.Sizes.{Sizes, sizes-of, Room, room-of}
@@ -102,13 +102,13 @@ module _ (t : Tables) where
       ]
 
   abbrev OrderRight : ℕ → Type 0
-  OrderRight j = (isLetter (getD (t .letters) j 0) ≡ true) × (refersTo isCalled t (getD (t .calls) j 0) ≡ true)
+  OrderRight j = (isCapital (getD (t .letters) j 0) ≡ true) × (refersTo isCalled t (getD (t .calls) j 0) ≡ true)
 
   orders-at : (i n j : ℕ) → ordersRight t i n ≡ true → i ≤ j → j < i + n → OrderRight j
   unfolding ordersRight
   orders-at i zero j h k m = let e : ⊥ = omega arith in absurd e
   orders-at i (suc n) j h k m =
-      let letter = isLetter (getD (t .letters) i 0) in
+      let letter = isCapital (getD (t .letters) i 0) in
       let known = refersTo isCalled t (getD (t .calls) i 0) in
       let a = both (letter && known) (ordersRight t (suc i) n) h in
       elim (decLt i j) [
@@ -161,7 +161,7 @@ module _ (t : Tables) where
       let p = in-part 1 mostPositions from to h in
       record { tones = omega arith; changes = omega (arith, p, eqb-true from (e .changes) k); orders = omega arith }
   grows e (Logic x s from to) h k =
-      let p = in-part 0 mostOrders from to (both (isLetter x && isStart t s) (isPart 0 mostOrders from to) h .1) in
+      let p = in-part 0 mostOrders from to (both (isCapital x && isStart t s) (isPart 0 mostOrders from to) h .1) in
       record { tones = omega arith; changes = omega arith; orders = omega (arith, p, eqb-true from (e .orders) k) }
 
   -- the first of the rows, and those after it
@@ -223,7 +223,7 @@ pub record Refers (t : Tables) (low high i : ℕ) : Type 0 where
   pub most : readAt (t .rows) i .form ≤ high
 
 pub record ValidLogic (t : Tables) (key number from to : ℕ) : Type 0 where
-  pub letter : isLetter key ≡ true
+  pub letter : isCapital key ≡ true
   pub start : 1 ≤ number → Refers t systemForm tonesForm (number - 1)
   pub order : from ≤ to
   pub within : to ≤ orderCount t
@@ -314,8 +314,8 @@ module _ (t : Tables) (v : Valid t) where
       bare-valid (Period m) from to (period-modest m (b .0)) (b .1)
   declaration-valid (Retuning Tones from to) h w = retuning-valid Tones 1 from to refl (in-part 1 mostPositions from to h) w
   declaration-valid (Logic x s from to) h w =
-      let b = both (isLetter x && isStart t s) (isPart 0 mostOrders from to) h in
-      let d = both (isLetter x) (isStart t s) (b .0) in
+      let b = both (isCapital x && isStart t s) (isPart 0 mostOrders from to) h in
+      let d = both (isCapital x) (isStart t s) (b .0) in
       record { letter = d .0; start = start-valid s (d .1); order = omega (arith, in-part 0 mostOrders from to (b .1)); within = w }
 
 -- ---- a row's numbers fit its fields
@@ -379,8 +379,8 @@ module _ (t : Tables) (i : ℕ) (own : isOwn (t .rows) i ≡ true) (h : declarat
             let b = both (isWidthAmount m) (noPart (r .from) (r .to)) (right-at widthForm e) in
             omega (arith, width-small m (b .0), up-small (amountNumber m) (r .second) (second-at widthForm e));
         letter = λ e.
-            let b = both (isLetter x && isStart t (up (r .second))) (isPart 0 mostOrders (r .from) (r .to)) (right-at logicForm e) in
-            omega (arith, leb-true x lastLetter (both (leb firstLetter x) (leb x lastLetter) (both (isLetter x) (isStart t (up (r .second))) (b .0) .0) .1));
+            let b = both (isCapital x && isStart t (up (r .second))) (isPart 0 mostOrders (r .from) (r .to)) (right-at logicForm e) in
+            omega (arith, leb-true x lastLetter (both (leb firstLetter x) (leb x lastLetter) (both (isCapital x) (isStart t (up (r .second))) (b .0) .0) .1));
       }
 
 -- ---- for those who call

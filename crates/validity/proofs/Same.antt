@@ -21,7 +21,7 @@ use Rattle.tables.specs.declared.Row.the-variants.{Unused}
 use Rattle.tables.specs.Layout.{Tables, numbers, numberAt, readAt, mostOrders, numbersOf, rowOf, rowCount, used, intervalForm, toneForm, systemForm, anchorForm, widthForm, periodForm, tonesForm, logicForm, amountOf, amountCode, amountNumber, periodOf, periodCode, periodSum, keptCode, absoluteCode, plusCode, minusCode, timesCode, divideCode, freshCode, onwardCode, mutedCode, soundsCode, muteCode, moveCode, setCode}
 use Rattle.validity.specs.declared.Kinds.{Kinds}
 use Rattle.validity.specs.declared.Ends.{Ends}
-use Rattle.validity.specs.Valid.{same, noPart, isPart, isSum, isLetter, isAnchorAmount, isWidthAmount, isSystemOrRetuning, isCalled, refersTo, isStart, declarationRight, isOwn, rowsRight, declarations, kinds, oneMore, kindsFrom, kindsRight, belonging, ends, follows, endsAfter, partsFollow, ordersRight, toneRight, changeRight, eachRight, listRight, countsRight, validTables}
+use Rattle.validity.specs.Valid.{same, noPart, isPart, isSum, isCapital, isAnchorAmount, isWidthAmount, isSystemOrRetuning, isCalled, refersTo, isStart, declarationRight, isOwn, rowsRight, declarations, kinds, oneMore, kindsFrom, kindsRight, belonging, ends, follows, endsAfter, partsFollow, ordersRight, toneRight, changeRight, eachRight, listRight, countsRight, validTables}
 use Rattle.validity.proofs.Runs.{kinds-above, zero-bounds}
 use Rattle.validity.specs.Inner.{isZero, isLetterCode, isAmount, isForm, isStartCode, fastRow, kindsWith, endsWith, fastRows, fastOrders, fastEach, fastList, fastTables}
 
@@ -194,7 +194,7 @@ same-both z = rw (same-self z)
 same-up : (z : ℤ) → same (pos (up z)) z ≡ leZ (pos 0) z
 same-up z = rw (up-below z, up-above z) (and-true _)
 
-letter-same : (z : ℤ) → same (pos (up z)) z && isLetter (up z) ≡ isLetterCode z
+letter-same : (z : ℤ) → same (pos (up z)) z && isCapital (up z) ≡ isLetterCode z
 letter-same (pos n) = rw (le-self n)
 letter-same (negsuc n) = refl
 
@@ -240,10 +240,10 @@ module _ (t : Tables) where
   system-same a b p f = rw (same-up a, same-both b, leb·zero (up a), up-most a mostAnchor) (simp (and-true, and-assoc))
 
   logic-same : (a b : ℤ) (p f : Bool)
-      → same (pos (up a)) a && same (pos (up b)) b && (isLetter (up a) && isStart t (up b) && p) && f
+      → same (pos (up a)) a && same (pos (up b)) b && (isCapital (up a) && isStart t (up b) && p) && f
       ≡ isLetterCode a && isStartCode (t .rows) (rowCount t) b && (p && f)
   logic-same a b p f =
-      paired (same (pos (up a)) a) (same (pos (up b)) b) (isLetter (up a)) (isStart t (up b))
+      paired (same (pos (up a)) a) (same (pos (up b)) b) (isCapital (up a)) (isStart t (up b))
       ∙ rw (letter-same a, start-same b)
     where
       paired : (x y l s : Bool) → x && y && (l && s && p) && f ≡ (x && l) && (y && s) && (p && f)
@@ -300,7 +300,7 @@ module _ (t : Tables) where
         (bounds-same periods (isSum (periodSum p) && bare) true x y (nothing-same periods (isSum (periodSum p)) bare (period-same a b)))
         (bounds-same (isZero a && isZero b) (part 1 mostPositions) (eqb (up x) (e .changes)) x y
         (and-assoc (isZero a && isZero b) (part 1 mostPositions) (eqb (up x) (e .changes))))
-        (bounds-same (same (pos (up a)) a && same (pos (up b)) b) (isLetter (up a) && isStart t (up b) && part 0 mostOrders) (eqb (up x) (e .orders)) x y
+        (bounds-same (same (pos (up a)) a && same (pos (up b)) b) (isCapital (up a) && isStart t (up b) && part 0 mostOrders) (eqb (up x) (e .orders)) x y
         (logic-same a b (part 0 mostOrders) (eqb (up x) (e .orders))))
         unknown
         f

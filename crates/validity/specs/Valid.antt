@@ -55,8 +55,8 @@ isWidthAmount (Relative Times n) = leb n mostAmount
 isWidthAmount (Relative Divide n) = leb leastDivisor n && leb n mostAmount
 
 -- A to Z, as a frame names a letter: "a letter 41 to 5A"
-abbrev pub isLetter : ℕ → Bool
-isLetter c = leb firstLetter c && leb c lastLetter
+abbrev pub isCapital : ℕ → Bool
+isCapital c = leb firstLetter c && leb c lastLetter
 
 -- ---- references: "A called name means the retuning of that name, else the tone system, else (orders only) the logic"
 
@@ -117,7 +117,7 @@ declarationRight t (Interval d) = isTone (d .0)
 declarationRight t (Tone p) = isTone (p .0)
 declarationRight t (System a P from to) = isAnchor (pos (a .0)) && isPeriod (P .0) && isPart 1 mostPositions from to
 declarationRight t (Retuning r from to) = retuningRight r from to
-declarationRight t (Logic c s from to) = isLetter c && isStart t s && isPart 0 mostOrders from to
+declarationRight t (Logic c s from to) = isCapital c && isStart t s && isPart 0 mostOrders from to
 
 -- the five numbers of row i are those of the declaration that it stands for: one that the declaration does not use is zero
 unfoldable pub isOwn : List ℤ → ℕ → Bool
@@ -206,7 +206,7 @@ partsFollow c e (r ∷ rs) = follows e (belonging r) && partsFollow c (endsAfter
 
 unfoldable pub ordersRight : Tables → ℕ → ℕ → Bool
 ordersRight t i zero = true
-ordersRight t i (suc n) = isLetter (getD (t .letters) i 0) && refersTo isCalled t (getD (t .calls) i 0) && ordersRight t (suc i) n
+ordersRight t i (suc n) = isCapital (getD (t .letters) i 0) && refersTo isCalled t (getD (t .calls) i 0) && ordersRight t (suc i) n
 
 -- ---- tones and changes: the used ones in their ranges, with the numbers that they have, and the others zeros
 

@@ -1,7 +1,7 @@
 -- `protocol::find_indexed` meets its contract. Assumes nothing.
 use mathlib.Core.Path.{_≡_, refl, sym, ap}
 use Prim.Native.Nat.{ℕ, zero, suc, _-_}
-use Rattle.protocol.specs.declared.Found.the-variants.{Row}
+use Rattle.protocol.specs.declared.Callee.the-variants.{Row}
 use native.Mathlib.Omega.{arith}
 use borrow.Author.Needs.{needs}
 use Rattle.protocol.specs.Inner.{found, decoded}
