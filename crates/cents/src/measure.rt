@@ -13,7 +13,7 @@ const ONE: u32 = 10000;
 const HERTZ_440: u32 = 4400000;
 
 // The pitch of 440 hertz.
-const PITCH_440: i32 = 6900000;
+const PITCH_440: Pitch = Pitch(6900000);
 
 // 1,200,000 times a difference of logarithms.
 fn scale(difference: u64) -> u64
@@ -24,19 +24,19 @@ fn scale(difference: u64) -> u64
 }
 
 // The measure of the a-th root of p / q, to the nearest, a half upward.
-fn measure_of(a: u32, p: u32, q: u32) -> i32
+fn measure_of(a: u32, p: u32, q: u32) -> Interval
     requires { ⌜ (0 < a) × (a < 65536) × (0 < p) × (0 < q) ⌝ }
-    ensures { λ r. ⌜ (r ≡ measure a p q) × (natAbs r ≤ 38400000) ⌝ }
+    ensures { λ r. ⌜ (r .0 ≡ measure a p q) × (natAbs (r .0) ≤ 38400000) ⌝ }
 {
     let above = logarithm_of(p);
     let below = logarithm_of(q);
     let d = a as u64 * 0x4000_0000;
     if below <= above {
         let x = scale(above - below);
-        return ((2 * x + d) / (2 * d)) as i32;
+        return Interval(((2 * x + d) / (2 * d)) as i32);
     }
     let x = scale(below - above);
-    -(((2 * x + d - 1) / (2 * d)) as i32)
+    Interval(-(((2 * x + d - 1) / (2 * d)) as i32))
 }
 
 // The interval `p : q`.
@@ -44,7 +44,7 @@ pub fn measure_ratio(p: u32, q: u32) -> Interval
     requires { ⌜ (0 < p) × (0 < q) ⌝ }
     ensures { λ r. ⌜ (r .0 ≡ ratio p q) × (natAbs (r .0) ≤ 38400000) ⌝ }
 {
-    Interval(measure_of(1, p, q))
+    measure_of(1, p, q)
 }
 
 // The interval `A ROOT B`.
@@ -52,7 +52,7 @@ pub fn measure_root(a: u32, b: u32) -> Interval
     requires { ⌜ (0 < a) × (a < 65536) × (0 < b) ⌝ }
     ensures { λ r. ⌜ (r .0 ≡ root a b) × (natAbs (r .0) ≤ 38400000) ⌝ }
 {
-    Interval(measure_of(a, b, ONE))
+    measure_of(a, b, ONE)
 }
 
 // The pitch of a frequency.
@@ -60,5 +60,5 @@ pub fn measure_frequency(f: u32) -> Pitch
     requires { ⌜ 0 < f ⌝ }
     ensures { λ r. ⌜ (r .0 ≡ frequency f) × (natAbs (r .0) ≤ 45300000) ⌝ }
 {
-    Pitch(PITCH_440 + measure_of(1, f, HERTZ_440))
+    PITCH_440.shift(measure_of(1, f, HERTZ_440))
 }
