@@ -16,9 +16,8 @@ use Rattle.tuning.specs.declared.ToneChanges.{ToneChanges}
 use Rattle.tuning.specs.Scale.{Sound, muted, sounds}
 use Rattle.tuning.specs.Tuning.{Tuning, PositionTo, raised, soundOf, keysFrom, newTone, newTones, tonesTo, anchoredBy, widenedBy, done}
 use Rattle.tuning.specs.Desk.{cents}
+use Rattle.tuning.specs.Capped.{cappedTo}
 use Rattle.tuning.specs.State.{places, heardAt, positionOf, toneMeant, tonesMeant, held, coded, validState}
-use Rattle.tuning.specs.Inner.{modestChange, eachModest}
-use Rattle.tuning.proofs.Lists.{both}
 use Rattle.tuning.proofs.Valid.{none}
 use Rattle.tuning.proofs.Part.{part, part-none, part-get, part-set}
 use Rattle.tuning.proofs.Held.{unused, heard-tone, held-width, places-held, valid-held}
@@ -80,16 +79,10 @@ abbrev pub noChange : PositionChange
 noChange = record { change = Mute }
 
 abbrev pub retoned : List PositionChange → ℕ → Position → Position
-retoned l i p = positionOf (newTone cents (toneMeant (getD l i noChange .change)) (heardAt p))
-
-pub modest-at : (l : List PositionChange) (i : ℕ) → eachModest l ≡ true → modestChange (getD l i noChange .change) ≡ true
-unfolding eachModest
-modest-at [] i h = refl
-modest-at (x ∷ l) zero h = both (modestChange (x .change)) (eachModest l) h .0
-modest-at (x ∷ l) (suc i) h = modest-at l i (both (modestChange (x .change)) (eachModest l) h .1)
+retoned l i p = positionOf (newTone cents (cappedTo (toneMeant (getD l i noChange .change))) (heardAt p))
 
 abbrev meanings : List PositionChange → List (PositionTo cents)
-meanings l = map (λ (x : PositionChange). toneMeant (x .change)) l
+meanings l = map cappedTo (map (λ (x : PositionChange). toneMeant (x .change)) l)
 
 none-new : (l : List (PositionTo cents)) → newTones cents l [] ≡ []
 none-new [] = refl
@@ -141,9 +134,9 @@ module _ (s : State) (h : validState s ≡ true) (n : length (s .tones) ≡ plac
       b (s .period .0)
 
   pub retoned-state : (l : ToneChanges) → length (l .positions) ≡ places → (i : ℕ) → i ≡ min (s .width) (l .count)
-      → changed (retoned (l .positions)) i s ≡ coded (done cents (held s) (tonesTo (tonesMeant l)))
+      → changed (retoned (l .positions)) i s ≡ coded (done cents (held s) (tonesTo (map cappedTo (tonesMeant l))))
   retoned-state l m i e =
-      coded-places (newTones cents (tonesMeant l) (held s .tones)) (new-length (tonesMeant l) (held s .tones)) _
+      coded-places (newTones cents (map cappedTo (tonesMeant l)) (held s .tones)) (new-length (map cappedTo (tonesMeant l)) (held s .tones)) _
       (ap (part (retoned (l .positions)) i) (sym (places-held s h n))
       ∙ retoned-places (l .positions) (held s .tones) (unused (held s .tones)) (l .count) i (omega (arith, valid-held s h n .most)) (rw (held-width s h n) e))
       (s .anchor .0) (s .period .0)

@@ -3,8 +3,10 @@ pub mod Lists
 pub mod Valid
 pub mod Tones
 pub mod Part
+pub mod Steps
 pub mod Held
 pub mod Changed
 pub mod Outcomes
+pub mod Capped
 pub mod Laws
 pub mod Sums

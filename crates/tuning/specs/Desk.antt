@@ -6,6 +6,7 @@ use lib.IntN.{ℤ, pos, negℤ, _+ℤ_, _-ℤ_, _*ℤ_}
 use lib.Signed.{leZ}
 use Rattle.integers.specs.Parts.{up}
 use Rattle.limits.specs.Limits.{mostAnchor, mostPositions, farthestTone, longestPeriod}
+use Rattle.cents.specs.Passages.{shift, distance}
 use Rattle.cents.specs.Measure.{pitch440}
 use Rattle.status.specs.Status.{anchorOutOfRange, widthOutOfRange, periodOutOfRange, endSilent, toneOutOfRange}
 use Rattle.tuning.specs.Scale.{Scale, Sound, muted, sounds}
@@ -16,8 +17,8 @@ abbrev pub cents : Scale
 cents = record {
   Tone = ℤ;
   Step = ℤ;
-  shift = λ t d. t +ℤ d;
-  between = λ t u. u -ℤ t;
+  shift = shift;
+  between = λ t u. distance u t;
   none = pos 0;
   add = λ d e. d +ℤ e;
   times = λ k d. k *ℤ d;

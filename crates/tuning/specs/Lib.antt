@@ -3,5 +3,6 @@ pub mod Scale
 pub mod Tuning
 pub mod Desk
 pub mod State
+pub mod Capped
 pub mod Sums
 pub mod Inner

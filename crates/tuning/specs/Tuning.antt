@@ -5,6 +5,7 @@ use lib.IntN.{ℤ, pos, subℕ}
 use lib.ListN.{getD, length}
 use Rattle.integers.specs.Parts.{up}
 use Rattle.integers.specs.Floor.{floorDiv, floorMod}
+use Rattle.cents.specs.Passages.{keyDistance}
 use Rattle.tuning.specs.declared.Operator.{Operator}
 use Rattle.tuning.specs.declared.Operator.the-variants.{Plus, Minus, Times, Divide}
 use Rattle.tuning.specs.declared.Amount.{Amount}
@@ -63,7 +64,7 @@ module _ (S : Scale) where
   -- "Key x has x - a = q·w + r with r from 0 to w-1; its pitch is t(r) + q·P, silent if t(r) is muted."
   abbrev pub soundOf : Tuning S → ℕ → Sound (S .Tone)
   soundOf s x =
-      let steps = subℕ x (s .anchor) in
+      let steps = keyDistance x (s .anchor) in
       raised (S .times (floorDiv steps (width s)) (s .period)) (toneAt s (floorMod steps (width s)))
 
   -- "pitch(b) - t(0)": the distance from position 0 to the key at the other end, silent where one of the two is

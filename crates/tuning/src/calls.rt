@@ -1,5 +1,6 @@
 // The retunings: each call takes the state and hands it back with its number, unchanged where the number is not 0.
 use crate::Amount;
+use crate::FARTHEST_SUM;
 use crate::Operator;
 use crate::PLACES;
 use crate::PeriodChange;
@@ -12,60 +13,80 @@ use crate::Tone;
 use crate::ToneChange;
 use crate::ToneChanges;
 use crate::is_period;
+use cents::FIRST_KEY;
 use cents::Interval;
 use cents::KeyNumber;
+use cents::KeySteps;
 use limits::MOST_ANCHOR;
 use limits::MOST_POSITIONS;
 ghost use mathlib.Core.Path.{_≡_};
 ghost use mathlib.Core.Bool.{true};
+ghost use mathlib.Core.List.{map};
 ghost use Prim.Native.Nat.{_≤_, _<_, _+_};
 ghost use lib.IntN.{natAbs, pos};
+ghost use lib.Signed.{leZ};
 ghost use Rattle.tuning.specs.Scale.{Sound};
 ghost use Rattle.tuning.specs.Tuning.{operated, amounts, Action, reach, anchoredBy, widenedBy, newTone, newPeriod, done};
 ghost use Rattle.tuning.specs.Desk.{cents};
 ghost use Rattle.tuning.specs.State.{heard, held, toneOf, coded, validState, replied, periodMeant, toneMeant, tonesMeant, meant};
-ghost use Rattle.tuning.specs.Inner.{size, reachOf, reachSize, allModest, modestChange, modestPeriod, modestRetuning};
+ghost use Rattle.tuning.specs.Capped.{capped, cappedTo, cappedPeriod};
+ghost use Rattle.tuning.specs.Inner.{size, reachOf, reachSize};
 
 const HIGHEST_KEY: i32 = MOST_ANCHOR as i32;
 
 const WIDEST: i32 = MOST_POSITIONS as i32;
 
-fn operate(operator: Operator, old: u8, n: u16) -> i32
-    ensures { λ r. ⌜ r ≡ operated operator old n ⌝ }
+fn operate(operator: Operator, old: KeySteps, n: u16) -> KeySteps
+    requires { ⌜ (leZ (pos 0) (old .0) ≡ true) × (natAbs (old .0) ≤ 255) ⌝ }
+    ensures { λ r. ⌜ r .0 ≡ operated operator (natAbs (old .0)) n ⌝ }
 {
     match operator {
-        Operator::Plus => old as i32 + n as i32,
-        Operator::Minus => old as i32 - n as i32,
-        Operator::Times => old as i32 * n as i32,
+        Operator::Plus => KeySteps(old.0 + n as i32),
+        Operator::Minus => KeySteps(old.0 - n as i32),
+        Operator::Times => KeySteps(old.0 * n as i32),
         Operator::Divide => {
             if n == 0 {
-                return 0;
+                return KeySteps(0);
             }
-            (old as u16 / n) as i32
+            KeySteps((old.0 as u32 / n as u32) as i32)
         }
     }
 }
 
-// The anchor or width that is asked for, from the one that it replaces.
-fn amount_of(asked: Amount, old: u8) -> i32
-    ensures { λ r. ⌜ r ≡ amounts asked old ⌝ }
+// The anchor, in keys above the first, or the width that is asked for, from the one that it replaces.
+fn amount_of(asked: Amount, old: KeySteps) -> KeySteps
+    requires { ⌜ (leZ (pos 0) (old .0) ≡ true) × (natAbs (old .0) ≤ 255) ⌝ }
+    ensures { λ r. ⌜ r .0 ≡ amounts asked (natAbs (old .0)) ⌝ }
 {
     match asked {
-        Amount::Kept => old as i32,
-        Amount::Absolute(n) => n as i32,
+        Amount::Kept => old,
+        Amount::Absolute(n) => KeySteps(n as i32),
         Amount::Relative(operator, n) => operate(operator, old, n),
     }
+}
+
+// An interval that can be added to any tone or period: past the farthest sum as that.
+fn cap(by: Interval) -> Interval
+    ensures { λ r. ⌜ (r .0 ≡ capped (by .0)) × (natAbs (r .0) ≤ 200_000_001) ⌝ }
+{
+    if by.0 <= -FARTHEST_SUM {
+        return Interval(-FARTHEST_SUM);
+    }
+    if FARTHEST_SUM <= by.0 {
+        return Interval(FARTHEST_SUM);
+    }
+    by
 }
 
 impl ToneChange {
     // The tone that a position gets in place of its old one.
     fn apply(self, old: Tone) -> Tone
-        requires { ⌜ (size old ≤ 100_000_000) × (modestChange self ≡ true) ⌝ }
-        ensures { λ r. ⌜ r ≡ toneOf (newTone cents (toneMeant self) (heard old)) ⌝ }
+        requires { ⌜ size old ≤ 100_000_000 ⌝ }
+        ensures { λ r. ⌜ r ≡ toneOf (newTone cents (cappedTo (toneMeant self)) (heard old)) ⌝ }
     {
         match self {
             ToneChange::Mute => Tone::Muted,
-            ToneChange::Move(by) => old.raise(by),
+            ToneChange::Move(by) => old.raise(cap(by)),
             ToneChange::Set(p) => Tone::At(p),
         }
     }
@@ -74,12 +95,12 @@ impl ToneChange {
 impl PeriodChange {
     // The period in place of the old one.
     fn apply(self, old: Interval) -> Interval
-        requires { ⌜ (natAbs (old .0) ≤ 100_000_000) × (modestPeriod self ≡ true) ⌝ }
-        ensures { λ r. ⌜ r .0 ≡ newPeriod cents (old .0) (periodMeant self) ⌝ }
+        requires { ⌜ natAbs (old .0) ≤ 100_000_000 ⌝ }
+        ensures { λ r. ⌜ r .0 ≡ newPeriod cents (old .0) (cappedPeriod (periodMeant self)) ⌝ }
     {
         match self {
             PeriodChange::Fresh(d) => d,
-            PeriodChange::Onward(d) => old.plus(d),
+            PeriodChange::Onward(d) => old.plus(cap(d)),
         }
     }
 }
@@ -101,10 +122,10 @@ impl State {
         Reach::By(p.distance(t))
     }
 
-    // The anchor at `b`, and every sounding tone shifted.
-    fn with_anchor(self, b: u8, by: Interval) -> State
+    // The anchor at a key, and every sounding tone shifted.
+    fn with_anchor(self, anchor: KeyNumber, by: Interval) -> State
         requires { ⌜ (validState self ≡ true) × (natAbs (by .0) ≤ 1_724_000_000) ⌝ }
-        ensures { λ r. ⌜ r ≡ coded (anchoredBy cents (held self) b (Sound.sounds (by .0))) ⌝ }
+        ensures { λ r. ⌜ r ≡ coded (anchoredBy cents (held self) (anchor .0) (Sound.sounds (by .0))) ⌝ }
     {
         let width = self.width as usize;
         let mut s = self;
@@ -116,7 +137,6 @@ impl State {
             s.tones[i] = Position { tone };
             i += 1;
         }
-        let anchor = KeyNumber(b);
         s.anchor = anchor;
         s
     }
@@ -126,16 +146,16 @@ impl State {
         requires { ⌜ (validState self ≡ true) × (v ≤ 60) ⌝ }
         ensures { λ r. ⌜ r ≡ coded (widenedBy cents (held self) v (Sound.sounds (period .0))) ⌝ }
     {
-        let a = self.anchor.0;
+        let a = self.anchor;
         let mut s = State {
-            anchor: KeyNumber(a),
+            anchor: a,
             width: v,
             tones: [Position { tone: Tone::Muted }; PLACES],
             period,
         };
         let mut i: u8 = 0;
         while i < v {
-            let tone = self.sound_of(KeyNumber(a + i));
+            let tone = self.sound_of(a.shift(KeySteps(i as i32)));
             s.tones[i as usize] = Position { tone };
             i += 1;
         }
@@ -144,8 +164,8 @@ impl State {
 
     // The tones within the width and the list changed.
     fn with_tones(self, list: ToneChanges) -> State
-        requires { ⌜ (validState self ≡ true) × (allModest list ≡ true) ⌝ }
-        ensures { λ r. ⌜ r ≡ coded (done cents (held self) (Action.tonesTo (tonesMeant list))) ⌝ }
+        requires { ⌜ validState self ≡ true ⌝ }
+        ensures { λ r. ⌜ r ≡ coded (done cents (held self) (Action.tonesTo (map cappedTo (tonesMeant list)))) ⌝ }
     {
         let mut s = self;
         let width = self.width;
@@ -172,26 +192,27 @@ impl State {
         requires { ⌜ validState self ≡ true ⌝ }
         ensures { λ r. ⌜ r ≡ replied self (Action.anchorTo asked) ⌝ }
     {
-        let b = amount_of(asked, self.anchor.0);
-        if b < 0 {
+        let b = amount_of(asked, self.anchor.distance(FIRST_KEY));
+        if b.0 < 0 {
             return Reply {
                 state: self,
                 number: status::ANCHOR_OUT_OF_RANGE,
             };
         }
-        if HIGHEST_KEY < b {
+        if HIGHEST_KEY < b.0 {
             return Reply {
                 state: self,
                 number: status::ANCHOR_OUT_OF_RANGE,
             };
         }
-        let Reach::By(d) = self.reach(KeyNumber(b as u8)) else {
+        let anchor = FIRST_KEY.shift(b);
+        let Reach::By(d) = self.reach(anchor) else {
             return Reply {
                 state: self,
                 number: status::END_SILENT,
             };
         };
-        let next = self.with_anchor(b as u8, d);
+        let next = self.with_anchor(anchor, d);
         if !next.has_allowed_tones() {
             return Reply {
                 state: self,
@@ -209,26 +230,26 @@ impl State {
         requires { ⌜ validState self ≡ true ⌝ }
         ensures { λ r. ⌜ r ≡ replied self (Action.widthTo asked) ⌝ }
     {
-        let v = amount_of(asked, self.width);
-        if v < 1 {
+        let v = amount_of(asked, KeySteps(self.width as i32));
+        if v.0 < 1 {
             return Reply {
                 state: self,
                 number: status::WIDTH_OUT_OF_RANGE,
             };
         }
-        if WIDEST < v {
+        if WIDEST < v.0 {
             return Reply {
                 state: self,
                 number: status::WIDTH_OUT_OF_RANGE,
             };
         }
-        let Reach::By(period) = self.reach(KeyNumber(self.anchor.0 + v as u8)) else {
+        let Reach::By(period) = self.reach(self.anchor.shift(v)) else {
             return Reply {
                 state: self,
                 number: status::END_SILENT,
             };
         };
-        let next = self.with_width(v as u8, period);
+        let next = self.with_width(v.0 as u8, period);
         if !next.has_allowed_tones() {
             return Reply {
                 state: self,
@@ -249,7 +270,7 @@ impl State {
 
     // "Period: P alone changes. Check: 12."
     pub fn change_period(self, change: PeriodChange) -> Reply
-        requires { ⌜ (validState self ≡ true) × (modestPeriod change ≡ true) ⌝ }
+        requires { ⌜ validState self ≡ true ⌝ }
         ensures { λ r. ⌜ r ≡ replied self (Action.periodTo (periodMeant change)) ⌝ }
     {
         let old = self.period;
@@ -270,7 +291,7 @@ impl State {
 
     // "Tones: positions beyond the width have no effect, tones beyond the list stay. Check: 14."
     pub fn change_tones(self, list: ToneChanges) -> Reply
-        requires { ⌜ (validState self ≡ true) × (allModest list ≡ true) ⌝ }
+        requires { ⌜ validState self ≡ true ⌝ }
         ensures { λ r. ⌜ r ≡ replied self (Action.tonesTo (tonesMeant list)) ⌝ }
     {
         let next = self.with_tones(list);
@@ -299,7 +320,7 @@ impl State {
 
     // A retuning of any kind; `list` has the positions of a tones retuning.
     pub fn retune(self, retuning: Retuning, list: ToneChanges) -> Reply
-        requires { ⌜ (validState self ≡ true) × (modestRetuning retuning ≡ true) × (allModest list ≡ true) ⌝ }
+        requires { ⌜ validState self ≡ true ⌝ }
         ensures { λ r. ⌜ r ≡ replied self (meant retuning list) ⌝ }
     {
         match retuning {

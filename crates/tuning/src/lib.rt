@@ -23,18 +23,21 @@ ghost use Rattle.tuning.specs.Inner.{placeOf, size};
 // How many positions a state has room for, and the width that takes them all.
 pub const PLACES: usize = MOST_POSITIONS as usize;
 
+// An interval this far takes every tone and every period out of its range, and so does any that is farther.
+pub const FARTHEST_SUM: i32 = 2 * FARTHEST_TONE + 1;
+
 // The start: its anchor, its width, so many tones, the pitch of the first, an octave and its twelfth part.
-const START_KEY: u8 = 60;
+const START_KEY: KeyNumber = KeyNumber(60);
 
 const START_WIDTH: u8 = 12;
 
 const START_TONES: usize = START_WIDTH as usize;
 
-const START_PITCH: i32 = 6_000_000;
+const START_PITCH: Pitch = Pitch(6_000_000);
 
-const OCTAVE: i32 = 1_200_000;
+const OCTAVE: Interval = Interval(1_200_000);
 
-const SEMITONE: i32 = 100_000;
+const SEMITONE: Interval = Interval(100_000);
 
 // A tone of a state: a pitch, or muted.
 pub enum Tone {
@@ -119,19 +122,19 @@ pub enum Reach {
 
 // "x - a = q·w + r with r from 0 to w-1"
 fn locate(steps: KeySteps, width: u8) -> Place
-    requires { ⌜ 0 < width ⌝ }
+    requires { ⌜ (0 < width) × (natAbs (steps .0) ≤ 255) ⌝ }
     ensures { λ r. ⌜ r ≡ placeOf (steps .0) width ⌝ }
 {
     let n = steps.0;
-    let w = width as u16;
+    let w = width as u32;
     if n < 0 {
-        let below = (-1 - n) as u16;
+        let below = (-1 - n) as u32;
         return Place {
             position: (w - 1 - below % w) as usize,
             periods: -1 - (below / w) as i32,
         };
     }
-    let above = n as u16;
+    let above = n as u32;
     Place {
         position: (above % w) as usize,
         periods: (above / w) as i32,
@@ -254,18 +257,18 @@ impl State {
         ensures { λ r. ⌜ r ≡ coded (start cents) ⌝ }
     {
         let mut s = State {
-            anchor: KeyNumber(START_KEY),
+            anchor: START_KEY,
             width: START_WIDTH,
             tones: [Position { tone: Tone::Muted }; PLACES],
-            period: Interval(OCTAVE),
+            period: OCTAVE,
         };
         let mut i: usize = 0;
-        let mut t: i32 = START_PITCH;
+        let mut t = START_PITCH;
         while i < START_TONES {
-            let tone = Tone::At(Pitch(t));
+            let tone = Tone::At(t);
             s.tones[i] = Position { tone };
             i += 1;
-            t += SEMITONE;
+            t = t.shift(SEMITONE);
         }
         s
     }

@@ -8,7 +8,7 @@ use borrow.Author.Needs.{needs}
 use lib.IntN.{ℤ, pos, negsuc, _-ℤ_}
 use lib.Signed.{ltZ}
 use mir.Facts.{toZ-ofZ}
-use mir.Syntax.{w16, w32}
+use mir.Syntax.{w32}
 use mir.Val.{SFits, toZ, ofZ}
 use mir.ValLaws.{toZ-pos}
 use Rattle.integers.specs.Parts.{up, dn}
@@ -32,24 +32,24 @@ place-above : (z : ℤ) (w : ℕ) → ltZ z (pos 0) ≡ false →
 place-above (pos n) w h = refl
 place-above (negsuc n) w h = let e : ⊥ = omega (signed, h) in absurd e
 
--- below the anchor; -1 - z as sixteen bits hold it
+-- below the anchor; -1 - z as 32 bits hold it
 module _ (c : tie.Then1) where
   abbrev z : ℤ
   z = c .before .before .args .steps .0
 
-  fits : SFits w16 z
+  fits : SFits w32 z
   fits = search needs
 
   low : ltZ z (pos 0) ≡ true
   low = let f = fits in simp toZ-ofZ at (c .if1 .taken)
 
   small : dn z - 1 < 2 ^ 15
-  small = let f = fits in omega (signed, abs z)
+  small = omega (signed, abs z, c .before .before .pre .1)
 
-  rest-fits : SFits w16 (negsuc 0 -ℤ z)
+  rest-fits : SFits w32 (negsuc 0 -ℤ z)
   rest-fits = let l = low in let s = small in omega (signed, diff (negsuc 0) z, abs z, abs (negsuc 0 -ℤ z))
 
-  rest : toZ w16 (ofZ w16 (negsuc 0 -ℤ toZ w16 (ofZ w16 z))) ≡ pos (dn z - 1)
+  rest : toZ w32 (ofZ w32 (negsuc 0 -ℤ toZ w32 (ofZ w32 z))) ≡ pos (dn z - 1)
   rest = let f = fits in let g = rest-fits in let l = low in simp toZ-ofZ (omega (signed, diff (negsuc 0) z, abs z))
 
   abbrev quotient : ℕ
@@ -74,7 +74,7 @@ rem-t10 : tie.Need-rem-t10
 rem-t10 c = search needs
 
 sub-t11 : tie.Need-sub-t11
-sub-t11 c = rw (rest c) (omega (arith, mod-lt (dn (z c) - 1) (c .before .before .pre)))
+sub-t11 c = rw (rest c) (omega (arith, mod-lt (dn (z c) - 1) (c .before .before .pre .0)))
 
 cast-t12 : tie.Need-cast-t12
 cast-t12 c = search needs
@@ -82,11 +82,11 @@ cast-t12 c = search needs
 div-t13 : tie.Need-div-t13
 div-t13 c = search needs
 
-cast-t14 : tie.Need-cast-t14
-cast-t14 c = let s = quotient-small c in rw (rest c) (omega signed)
+cast-t8 : tie.Need-cast-t8
+cast-t8 c = let s = quotient-small c in rw (rest c) (omega signed)
 
-sub-t15 : tie.Need-sub-t15
-sub-t15 c = let s = quotient-small c in rw (rest c, toZ-pos w32 (quotient c) (omega arith)) (periods-fit c)
+sub-t14 : tie.Need-sub-t14
+sub-t14 c = let s = quotient-small c in rw (rest c, toZ-pos w32 (quotient c) (omega arith)) (periods-fit c)
 
 returns : tie.Need-returns
 returns c =
@@ -98,35 +98,35 @@ module _ (c : tie.Else1) where
   abbrev y : ℤ
   y = c .before .before .args .steps .0
 
-  fits-above : SFits w16 y
+  fits-above : SFits w32 y
   fits-above = search needs
 
   high : ltZ y (pos 0) ≡ false
   high = let f = fits-above in simp toZ-ofZ at (c .if1 .left)
 
-  steps : toZ w16 (ofZ w16 y) ≡ pos (up y)
+  steps : toZ w32 (ofZ w32 y) ≡ pos (up y)
   steps = let f = fits-above in let h = high in simp toZ-ofZ (omega (signed, abs y))
 
-  steps-small : up y ≤ 2 ^ 15
-  steps-small = let f = fits-above in omega (signed, abs y)
+  steps-small : up y < 2 ^ 15
+  steps-small = omega (signed, abs y, c .before .before .pre .1)
 
-  above-small : up y / c .before .before .args .width ≤ 2 ^ 15
+  above-small : up y / c .before .before .args .width < 2 ^ 15
   above-small = omega (arith, steps-small, div-le-self (up y) (c .before .before .args .width))
 
 cast-above : tie.Need-cast-above
 cast-above c = let s = steps-small c in rw (steps c) (omega signed)
 
-rem-t16 : tie.Need-rem-t16
-rem-t16 c = search needs
+rem-t15 : tie.Need-rem-t15
+rem-t15 c = search needs
 
-cast-t17 : tie.Need-cast-t17
-cast-t17 c = let s = steps-small c in rw (steps c) (omega (arith, mod-lt (up (y c)) (c .before .before .pre)))
+cast-t16 : tie.Need-cast-t16
+cast-t16 c = let s = steps-small c in rw (steps c) (omega (arith, mod-lt (up (y c)) (c .before .before .pre .0)))
 
-div-t18 : tie.Need-div-t18
-div-t18 c = search needs
+div-t17 : tie.Need-div-t17
+div-t17 c = search needs
 
-cast-t19 : tie.Need-cast-t19
-cast-t19 c = let s = above-small c in rw (steps c) (omega signed)
+cast-t18 : tie.Need-cast-t18
+cast-t18 c = let s = above-small c in rw (steps c) (omega signed)
 
 returns-2 : tie.Need-returns-2
 returns-2 c =
@@ -144,12 +144,12 @@ locate-spec =
     sub-t11
     cast-t12
     div-t13
-    cast-t14
-    sub-t15
+    cast-t8
+    sub-t14
     returns
     cast-above
-    rem-t16
-    cast-t17
-    div-t18
-    cast-t19
+    rem-t15
+    cast-t16
+    div-t17
+    cast-t18
     returns-2)

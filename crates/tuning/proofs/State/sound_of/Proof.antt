@@ -17,6 +17,7 @@ use Rattle.tuning.specs.declared.State.{State}
 use Rattle.tuning.specs.declared.Place.{Place}
 use Rattle.tuning.proofs.Lists.{length-mapped}
 use Rattle.tuning.proofs.Valid.{Valid, none, valid-of, tone-size}
+use Rattle.tuning.proofs.Steps.{apart-size}
 use Rattle.tuning.proofs.Tones.{place, place-position, place-periods, place-shift, place-sound, sound-size}
 use Rattle.tuning.proofs.State.sound_of.Statement.{statement}
 use Rattle.tuning.proofs.State.sound_of.Tie as tie
@@ -66,7 +67,9 @@ distance-requires : tie.Need-distance-requires
 distance-requires c κs = search needs
 
 locate-requires : tie.Need-locate-requires
-locate-requires c κs = valid (c .before .before) .least
+locate-requires c κs =
+    let a = c .before .before .args in
+    (valid (c .before .before) .least, rw (c .distance .ensures) (apart-size (a .key .0) (a .t1 .anchor .0) (search needs) (search needs)))
 
 mul-p : tie.Need-mul-p
 mul-p c = omega (arith, position c)

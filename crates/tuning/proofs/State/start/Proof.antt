@@ -9,9 +9,8 @@ use borrow.Author.Needs.{needs}
 use lib.IntN.{ℤ, pos, subℕ, _+ℤ_, _*ℤ_}
 use lib.ListN.{length, getD, set, replicate, List·getD-map, List·getD-append}
 use lib.Seq.{paste, paste-zero, paste-suc}
-use mir.Syntax.{w32}
-use mir.Val.{toZ}
-use mir.ValLaws.{toZ-pos}
+use Rattle.cents.specs.Passages.{shift}
+use Rattle.cents.specs.declared.Pitch.{Pitch}
 use Rattle.integers.proofs.Signed.{signed, sum, minus, times}
 use Rattle.tuning.specs.Scale.{muted, sounds}
 use Rattle.tuning.specs.Tuning.{start, startTones}
@@ -74,9 +73,13 @@ filled-all : with-tones (filled 12) ≡ coded (start cents)
 unfolding filled scale
 filled-all = refl
 
-record Filled (s : State) (i t : ℕ) : Type 0 where
+-- the next tone
+further : (i : ℕ) → shift (pos (6_000_000 + 100_000 * i)) (pos 100_000) ≡ pos (6_000_000 + 100_000 * (i + 1))
+further i = omega signed
+
+record Filled (s : State) (i : ℕ) (t : Pitch) : Type 0 where
   upto : i ≤ 12
-  next : t ≡ 6_000_000 + 100_000 * i
+  next : t .0 ≡ pos (6_000_000 + 100_000 * i)
   state : s ≡ with-tones (filled i)
 
 abbrev Inv-loop : tie.InvT-loop
@@ -86,10 +89,10 @@ abbrev μ-loop : tie.MeasureT-loop
 μ-loop s₀ i₀ t₀ s i t = 12 - i
 
 loop-holds : tie.Need-loop-holds Inv-loop μ-loop
-loop-holds c = record { upto = omega arith; next = omega arith; state = ap with-tones filled-none }
+loop-holds c = record { upto = omega arith; next = refl; state = ap with-tones filled-none }
 
-mul-t13 : tie.Need-mul-t13 Inv-loop μ-loop
-mul-t13 c = search needs
+mul-t12 : tie.Need-mul-t12 Inv-loop μ-loop
+mul-t12 c = search needs
 
 element-set-from-s : tie.Need-element-set-from-s Inv-loop μ-loop
 element-set-from-s c = search needs
@@ -97,25 +100,21 @@ element-set-from-s c = search needs
 add-i : tie.Need-add-i Inv-loop μ-loop
 add-i c = search needs
 
--- the next tone, as 32 bits hold it
-next-tone : (c : tie.In-loop Inv-loop μ-loop) → toZ w32 (c .before .loop .t) ≡ pos (c .before .loop .t)
-next-tone c = toZ-pos w32 (c .before .loop .t) (omega (arith, c .before .loop .inv))
-
-add-t : tie.Need-add-t Inv-loop μ-loop
-add-t c = rw (next-tone c) (omega (signed, c .before .loop .inv))
+shift-requires : tie.Need-shift-requires Inv-loop μ-loop
+shift-requires c κs = rw (c .before .loop .inv .next) (omega (signed, c .before .loop .inv .upto))
 
 loop-less : tie.Need-loop-less Inv-loop μ-loop
 loop-less c = search needs
 
 loop-again : tie.Need-loop-again Inv-loop μ-loop
 loop-again c =
-    let l = c .before .loop in
+    let l = c .before .before .loop in
     record {
       upto = omega arith;
-      next = rw (next-tone c) (omega (arith, l .inv));
+      next = c .shift .ensures ∙ ap (λ (z : ℤ). shift z (pos 100_000)) (l .inv .next) ∙ further (l .i);
       state =
-          ap (λ (u : State). record { anchor = u .anchor; width = u .width; tones = set (u .tones) (l .i) (sounding (toZ w32 (l .t))); period = u .period }) (l .inv .state)
-          ∙ ap (λ (z : ℤ). with-tones (set (filled (l .i)) (l .i) (sounding z))) (next-tone c ∙ ap pos (l .inv .next))
+          ap (λ (u : State). record { anchor = u .anchor; width = u .width; tones = set (u .tones) (l .i) (sounding (l .t .0)); period = u .period }) (l .inv .state)
+          ∙ ap (λ (z : ℤ). with-tones (set (filled (l .i)) (l .i) (sounding z))) (l .inv .next)
           ∙ ap with-tones (filled-more (l .i) (omega arith));
     }
 
@@ -132,10 +131,10 @@ start-spec =
     Inv-loop
     μ-loop
     loop-holds
-    mul-t13
+    mul-t12
     element-set-from-s
     add-i
-    add-t
+    shift-requires
     loop-less
     loop-again
     returns)

@@ -16,10 +16,10 @@ use Rattle.tuning.proofs.State.with_anchor.Statement.{statement}
 use Rattle.tuning.proofs.State.with_anchor.Tie as tie
 
 abbrev Inv-loop : tie.InvT-loop
-Inv-loop b by width s₀ i₀ s i = (i ≤ width) × (s ≡ changed (λ k. shifted (by .0)) i s₀)
+Inv-loop anchor by width s₀ i₀ s i = (i ≤ width) × (s ≡ changed (λ k. shifted (by .0)) i s₀)
 
 abbrev μ-loop : tie.MeasureT-loop
-μ-loop b by width s₀ i₀ s i = width - i
+μ-loop anchor by width s₀ i₀ s i = width - i
 
 -- the state has sixty places
 long : (c : tie.Start Inv-loop μ-loop) → length (c .args .self .tones) ≡ 60
@@ -49,8 +49,8 @@ raise-requires c κs =
     let l = c .before .before in
     omega (arith, ap (λ (p : Position). size (p .tone)) (same l), tone-size (l .before .before .args .self) (valid-of (l .before .before .args .self) (l .before .before .pre .0)) (l .loop .i), l .before .before .pre .1)
 
-mul-t12 : tie.Need-mul-t12 Inv-loop μ-loop
-mul-t12 c = search needs
+mul-t11 : tie.Need-mul-t11 Inv-loop μ-loop
+mul-t11 c = search needs
 
 element-set-from-s : tie.Need-element-set-from-s Inv-loop μ-loop
 element-set-from-s c = omega (arith, most (c .before .before .before .before .before))
@@ -75,12 +75,12 @@ returns : tie.Need-returns Inv-loop μ-loop
 returns c =
     let l = c .before in
     let s = l .before .before .args .self in
-    let b = l .before .before .args .b in
+    let b = l .before .before .args .anchor in
     let f = shifted (l .before .before .args .by .0) in
     let n = long (l .before .before) in
     let e : l .loop .i ≡ s .width = omega (arith, l .loop .inv .0, c .loop-test .left) in
-    ap (λ (u : State). record { anchor = record { 0 = b }; width = u .width; tones = u .tones; period = u .period }) (l .loop .inv .1)
-    ∙ anchored-state s (l .before .before .pre .0) n b (l .before .before .args .by .0) (l .loop .i) e
+    ap (λ (u : State). record { anchor = b; width = u .width; tones = u .tones; period = u .period }) (l .loop .inv .1)
+    ∙ anchored-state s (l .before .before .pre .0) n (b .0) (l .before .before .args .by .0) (l .loop .i) e
 
 pub with-anchor-spec : {M : Type 1} → statement M
 with-anchor-spec =
@@ -93,7 +93,7 @@ with-anchor-spec =
     mul-p
     element-copy-out-p
     raise-requires
-    mul-t12
+    mul-t11
     element-set-from-s
     add-i
     loop-less

@@ -1,6 +1,7 @@
 -- `tuning::State::with_tones` meets its contract. The loop's invariant: the first i places are changed as the list says, and nothing else is.
 -- Assumes nothing.
 use mathlib.Core.Path.{_≡_, ap, _∙_}
+use mathlib.Core.List.{map}
 use Prim.Native.Nat.{_-_, _≤_, min}
 use native.Mathlib.Omega.{arith}
 use borrow.Author.Needs.{needs}
@@ -9,11 +10,12 @@ use Rattle.tuning.specs.declared.Tone.{Tone}
 use Rattle.tuning.specs.declared.Position.{Position}
 use Rattle.tuning.specs.Tuning.{Action, tonesTo, done}
 use Rattle.tuning.specs.Desk.{cents}
+use Rattle.tuning.specs.Capped.{cappedTo}
 use Rattle.tuning.specs.State.{held, coded, tonesMeant}
 use Rattle.tuning.specs.Inner.{size}
 use Rattle.tuning.proofs.Lists.{length-mapped}
 use Rattle.tuning.proofs.Valid.{none, valid-of, tone-size}
-use Rattle.tuning.proofs.Changed.{changed, changed-none, changed-get, changed-next, retoned, modest-at, retoned-state}
+use Rattle.tuning.proofs.Changed.{changed, changed-none, changed-get, changed-next, retoned, retoned-state}
 use Rattle.tuning.proofs.State.with_tones.Statement.{statement}
 use Rattle.tuning.proofs.State.with_tones.Tie as tie
 
@@ -31,7 +33,7 @@ listed : (c : tie.Start Inv-loop μ-loop) → length (c .args .t2 .positions) �
 listed c = search length-mapped
 
 wide : (c : tie.Start Inv-loop μ-loop) → c .args .self .width ≤ 60
-wide c = valid-of (c .args .self) (c .pre .0) .most
+wide c = valid-of (c .args .self) (c .pre) .most
 
 -- the place that is read is as it was when the loop began
 same : (l : tie.At-loop Inv-loop μ-loop) → getD (l .loop .s .tones) (l .loop .i) none ≡ getD (l .before .args .self .tones) (l .loop .i) none
@@ -39,8 +41,8 @@ same l = changed-get (retoned (l .before .args .t2 .positions)) (l .before .args
 
 -- the state where the loop ends, at the width or at the end of the list
 ends : (l : tie.At-loop Inv-loop μ-loop) → l .loop .i ≡ min (l .before .args .self .width) (l .before .args .t2 .count)
-    → l .loop .s ≡ coded (done cents (held (l .before .args .self)) (tonesTo (tonesMeant (l .before .args .t2))))
-ends l e = l .loop .inv .2 ∙ retoned-state (l .before .args .self) (l .before .pre .0) (long (l .before)) (l .before .args .t2) (listed (l .before)) (l .loop .i) e
+    → l .loop .s ≡ coded (done cents (held (l .before .args .self)) (tonesTo (map cappedTo (tonesMeant (l .before .args .t2)))))
+ends l e = l .loop .inv .2 ∙ retoned-state (l .before .args .self) (l .before .pre) (long (l .before)) (l .before .args .t2) (listed (l .before)) (l .loop .i) e
 
 loop-holds : tie.Need-loop-holds Inv-loop μ-loop
 loop-holds c = (omega arith, omega arith, changed-none (retoned (c .args .t2 .positions)) (c .args .self))
@@ -65,10 +67,8 @@ element-copy-out-position c = omega (arith, wide (c .before .before .before .bef
 
 apply-requires : tie.Need-apply-requires Inv-loop μ-loop
 apply-requires c κs =
-    let l = c .before .before .before .before in (
-      omega (arith, ap (λ (p : Position). size (p .tone)) (same l), tone-size (l .before .args .self) (valid-of (l .before .args .self) (l .before .pre .0)) (l .loop .i)),
-      modest-at (l .before .args .t2 .positions) (l .loop .i) (l .before .pre .1),
-    )
+    let l = c .before .before .before .before in
+    omega (arith, ap (λ (p : Position). size (p .tone)) (same l), tone-size (l .before .args .self) (valid-of (l .before .args .self) (l .before .pre)) (l .loop .i))
 
 mul-t15 : tie.Need-mul-t15 Inv-loop μ-loop
 mul-t15 c = omega (arith, wide (c .before .before .before .before .before .before))

@@ -1,14 +1,17 @@
 -- `tuning::State::with_width` meets its contract. The loop's invariant: the first i places hold the sounds of i keys from the anchor on, the
 -- others are unused. Assumes nothing.
 use mathlib.Core.Path.{_≡_, ap, _∙_}
-use Prim.Native.Nat.{ℕ, _-_, _≤_}
+use Prim.Native.Nat.{ℕ, _+_, _-_, _≤_}
 use native.Mathlib.Omega.{arith}
 use borrow.Author.Needs.{needs}
 use lib.ListN.{length, length-replicate}
 use Rattle.tuning.specs.declared.Tone.{Tone}
 use Rattle.tuning.specs.declared.Position.{Position}
-use Rattle.tuning.specs.State.{held}
+use Rattle.tuning.specs.Tuning.{soundOf}
+use Rattle.tuning.specs.Desk.{cents}
+use Rattle.tuning.specs.State.{held, positionOf}
 use Rattle.tuning.proofs.Valid.{none, valid-of}
+use Rattle.tuning.proofs.Steps.{key-fits, shifted-key}
 use Rattle.tuning.proofs.Changed.{changed, changed-none, changed-next, keyed, blank, keyed-state}
 use Rattle.tuning.proofs.State.with_width.Statement.{statement}
 use Rattle.tuning.proofs.State.with_width.Tie as tie
@@ -19,14 +22,32 @@ Inv-loop self v a s₀ i₀ s i = (i ≤ v) × (s ≡ changed (keyed (held self)
 abbrev μ-loop : tie.MeasureT-loop
 μ-loop self v a s₀ i₀ s i = v - i
 
-loop-holds : tie.Need-loop-holds Inv-loop μ-loop
-loop-holds c = (omega arith, changed-none (keyed (held (c .args .self)) (c .args .self .anchor .0)) (blank (c .args .self .anchor .0) (c .args .v) (c .args .period .0)))
+-- the anchor and the keys in the width are bytes
+bounds : (c : tie.Start Inv-loop μ-loop) → c .args .self .anchor .0 + c .args .v ≤ 255
+bounds c = omega (arith, valid-of (c .args .self) (c .pre .0), c .pre .1)
 
-add-t13 : tie.Need-add-t13 Inv-loop μ-loop
-add-t13 c = omega (arith, valid-of (c .before .before .args .self) (c .before .before .pre .0), c .before .before .pre .1)
+-- the key whose sound is asked for
+asked : (c : tie.After-shift Inv-loop μ-loop) → c .shift .result .0 ≡ c .before .before .before .before .args .self .anchor .0 + c .before .before .loop .i
+asked c =
+    shifted-key _ (c .before .before .loop .i) (omega (arith, c .before .loop-test .taken, bounds (c .before .before .before .before))) (c .shift .ensures)
+
+loop-holds : tie.Need-loop-holds Inv-loop μ-loop
+loop-holds c =
+    let a = c .before .args in
+    (omega arith, changed-none (keyed (held (a .self)) (a .self .anchor .0)) (blank (a .self .anchor .0) (a .v) (a .period .0)))
+
+cast-t13 : tie.Need-cast-t13 Inv-loop μ-loop
+cast-t13 c = search needs
+
+shift-requires : tie.Need-shift-requires Inv-loop μ-loop
+shift-requires c κs =
+    let b = bounds (c .before .before .before) in
+    key-fits _ (c .before .loop .i) (omega (arith, c .loop-test .taken)) (omega (arith, c .loop-test .taken))
 
 sound-of-requires : tie.Need-sound-of-requires Inv-loop μ-loop
-sound-of-requires c κs = (c .before .before .pre .0, omega (arith, c .before .before .pre .1))
+sound-of-requires c κs =
+    let start = c .before .before .before .before in
+    (start .pre .0, omega (arith, start .pre .1, asked c, c .before .loop-test .taken))
 
 cast-t16 : tie.Need-cast-t16 Inv-loop μ-loop
 cast-t16 c = search needs
@@ -45,24 +66,26 @@ loop-less c = search needs
 
 loop-again : tie.Need-loop-again Inv-loop μ-loop
 loop-again c =
-    let l = c .before .before in
-    let self = l .before .args .self in
+    let l = c .before .before .before in
+    let start = l .before .before in
+    let self = start .args .self in
     let a = self .anchor .0 in (
-      omega (arith, c .before .loop-test .taken),
-      changed-next (keyed (held self) a) (blank a (l .before .args .v) (l .before .args .period .0)) (l .loop .i) (l .loop .s) (l .loop .inv .1) (record { tone = c .sound-of .result })
-          (omega (arith, l .before .pre .1, c .before .loop-test .taken, length-replicate {A = Position} 60 none))
-          (ap (λ (t : Tone). record { tone = t }) (c .sound-of .ensures .0)),
+      omega (arith, c .before .before .loop-test .taken),
+      changed-next (keyed (held self) a) (blank a (start .args .v) (start .args .period .0)) (l .loop .i) (l .loop .s) (l .loop .inv .1) (record { tone = c .sound-of .result })
+          (omega (arith, start .pre .1, c .before .before .loop-test .taken, length-replicate {A = Position} 60 none))
+          (ap (λ (t : Tone). record { tone = t }) (c .sound-of .ensures .0) ∙ ap (λ (x : ℕ). positionOf (soundOf cents (held self) x)) (asked (c .before))),
     )
 
 returns : tie.Need-returns Inv-loop μ-loop
 returns c =
     let l = c .before in
-    let self = l .before .args .self in
+    let start = l .before .before in
+    let self = start .args .self in
     let a = self .anchor .0 in
-    let v = l .before .args .v in
-    let d = l .before .args .period .0 in
+    let v = start .args .v in
+    let d = start .args .period .0 in
     let e : l .loop .i ≡ v = omega (arith, l .loop .inv .0, c .loop-test .left) in
-    l .loop .inv .1 ∙ ap (λ (i : ℕ). changed (keyed (held self) a) i (blank a v d)) e ∙ keyed-state (held self) v d (l .before .pre .1)
+    l .loop .inv .1 ∙ ap (λ (i : ℕ). changed (keyed (held self) a) i (blank a v d)) e ∙ keyed-state (held self) v d (start .pre .1)
 
 pub with-width-spec : {M : Type 1} → statement M
 with-width-spec =
@@ -71,7 +94,8 @@ with-width-spec =
     Inv-loop
     μ-loop
     loop-holds
-    add-t13
+    cast-t13
+    shift-requires
     sound-of-requires
     cast-t16
     mul-t17

@@ -1,10 +1,11 @@
 -- By the three cases of a change.
-use mathlib.Core.Path.{_≡_}
-use mathlib.Core.Bool.{true}
+use mathlib.Core.Path.{_≡_, ap, _∙_}
+use lib.IntN.{ℤ}
 use native.Mathlib.Omega.{arith}
 use borrow.Author.Needs.{needs}
-use borrow.Author.Tests.{leb-true}
-use Rattle.tuning.specs.Inner.{modest}
+use Rattle.tuning.specs.Tuning.{raised}
+use Rattle.tuning.specs.Desk.{cents}
+use Rattle.tuning.specs.State.{heard, toneOf}
 use Rattle.tuning.proofs.ToneChange.apply.Statement.{statement}
 use Rattle.tuning.proofs.ToneChange.apply.Tie as tie
 
@@ -14,10 +15,11 @@ enum-told c = search needs
 enum-known-self : tie.Need-enum-known-self
 enum-known-self c = search needs
 
+cap-requires : tie.Need-cap-requires
+cap-requires c κs = search needs
+
 raise-requires : tie.Need-raise-requires
-raise-requires c κs =
-    let e : modest (c .before .self .given .0 .0 .0) ≡ true = cc in
-    omega (arith, leb-true)
+raise-requires c κs = search needs
 
 enum-known-self-2 : tie.Need-enum-known-self-2
 enum-known-self-2 c = search needs
@@ -26,7 +28,7 @@ returns : tie.Need-returns
 returns c = search needs
 
 returns-2 : tie.Need-returns-2
-returns-2 c = rw (c .before .before .self .given .1) (c .raise .ensures)
+returns-2 c = rw (c .before .before .before .self .given .1) (c .raise .ensures ∙ ap (λ (z : ℤ). toneOf (raised cents z (heard (c .before .before .before .before .before .args .old)))) (c .before .cap .ensures .0))
 
 returns-3 : tie.Need-returns-3
 returns-3 c = rw (c .before .self2 .given .1)
@@ -37,6 +39,7 @@ apply-spec =
     (tie.spec
     enum-told
     enum-known-self
+    cap-requires
     raise-requires
     enum-known-self-2
     returns
