@@ -40,7 +40,7 @@ module _ (t : Tables) (v : validTables t ≡ true) where
   callable-row (Interval d) h = tt
   callable-row (Tone p) h = tt
   callable-row (System a P from to) h = record { part = h .part; state = h .state }
-  callable-row (Retuning r from to) h = record { modest = h .modest; part = h .part; list = h .list }
+  callable-row (Retuning r from to) h = h
   callable-row (Logic c s from to) h = tt
 
   callable : (k : ℕ) → k < rowCount t → Callable t k

@@ -159,7 +159,7 @@ CallableRow t Unused = Unit
 CallableRow t (Interval d) = Unit
 CallableRow t (Tone p) = Unit
 CallableRow t (System a P from to) = ValidSystem t (a .0) (P .0) from to
-CallableRow t (Retuning r from to) = ValidRetuning t r from to
+CallableRow t (Retuning r from to) = ValidRetuning t from to
 CallableRow t (Logic c s from to) = Unit
 
 pub record Callable (t : Tables) (k : ℕ) : Type 0 where

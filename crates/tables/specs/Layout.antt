@@ -21,8 +21,9 @@ use Rattle.tuning.specs.declared.Tone.the-variants.{Muted, At}
 use Rattle.tuning.specs.declared.Retuning.{Retuning as RetuningForm}
 use Rattle.tuning.specs.declared.Retuning.the-variants.{Anchor, Width, Period, Tones}
 use Rattle.tables.specs.declared.Counts.{Counts}
-use Rattle.limits.specs.Limits.{mostSystems, mostRetunings, mostPositions, mostDeclarations, farthestTone}
+use Rattle.limits.specs.Limits.{mostSystems, mostRetunings, mostPositions, mostDeclarations}
 pub use Rattle.limits.specs.Limits.{mostOrders}
+pub use Rattle.tuning.specs.Capped.{farthestSum}
 use Rattle.tables.specs.declared.Numbers.{Numbers}
 use Rattle.tables.specs.declared.Row.{Row}
 use Rattle.tables.specs.declared.Row.the-variants.{Unused, Interval, Tone, System, Retuning, Logic}
@@ -52,10 +53,6 @@ mostTones = mostSystems * mostPositions
 
 abbrev pub mostChanges : ℕ
 mostChanges = mostRetunings * mostPositions
-
--- a sum of terms in a retuning is kept within this: what is beyond it is out of every range that the sum could lead to
-abbrev pub farthestSum : ℕ
-farthestSum = 2 * farthestTone + 1
 
 -- the number of rows, of tones, of changes and of orders
 abbrev pub countsSize : ℕ

@@ -15,7 +15,6 @@ use Rattle.integers.proofs.Signed.{signed, abs}
 use Rattle.limits.specs.Limits.{leastDivisor, mostAmount, mostPositions, firstLetter, lastLetter}
 use Rattle.tuning.specs.Desk.{isAnchor, isPeriod, isTone}
 use Rattle.tuning.specs.State.{heard}
-use Rattle.tuning.specs.Inner.{modest, modestPeriod, modestRetuning}
 use Rattle.tuning.specs.declared.Operator.the-variants.{Plus, Minus, Times, Divide}
 use Rattle.tuning.specs.declared.Amount.{Amount}
 use Rattle.tuning.specs.declared.Amount.the-variants.{Kept, Absolute, Relative}
@@ -38,7 +37,7 @@ use Rattle.validity.specs.Valid.{same, isSum, isCapital, isAnchorAmount,
 use Rattle.validity.specs.Inner.{ValidSystem, ValidRetuning}
 use Rattle.validity.proofs.Same.{started, called}
 use Rattle.validity.proofs.Sizes.{Sizes, sizes-of, Room, room-of}
-use Rattle.validity.proofs.Pools.{each-slice, tones-right, sum-modest, listed-modest}
+use Rattle.validity.proofs.Pools.{each-slice, tones-right}
 
 -- ---- the test taken apart
 
@@ -233,7 +232,7 @@ ValidRow t Unused = ⊥
 ValidRow t (Interval d) = (isTone (d .0) ≡ true)
 ValidRow t (Tone p) = (isTone (p .0) ≡ true)
 ValidRow t (System a P from to) = ValidSystem t (a .0) (P .0) from to
-ValidRow t (Retuning r from to) = ValidRetuning t r from to
+ValidRow t (Retuning r from to) = ValidRetuning t from to
 ValidRow t (Logic c s from to) = ValidLogic t c s from to
 
 -- by the test of the row that is referred to, which is that of its form
@@ -268,27 +267,19 @@ module _ (t : Tables) (v : Valid t) where
             });
       }
 
-  retuning-valid : (r : RetuningForm) (least m n : ℕ) → modestRetuning r ≡ true → InPart least mostPositions m n → n ≤ changeCount t → ValidRetuning t r m n
-  retuning-valid r least m n h p w =
+  retuning-valid : (least m n : ℕ) → InPart least mostPositions m n → n ≤ changeCount t → ValidRetuning t m n
+  retuning-valid least m n p w =
       let s = v .sizes in
       let k = v .room .changes in
-      record {
-        modest = h;
-        part = record { order = omega (arith, p); most = p .high; kinds = omega (arith, w, s .kinds, k); numbers = omega (arith, w, s .changes, k) };
-        list = listed-modest _ _ (each-slice changeRight m n (changeCount t) (t .kinds) (t .changes) w (v .changes));
-      }
+      record { order = omega (arith, p); most = p .high; kinds = omega (arith, w, s .kinds, k); numbers = omega (arith, w, s .changes, k) }
 
   -- one to which nothing belongs
-  bare-valid : (r : RetuningForm) (m n : ℕ) → modestRetuning r ≡ true → noPart m n ≡ true → ValidRetuning t r m n
-  bare-valid r m n h k =
+  bare-valid : (m n : ℕ) → noPart m n ≡ true → ValidRetuning t m n
+  bare-valid m n k =
       let a = both (eqb m 0) (eqb n 0) k in
       let e = eqb-true m 0 (a .0) in
       let f = eqb-true n 0 (a .1) in
-      retuning-valid r 0 m n h (record { low = omega arith; high = omega arith }) (omega arith)
-
-  period-modest : (m : PeriodChange) → isSum (periodSum m) ≡ true → modestPeriod m ≡ true
-  period-modest (Fresh d) h = refl
-  period-modest (Onward d) h = sum-modest (d .0) h
+      retuning-valid 0 m n (record { low = omega arith; high = omega arith }) (omega arith)
 
   start-valid : (s : ℕ) → isStart t s ≡ true → 1 ≤ s → Refers t systemForm tonesForm (s - 1)
   start-valid zero h l = let e : ⊥ = omega arith in absurd e
@@ -307,12 +298,11 @@ module _ (t : Tables) (v : Valid t) where
       let b = both (isAnchor (pos (a .0)) && isPeriod (P .0)) (isPart 1 mostPositions from to) h in
       let d = both (isAnchor (pos (a .0))) (isPeriod (P .0)) (b .0) in
       system-valid (a .0) (P .0) from to (d .0) (d .1) (in-part 1 mostPositions from to (b .1)) w
-  declaration-valid (Retuning (Anchor m) from to) h w = bare-valid (Anchor m) from to refl (both (isAnchorAmount m) (noPart from to) h .1)
-  declaration-valid (Retuning (Width m) from to) h w = bare-valid (Width m) from to refl (both (isWidthAmount m) (noPart from to) h .1)
+  declaration-valid (Retuning (Anchor m) from to) h w = bare-valid from to (both (isAnchorAmount m) (noPart from to) h .1)
+  declaration-valid (Retuning (Width m) from to) h w = bare-valid from to (both (isWidthAmount m) (noPart from to) h .1)
   declaration-valid (Retuning (Period m) from to) h w =
-      let b = both (isSum (periodSum m)) (noPart from to) h in
-      bare-valid (Period m) from to (period-modest m (b .0)) (b .1)
-  declaration-valid (Retuning Tones from to) h w = retuning-valid Tones 1 from to refl (in-part 1 mostPositions from to h) w
+      bare-valid from to (both (isSum (periodSum m)) (noPart from to) h .1)
+  declaration-valid (Retuning Tones from to) h w = retuning-valid 1 from to (in-part 1 mostPositions from to h) w
   declaration-valid (Logic x s from to) h w =
       let b = both (isCapital x && isStart t s) (isPart 0 mostOrders from to) h in
       let d = both (isCapital x) (isStart t s) (b .0) in

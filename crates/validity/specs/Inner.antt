@@ -12,12 +12,10 @@ use Rattle.integers.specs.Parts.{up}
 use Rattle.limits.specs.Limits.{leastDivisor, mostAmount, firstLetter, lastLetter}
 use Rattle.tuning.specs.Desk.{between, isAnchor, isPeriod, isTone}
 use Rattle.tuning.specs.State.{places, coded, validState}
-use Rattle.tuning.specs.Inner.{modestRetuning, allModest}
-use Rattle.tuning.specs.declared.Retuning.{Retuning as RetuningForm}
 use Rattle.tables.specs.declared.Counts.{Counts}
 use Rattle.tables.specs.declared.Numbers.{Numbers}
-use Rattle.tables.specs.Layout.{Tables, numberAt, rowWidth, mostOrders, fullSize, used, readAt, tonesFrom, changesFrom, intervalForm, toneForm, systemForm, anchorForm, widthForm, periodForm, tonesForm, logicForm, keptCode, minusCode, divideCode, freshCode, onwardCode, soundsCode, setCode}
-use Rattle.tables.specs.Values.{system, listed, Part}
+use Rattle.tables.specs.Layout.{Tables, numberAt, rowWidth, mostOrders, fullSize, used, readAt, tonesFrom, intervalForm, toneForm, systemForm, anchorForm, widthForm, periodForm, tonesForm, logicForm, keptCode, minusCode, divideCode, freshCode, onwardCode, soundsCode, setCode}
+use Rattle.tables.specs.Values.{system, Part}
 use Rattle.validity.specs.declared.Kinds.{Kinds}
 use Rattle.validity.specs.declared.Ends.{Ends}
 use Rattle.validity.specs.Valid.{same, isSum, isPart, noPart, kinds, kindsRight, ends, endsRight, allZero, allNought, countsRight}
@@ -138,8 +136,6 @@ pub record ValidSystem (t : Tables) (anchor : ℕ) (period : ℤ) (from to : ℕ
   pub part : Part (t .sounding) (t .tones) from to
   pub state : validState (coded (system anchor (tonesFrom t from to) period)) ≡ true
 
--- a retuning's row: its changes stand in the tables, and all its numbers are ones that a call takes
-pub record ValidRetuning (t : Tables) (r : RetuningForm) (from to : ℕ) : Type 0 where
-  pub modest : modestRetuning r ≡ true
-  pub part : Part (t .kinds) (t .changes) from to
-  pub list : allModest (listed (changesFrom t from to)) ≡ true
+-- a retuning's row: its changes stand in the tables
+abbrev pub ValidRetuning : Tables → ℕ → ℕ → Type 0
+ValidRetuning t from to = Part (t .kinds) (t .changes) from to

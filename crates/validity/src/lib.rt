@@ -42,6 +42,7 @@ use tables::TONES_AT;
 use tables::TONES_FORM;
 use tables::WIDTH_FORM;
 use tables::has_full_size;
+use tuning::FARTHEST_SUM;
 use tuning::PLACES;
 ghost use mathlib.Core.Path.{_≡_};
 ghost use mathlib.Core.Bool.{false, _&&_};
@@ -56,8 +57,6 @@ ghost use Rattle.validity.specs.Valid.{countsRight, isSum, noPart, kinds
 ghost use Rattle.validity.specs.Inner.{isZero, isAmount, isPartAt, isForm, isStartCode, fastRow, hasNaturals, isValue, valueRight, kindsWith, others, kindsAmong, endsWith, fastRows, fastOrders, fastEach, fastList};
 
 const HIGHEST_KEY: i32 = MOST_ANCHOR as i32;
-
-const FARTHEST_SUM: i32 = 2 * FARTHEST_TONE + 1;
 
 const HIGHEST_AMOUNT: i32 = MOST_AMOUNT as i32;
 

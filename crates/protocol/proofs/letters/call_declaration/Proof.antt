@@ -5,7 +5,6 @@ use lib.IntN.{ℤ}
 use Rattle.tuning.specs.Tuning.{Tuning, system}
 use Rattle.tuning.specs.Desk.{cents}
 use Rattle.tuning.specs.State.{held, replied, meant, validState}
-use Rattle.tuning.specs.Inner.{allModest}
 use Rattle.tuning.specs.declared.ToneChanges.{ToneChanges}
 use Rattle.tuning.proofs.Held.{held-coded}
 use Rattle.tables.specs.Layout.{tablesIn, mostChanges, changesAt, changeOf, joinedFrom}
@@ -97,15 +96,11 @@ cast-changes-from-2 c = search needs
 changes-from-requires : tie.Need-changes-from-requires
 unfolding tablesIn
 changes-from-requires c κs = let t = tablesIn (c .before .before .before .before .before .before .before .before .args .numbers .now) (c .before .before .before .before .before .before .before .before .args .codes .now) in
-    let h : ValidRetuning t _ _ _ = row-callable (c .before .before .before .before .before .before .before .before .pre .1 .1) (c .before .before .before .before .before .row-at .ensures) (c .before .before .before .retuning .given .1) in
-    subst (λ (l : List ℤ). Part (t .kinds) l (c .before .before .before .retuning .given .0 .1 .0) (c .before .before .before .retuning .given .0 .1 .1 .0)) (sym (section-last changesAt mostChanges (c .before .before .before .before .before .before .before .before .args .numbers .now) (c .before .before .before .before .before .before .before .before .pre .0 .all-numbers))) (h .part)
+    let h : ValidRetuning t _ _ = row-callable (c .before .before .before .before .before .before .before .before .pre .1 .1) (c .before .before .before .before .before .row-at .ensures) (c .before .before .before .retuning .given .1) in
+    subst (λ (l : List ℤ). Part (t .kinds) l (c .before .before .before .retuning .given .0 .1 .0) (c .before .before .before .retuning .given .0 .1 .1 .0)) (sym (section-last changesAt mostChanges (c .before .before .before .before .before .before .before .before .args .numbers .now) (c .before .before .before .before .before .before .before .before .pre .0 .all-numbers))) h
 
 retune-requires : tie.Need-retune-requires
-unfolding tablesIn
-retune-requires c κs = let t = tablesIn (c .before .before .before .before .before .before .before .before .before .args .numbers .now) (c .before .before .before .before .before .before .before .before .before .args .codes .now) in
-    let h : ValidRetuning t _ _ _ = row-callable (c .before .before .before .before .before .before .before .before .before .pre .1 .1) (c .before .before .before .before .before .before .row-at .ensures) (c .before .before .before .before .retuning .given .1) in
-    let list = c .changes-from .ensures ∙ ap (λ (l : List ℤ). listed (joinedFrom changeOf (t .kinds) l (c .before .before .before .before .retuning .given .0 .1 .0) (c .before .before .before .before .retuning .given .0 .1 .1 .0))) (section-last changesAt mostChanges (c .before .before .before .before .before .before .before .before .before .args .numbers .now) (c .before .before .before .before .before .before .before .before .before .pre .0 .all-numbers)) in
-    (c .before .before .before .before .before .before .before .before .before .pre .1 .0, h .modest, ap allModest list ∙ h .list)
+retune-requires c κs = c .before .before .before .before .before .before .before .before .before .pre .1 .0
 
 returns : tie.Need-returns
 unfolding tablesIn
