@@ -1,5 +1,6 @@
 // Answers: the line that each kind of frame gets, written into a lent buffer. Places are counted in bytes of the answer, two digits each.
 use cents::Interval;
+use cents::KeyNumber;
 use frames::DUMP_DATA;
 use frames::DUMP_KIND;
 use frames::KEY_KIND;
@@ -110,11 +111,11 @@ pub fn answer_letter(buf: &mut [u8], house: u8, letter: u8, number: u8, s: State
     end_line(buf, TONES_AT)
 }
 
-pub fn answer_key(buf: &mut [u8], house: u8, key: u8, number: u8, tone: Tone) -> usize
+pub fn answer_key(buf: &mut [u8], house: u8, key: KeyNumber, number: u8, tone: Tone) -> usize
     requires { ⌜ smallestBuffer ≤ length (now buf) ⌝ }
-    ensures { λ r. ⌜ (r ≡ length (lineOf (keyBytes house key number (heard tone)))) × (now (buf .exit) ≡ begunWith (lineOf (keyBytes house key number (heard tone))) (now (buf .entry))) ⌝ }
+    ensures { λ r. ⌜ (r ≡ length (lineOf (keyBytes house (key .0) number (heard tone)))) × (now (buf .exit) ≡ begunWith (lineOf (keyBytes house (key .0) number (heard tone))) (now (buf .entry))) ⌝ }
 {
-    put_head(buf, house, KEY_KIND, key, number);
+    put_head(buf, house, KEY_KIND, key.0, number);
     put_four(buf, STATE_AT, sound_bits(tone));
     end_line(buf, STATE_AT + TONE_BYTES)
 }

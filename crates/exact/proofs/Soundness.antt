@@ -81,7 +81,7 @@ module _ (t : Tables) where
       go : (bound : Bool) → cond bound (lastNumber (madeFrom t (d .tuning) (pressed t (d .active) letter .calls))) letterUnbound < tableDamaged
       go true = made-below (d .tuning) (pressed t (d .active) letter .calls)
       go false = omega arith
-  frame-below d (Key house key) = go (soundAt d key)
+  frame-below d (Key house key) = go (soundAt d (key .0))
     where
       go : (x : Sound ℤ) → keyNumber x < tableDamaged
       go muted = omega arith

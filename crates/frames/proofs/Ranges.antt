@@ -9,7 +9,7 @@ use lib.Dec.{eqb}
 use Rattle.frames.specs.declared.Frame.{Frame}
 use Rattle.frames.specs.declared.Frame.the-variants.{Bad, Letter, Key, Dump}
 use Rattle.hexadecimal.specs.Digits.{bytesOf}
-use Rattle.frames.specs.Frames.{firstHouse, secondHouse, isHouse, letterKind, keyKind, dumpKind, firstLetter, lastLetter, isCapital, lastKey, isKey, dumpData, letterFrame, keyFrame, dumpFrame, kindFrame, framed, frameOf, inside}
+use Rattle.frames.specs.Frames.{firstHouse, secondHouse, isHouse, letterKind, keyKind, dumpKind, firstLetter, lastLetter, isCapital, lastKey, isKey, keyOf, dumpData, letterFrame, keyFrame, dumpFrame, kindFrame, framed, frameOf, inside}
 use Rattle.ascii.proofs.Between.{each, in-range}
 
 -- ---- for callers: what `inside` says of a frame that has come
@@ -22,7 +22,7 @@ letter-ranges house letter e =
     let l = in-range firstLetter lastLetter letter (k .1) in
     (h .0, h .1, l .0, l .1)
 
-pub key-ranges : (house key : ℕ) → inside (Key house key) ≡ true → (firstHouse ≤ house) × (house ≤ secondHouse) × (key ≤ lastKey)
+pub key-ranges : (house key : ℕ) → inside (Key house (keyOf key)) ≡ true → (firstHouse ≤ house) × (house ≤ secondHouse) × (key ≤ lastKey)
 key-ranges house key e =
     let k = each (isHouse house) (isKey key) e in
     let h = in-range firstHouse secondHouse house (k .0) in
@@ -49,7 +49,7 @@ module _ (house : ℕ) (h : isHouse house ≡ true) where
 
   key-inside : (rest : List ℕ) → inside (keyFrame house rest) ≡ true
   key-inside [] = refl
-  key-inside (b ∷ []) = inside-if (isKey b) (Key house b) (λ e. rw (h, e))
+  key-inside (b ∷ []) = inside-if (isKey b) (Key house (keyOf b)) (λ e. rw (h, e))
   key-inside (b ∷ c ∷ more) = refl
 
   dump-inside : (rest : List ℕ) → inside (dumpFrame house rest) ≡ true

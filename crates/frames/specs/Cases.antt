@@ -6,7 +6,7 @@ use lib.ListN.{replicate}
 use Rattle.ascii.specs.Ascii.{byte, bytes}
 use Rattle.frames.specs.declared.Frame.{Frame}
 use Rattle.frames.specs.declared.Frame.the-variants.{Bad, Letter, Key, Dump}
-use Rattle.frames.specs.Frames.{firstHouse, secondHouse, frameOf}
+use Rattle.frames.specs.Frames.{firstHouse, secondHouse, keyOf, frameOf}
 
 -- the column "In"
 abbrev pub caseLines : List String
@@ -15,10 +15,10 @@ caseLines = "01014D" ∷ "010245" ∷ "010155" ∷ "020155" ∷ "020247" ∷ "01
 abbrev pub caseFrames : List Frame
 caseFrames =
     Letter firstHouse (byte "M")
-    ∷ Key firstHouse 0x45
+    ∷ Key firstHouse (keyOf 0x45)
     ∷ Letter firstHouse (byte "U")
     ∷ Letter secondHouse (byte "U")
-    ∷ Key secondHouse 0x47
+    ∷ Key secondHouse (keyOf 0x47)
     ∷ Letter firstHouse (byte "X")
     ∷ Bad
     ∷ []

@@ -6,6 +6,7 @@ use mathlib.Core.Option.{Option·elim}
 use lib.Dec.{leb, eqb}
 use Rattle.ascii.specs.Ascii.{between}
 pub use Rattle.limits.specs.Limits.{firstLetter, lastLetter}
+use Rattle.cents.specs.declared.KeyNumber.{KeyNumber}
 use Rattle.hexadecimal.specs.Digits.{bytesOf}
 use Rattle.frames.specs.declared.Frame.{Frame}
 use Rattle.frames.specs.declared.Frame.the-variants.{Bad, Letter, Key, Dump}
@@ -44,6 +45,9 @@ isCapital b = between firstLetter lastLetter b
 abbrev pub isKey : ℕ → Bool
 isKey b = leb b lastKey
 
+abbrev pub keyOf : ℕ → KeyNumber
+keyOf b = record { 0 = b }
+
 -- what stands after house and kind, a case for each kind
 abbrev pub letterFrame : ℕ → List ℕ → Frame
 letterFrame house (b ∷ []) = cond (isCapital b) (Letter house b) Bad
@@ -51,7 +55,7 @@ letterFrame house [] = Bad
 letterFrame house (b ∷ c ∷ more) = Bad
 
 abbrev pub keyFrame : ℕ → List ℕ → Frame
-keyFrame house (b ∷ []) = cond (isKey b) (Key house b) Bad
+keyFrame house (b ∷ []) = cond (isKey b) (Key house (keyOf b)) Bad
 keyFrame house [] = Bad
 keyFrame house (b ∷ c ∷ more) = Bad
 
@@ -81,7 +85,7 @@ frameOf line = Option·elim (bytesOf line) Bad framed
 abbrev pub inside : Frame → Bool
 inside Bad = true
 inside (Letter house letter) = isHouse house && isCapital letter
-inside (Key house key) = isHouse house && isKey key
+inside (Key house key) = isHouse house && isKey (key .0)
 inside (Dump house) = isHouse house
 
 -- of a line no more than these bytes matter: six digits, and one more that makes the line too long for a frame

@@ -1,5 +1,6 @@
 // Frames: a line of capital hexadecimal digits, and what it asks of the desk.
 use ascii::is_between;
+use cents::KeyNumber;
 use hexadecimal::digits::Value;
 use hexadecimal::digits::byte_value;
 ghost use mathlib.Core.Path.{_≡_};
@@ -33,7 +34,7 @@ pub const ENOUGH: usize = FRAME_DIGITS + 1;
 pub enum Frame {
     Bad,
     Letter { house: u8, letter: u8 },
-    Key { house: u8, key: u8 },
+    Key { house: u8, key: KeyNumber },
     Dump { house: u8 },
 }
 
@@ -46,10 +47,11 @@ fn read_letter(house: u8, letter: u8) -> Frame
     Frame::Bad
 }
 
-fn read_key(house: u8, key: u8) -> Frame
-    ensures { λ r. ⌜ r ≡ keyFrame house (key ∷ []) ⌝ }
+fn read_key(house: u8, number: u8) -> Frame
+    ensures { λ r. ⌜ r ≡ keyFrame house (number ∷ []) ⌝ }
 {
-    if key <= LAST_KEY {
+    if number <= LAST_KEY {
+        let key = KeyNumber(number);
         return Frame::Key { house, key };
     }
     Frame::Bad

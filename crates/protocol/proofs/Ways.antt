@@ -17,6 +17,7 @@ use Rattle.tables.specs.Layout.{Tables}
 use Rattle.validity.specs.Valid.{validTables}
 use Rattle.frames.specs.Frames.{frameOf, inside, isHouse, isKey, lastKey}
 use Rattle.frames.specs.declared.Frame.{Frame}
+use Rattle.cents.specs.declared.KeyNumber.{KeyNumber}
 use Rattle.frames.specs.declared.Frame.the-variants.{Bad, Letter, Key, Dump}
 use Rattle.hexadecimal.specs.Lines.{lineOf}
 use Rattle.frames.proofs.Frame as variants
@@ -79,8 +80,8 @@ module _ (t : Tables) (d : Desk) (frame : List ℕ) (room : ℕ) where
 
 -- ---- by the frame
 
-pub key-inside : {f : Frame} (house key : ℕ) → f ≡ Key house key → inside f ≡ true → key ≤ lastKey
-key-inside house key e h = leb-true key lastKey (both (isHouse house) (isKey key) (ap inside (sym e) ∙ h) .1)
+pub key-inside : {f : Frame} (house : ℕ) (key : KeyNumber) → f ≡ Key house key → inside f ≡ true → key .0 ≤ lastKey
+key-inside house key e h = leb-true (key .0) lastKey (both (isHouse house) (isKey (key .0)) (ap inside (sym e) ∙ h) .1)
 
 module _ (t : Tables) (d : Desk) (frame : List ℕ) {f : Frame} (e : f ≡ frameOf frame) where
   on-frame : {g : Frame} → f ≡ g → frameOutcome t d g ≡ frameOutcome t d (frameOf frame)

@@ -101,7 +101,7 @@ badOutcome d = record { desk = d; number = badFrame; made = []; line = lineOf ba
 
 unfoldable pub frameOutcome : Tables → Desk → Frame → Outcome
 frameOutcome t d (Letter house letter) = letterOutcome t d house letter
-frameOutcome t d (Key house key) = keyOutcome d house key
+frameOutcome t d (Key house key) = keyOutcome d house (key .0)
 frameOutcome t d (Dump house) = dumpOutcome d house
 frameOutcome t d Bad = badOutcome d
 

@@ -188,7 +188,7 @@ pub record Ready (t : Tables) (d : Desk) (buffer : List ℕ) : Type 0 where
 abbrev pub toldOutcome : Desk → Frame → Outcome
 toldOutcome d Bad = badOutcome d
 toldOutcome d (Letter house letter) = unchanged d done
-toldOutcome d (Key house key) = keyOutcome d house key
+toldOutcome d (Key house key) = keyOutcome d house (key .0)
 toldOutcome d (Dump house) = dumpOutcome d house
 
 -- its number is told, its line written, and the line's length told

@@ -2,7 +2,6 @@
 mod letters;
 
 use answers::SMALLEST_BUFFER;
-use cents::KeyNumber;
 use frames::Frame;
 use status::BAD_FRAME;
 use status::BUFFER_TOO_SMALL;
@@ -203,7 +202,7 @@ pub fn tell(desk: Desk, frame: Frame, buffer: &mut [u8]) -> Told
             length: 0,
         },
         Frame::Key { house, key } => {
-            let tone = s.sound_of(KeyNumber(key));
+            let tone = s.sound_of(key);
             let number = key_number(tone);
             let length = answers::answer_key(buffer, house, key, number, tone);
             Told { number, length }
