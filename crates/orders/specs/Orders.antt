@@ -4,13 +4,14 @@ use mathlib.Core.List.{List, [], _∷_}
 use mathlib.Core.Bool.{true, false}
 use lib.Dec.{eqb}
 use lib.ListN.{getD, drop}
+use Rattle.orders.specs.declared.Kind.the-variants as kind
 use Rattle.orders.specs.declared.Order.{Order}
 use Rattle.orders.specs.declared.Found.{Found}
 use Rattle.orders.specs.declared.Found.the-variants.{Nothing, At}
 
 -- what stands past the end
 abbrev pub noOrder : Order
-noOrder = record { letter = 0; kind = 0; number = 0 }
+noOrder = record { letter = 0; kind = kind.Nothing; number = 0 }
 
 abbrev pub orderAt : List Order → ℕ → Order
 orderAt xs i = getD xs i noOrder

@@ -2,10 +2,18 @@
 ghost use mathlib.Core.Path.{_≡_};
 ghost use Rattle.orders.specs.Orders.{firstMatch};
 
+// The kind of a declaration that is called. Nothing where it can't be called.
+pub enum Kind {
+    Nothing,
+    System,
+    Retuning,
+    Logic,
+}
+
 // A letter, the kind of what it calls, and the number of the declaration that is called.
 pub struct Order {
     pub letter: u8,
-    pub kind: u8,
+    pub kind: Kind,
     pub number: u16,
 }
 

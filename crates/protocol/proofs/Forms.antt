@@ -6,13 +6,15 @@ use native.Mathlib.Omega.{arith}
 use borrow.Author.Tests.{ne-eqb, le-leb, lt-leb}
 use lib.Dec.{eqb, leb}
 use Rattle.integers.specs.Parts.{up}
+use Rattle.orders.specs.declared.Kind.{Kind}
+use Rattle.orders.specs.declared.Kind.the-variants as kind
 use Rattle.tables.specs.declared.Numbers.{Numbers}
 use Rattle.tables.specs.declared.Row.{Row}
 use Rattle.tables.specs.declared.Row.the-variants.{Unused}
 use Rattle.tables.specs.Layout.{numbers, rowOf, intervalForm, toneForm, systemForm, anchorForm, widthForm, periodForm, tonesForm, logicForm}
 use Rattle.validity.specs.Valid.{isLogic}
 use Rattle.protocol.specs.Letters.{isLogicOf}
-use Rattle.protocol.specs.Inner.{noKind, systemKind, retuningKind, logicKind, kindOf}
+use Rattle.protocol.specs.Inner.{kindOf, isLogicKind}
 
 -- the forms one by one, and those that no row has
 by-form : (P : ℕ → Type 0) → P 0 → P 1 → P 2 → P 3 → P 4 → P 5 → P 6 → P 7 → P 8 → ((f : ℕ) → logicForm < f → P f) → (f : ℕ) → P f
@@ -29,9 +31,9 @@ by-form P p₀ p₁ p₂ p₃ p₄ p₅ p₆ p₇ p₈ other (suc (suc (suc (suc
     other (suc (suc (suc (suc (suc (suc (suc (suc (suc f))))))))) (omega arith)
 
 -- the kind of a row, as the code finds it by the form
-abbrev pub kindBy : ℕ → ℕ
+abbrev pub kindBy : ℕ → Kind
 kindBy f =
-    cond (eqb f systemForm) systemKind (cond (leb anchorForm f && leb f tonesForm) retuningKind (cond (eqb f logicForm) logicKind noKind))
+    cond (eqb f systemForm) kind.System (cond (leb anchorForm f && leb f tonesForm) kind.Retuning (cond (eqb f logicForm) kind.Logic kind.Nothing))
 
 module _ (n : Numbers) where
   -- the row, were this its form
@@ -64,10 +66,10 @@ module _ (n : Numbers) where
       by-form (λ f. eqb f logicForm ≡ isLogic (row f)) refl refl refl refl refl refl refl refl refl
       (λ f h. rw (no-row f h, ne-eqb f logicForm (omega arith))) (n .form)
 
-  pub logic-kind : eqb (kindOf (rowOf n)) logicKind ≡ eqb (n .form) logicForm
+  pub logic-kind : isLogicKind (kindOf (rowOf n)) ≡ eqb (n .form) logicForm
   unfolding rowOf
   logic-kind =
-      by-form (λ f. eqb (kindOf (row f)) logicKind ≡ eqb f logicForm) refl refl refl refl refl refl refl refl refl
+      by-form (λ f. isLogicKind (kindOf (row f)) ≡ eqb f logicForm) refl refl refl refl refl refl refl refl refl
       (λ f h. rw (no-row f h, ne-eqb f logicForm (omega arith))) (n .form)
 
   pub kind-by : kindBy (n .form) ≡ kindOf (rowOf n)

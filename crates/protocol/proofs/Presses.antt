@@ -10,6 +10,8 @@ use denote.Enum.Declared.{tagOf}
 use lib.Dec.{eqb}
 use lib.IntN.{ℤ}
 use Rattle.integers.specs.Parts.{up}
+use Rattle.orders.specs.declared.Kind.{Kind}
+use Rattle.orders.specs.declared.Kind.the-variants as kind
 use Rattle.tables.specs.declared.Row.{Row as TableRow}
 use Rattle.tables.specs.declared.Row.the-variants.{Unused, Interval, Tone, System, Retuning, Logic}
 use Rattle.tables.specs.Layout.{Tables, rowCount, logicForm, readAt, rowOf, rowAt}
@@ -22,7 +24,7 @@ use Rattle.protocol.specs.declared.Callee.the-variants.{Nothing, Row}
 use Rattle.protocol.specs.declared.letters.Called.{Called}
 use Rattle.protocol.specs.declared.letters.Called.the-variants as called
 use Rattle.protocol.specs.Letters.{isLogicOf, Pressed, firstLogic, orderBy, orderOf, elseOrder, startCalls, callsBy, unlessUnbound, pressed}
-use Rattle.protocol.specs.Inner.{found, logicKind, kindOf, kindAt, byKind, calledIn}
+use Rattle.protocol.specs.Inner.{found, kindOf, kindAt, isLogicKind, byKind, calledIn}
 use Rattle.protocol.proofs.Forms.{logic-kind}
 
 -- ---- what the code's enum says
@@ -66,9 +68,9 @@ module _ (t : Tables) (letter : ℕ) where
 -- ---- what is called, by its kind
 
 pub logic-called : (letter : ℕ) (rows : List ℤ) (k : ℕ) → isLogicOf letter (rowOf (readAt rows k)) ≡ true → called.Logic k ≡ calledIn rows (some k)
-logic-called letter rows k h = ap (λ (n : ℕ). byKind n k) (sym (go (rowOf (readAt rows k)) h))
+logic-called letter rows k h = ap (λ (x : Kind). byKind x k) (sym (go (rowOf (readAt rows k)) h))
   where
-    go : (r : TableRow) → isLogicOf letter r ≡ true → kindOf r ≡ logicKind
+    go : (r : TableRow) → isLogicOf letter r ≡ true → kindOf r ≡ kind.Logic
     go Unused h = absurd (false≢true h)
     go (Interval d) h = absurd (false≢true h)
     go (Tone p) h = absurd (false≢true h)
@@ -82,7 +84,7 @@ pressedAs rows a called.Nothing = record { bound = false; active = a; calls = []
 pressedAs rows a (called.Other k) = record { bound = true; active = a; calls = k ∷ [] }
 pressedAs rows a (called.Logic k) = record { bound = true; active = active.Logic k; calls = startCalls (up (readAt rows k .second)) }
 
-calls-itself : (a : Active) (k : ℕ) (r : TableRow) → eqb (kindOf r) logicKind ≡ false
+calls-itself : (a : Active) (k : ℕ) (r : TableRow) → isLogicKind (kindOf r) ≡ false
     → _≡_ {A = Pressed} (record { bound = true; active = a; calls = k ∷ [] }) (callsBy a k r)
 calls-itself a k Unused h = refl
 calls-itself a k (Interval d) h = refl
@@ -94,9 +96,9 @@ calls-itself a k (Logic c s from to) h = absurd (false≢true (sym h))
 pressed-as : (t : Tables) (a : Active) (o : Option ℕ) → pressedAs (t .rows) a (calledIn (t .rows) o) ≡ unlessUnbound t a o
 unfolding rowOf
 pressed-as t a none = refl
-pressed-as t a (some k) = go (eqb (kindAt (t .rows) k) logicKind) refl
+pressed-as t a (some k) = go (isLogicKind (kindAt (t .rows) k)) refl
   where
-    go : (b : Bool) → eqb (kindAt (t .rows) k) logicKind ≡ b
+    go : (b : Bool) → isLogicKind (kindAt (t .rows) k) ≡ b
         → pressedAs (t .rows) a (cond b (called.Logic k) (called.Other k)) ≡ callsBy a k (rowAt t k)
     go true h =
         let n = readAt (t .rows) k in

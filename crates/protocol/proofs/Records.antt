@@ -6,10 +6,15 @@ use mathlib.Core.Option.{some}
 use Prim.Native.Nat.{ℕ, suc, _+_, _-_, _*_, _≤_, _<_, _^_}
 use native.Mathlib.Numerals.{add-one}
 use native.Mathlib.Omega.{arith}
+use types.Run.{OneOf, miss}
+use denote.Enum.Declared.{tagOf}
 use lib.Dec.{eqb}
 use lib.IntN.{ℤ}
 use lib.ListN.{length, length-append, length-take, getD, set, take, drop-of-length-le}
 use lib.Seq.{sets, slice, slice-cons, length-slice, append-snoc, getD-at}
+use Rattle.orders.specs.declared.Kind.{Kind}
+use Rattle.orders.specs.declared.Kind.the-variants as kind
+use Rattle.orders.proofs.Kind as variants
 use Rattle.orders.specs.declared.Order.{Order}
 use Rattle.orders.specs.declared.Found.{Found as Match}
 use Rattle.orders.specs.declared.Found.the-variants as match
@@ -21,7 +26,7 @@ use Rattle.tables.proofs.Lists.{full-length, full-next}
 use Rattle.protocol.specs.declared.letters.Called.{Called}
 use Rattle.protocol.specs.declared.letters.Called.the-variants as called
 use Rattle.protocol.specs.Letters.{firstOrder}
-use Rattle.protocol.specs.Inner.{kindAt, byKind, calledIn, recordOf, recordsOf, gathered, OrderPart}
+use Rattle.protocol.specs.Inner.{kindAt, isLogicKind, byKind, calledIn, recordOf, recordsOf, gathered, OrderPart}
 
 -- ---- gathering: where the loop begins, one turn of it, and its end
 
@@ -55,7 +60,7 @@ module _ {rows : List ℤ} {letters calls : List ℕ} {from to : ℕ} (p : Order
       record { least = omega arith; left = rw n e }
 
   module _ {all : List Order} {i : ℕ} (g : Gathering rows letters calls from to all i) where
-    pub gathering-next : {kind : ℕ} → i < to → kind ≡ kindAt rows (getD calls i 0)
+    pub gathering-next : {kind : Kind} → i < to → kind ≡ kindAt rows (getD calls i 0)
         → Gathering rows letters calls from to (set all (i - from) (record { letter = getD letters i 0; kind = kind; number = getD calls i 0 })) (i + 1)
     unfolding zipWith
     gathering-next h e =
@@ -70,7 +75,7 @@ module _ {rows : List ℤ} {letters calls : List ℕ} {from to : ℕ} (p : Order
 
 -- one turn, with the order's two codes as the code reads them
 pub gathering-order : {rows : List ℤ} (orders : List ℕ) {from to : ℕ} → OrderPart (lettersIn orders) (callsIn orders) from to → {all : List Order} {i : ℕ}
-    → Gathering rows (lettersIn orders) (callsIn orders) from to all i → {kind : ℕ} → i < to → kind ≡ kindAt rows (getD orders (orderWidth * i + 1) 0)
+    → Gathering rows (lettersIn orders) (callsIn orders) from to all i → {kind : Kind} → i < to → kind ≡ kindAt rows (getD orders (orderWidth * i + 1) 0)
     → Gathering rows (lettersIn orders) (callsIn orders) from to
     (set all (i - from) (record { letter = getD orders (orderWidth * i) 0; kind = kind; number = getD orders (orderWidth * i + 1) 0 })) (i + 1)
 gathering-order {rows} orders p {all} {i} g h e =
@@ -85,6 +90,16 @@ module _ (orders : List ℕ) {from to : ℕ} (p : OrderPart (lettersIn orders) (
   codes-there = omega (arith, p .letters, p .calls, columns-length orders)
 
 -- ---- searching
+
+-- the kinds that are no logic
+abbrev pub noLogicKind : List ℕ
+noLogicKind = 0 ∷ 1 ∷ 2 ∷ []
+
+pub no-logic : (x : Kind) → OneOf noLogicKind (tagOf variants.the-type x) → isLogicKind x ≡ false
+no-logic kind.Nothing h = refl
+no-logic kind.System h = refl
+no-logic kind.Retuning h = refl
+no-logic kind.Logic h = absurd (miss noLogicKind 3 tt h)
 
 -- what the record calls that a search has found
 abbrev pub calledAt : List Order → Match → Called

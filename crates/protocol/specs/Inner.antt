@@ -1,6 +1,6 @@
 -- What the contracts of private functions cite: no part of the rules.
 use mathlib.Core.Path.{_≡_}
-use mathlib.Core.Bool.{true, cond}
+use mathlib.Core.Bool.{Bool, true, false, cond}
 use mathlib.Core.List.{List, [], _∷_, zipWith}
 use mathlib.Core.Option.{Option, some, none}
 use Prim.Native.Nat.{ℕ, zero, suc, _+_, _≤_, _<_, _^_}
@@ -8,6 +8,8 @@ use lib.Dec.{eqb}
 use lib.IntN.{ℤ}
 use lib.ListN.{length, getD}
 use lib.Seq.{slice}
+use Rattle.orders.specs.declared.Kind.{Kind}
+use Rattle.orders.specs.declared.Kind.the-variants as kind
 use Rattle.orders.specs.declared.Order.{Order}
 use Rattle.orders.specs.Orders.{noOrder}
 use Rattle.status.specs.Status.{done}
@@ -73,33 +75,27 @@ IndexOf t index = Indexed (t .rows) (rowCount t) index
 abbrev pub logicFor : Tables → ℕ → Callee
 logicFor t letter = found (firstLogic (t .rows) letter 0 (rowCount t))
 
--- the kinds of what is called
-abbrev pub noKind : ℕ
-noKind = 0
+-- the kind of a declaration that is called
+abbrev pub kindOf : TableRow → Kind
+kindOf Unused = kind.Nothing
+kindOf (Interval d) = kind.Nothing
+kindOf (Tone p) = kind.Nothing
+kindOf (System a P from to) = kind.System
+kindOf (Retuning r from to) = kind.Retuning
+kindOf (Logic c s from to) = kind.Logic
 
-abbrev pub systemKind : ℕ
-systemKind = 1
-
-abbrev pub retuningKind : ℕ
-retuningKind = 2
-
-abbrev pub logicKind : ℕ
-logicKind = 3
-
-abbrev pub kindOf : TableRow → ℕ
-kindOf Unused = noKind
-kindOf (Interval d) = noKind
-kindOf (Tone p) = noKind
-kindOf (System a P from to) = systemKind
-kindOf (Retuning r from to) = retuningKind
-kindOf (Logic c s from to) = logicKind
-
-abbrev pub kindAt : List ℤ → ℕ → ℕ
+abbrev pub kindAt : List ℤ → ℕ → Kind
 kindAt rows k = kindOf (rowOf (readAt rows k))
 
+abbrev pub isLogicKind : Kind → Bool
+isLogicKind kind.Nothing = false
+isLogicKind kind.System = false
+isLogicKind kind.Retuning = false
+isLogicKind kind.Logic = true
+
 -- a declaration's number, or none, as the code's enum that tells logics from others
-abbrev pub byKind : ℕ → ℕ → Called
-byKind kind k = cond (eqb kind logicKind) (called.Logic k) (called.Other k)
+abbrev pub byKind : Kind → ℕ → Called
+byKind x k = cond (isLogicKind x) (called.Logic k) (called.Other k)
 
 abbrev pub calledIn : List ℤ → Option ℕ → Called
 calledIn rows none = called.Nothing

@@ -2,6 +2,7 @@
 use crate::Active;
 use crate::Callee;
 use crate::TRIGGERS;
+use orders::Kind;
 use orders::Order;
 use status::DONE;
 use tables::ANCHOR_FORM;
@@ -37,15 +38,6 @@ ghost use Rattle.protocol.specs.Inner.{found, logicFor, logicTrigger, In
 
 // What is no trigger.
 const NO_TRIGGER: u32 = 256;
-
-// Kinds of what is called.
-const NO_KIND: u8 = 0;
-
-const SYSTEM_KIND: u8 = 1;
-
-const RETUNING_KIND: u8 = 2;
-
-const LOGIC_KIND: u8 = 3;
 
 // What a letter names: nothing, a logic, or a declaration that is called itself.
 enum Called {
@@ -119,16 +111,16 @@ pub fn index_rows(rows: &[i32], count: u32) -> [u32; TRIGGERS]
 }
 
 // The kind of declaration k.
-fn kind_of(rows: &[i32], k: usize) -> u8
+fn kind_of(rows: &[i32], k: usize) -> Kind
     ensures { λ r. ⌜ r ≡ kindAt (now (rows .entry)) k ⌝ }
 {
     let n = decode::numbers_at(rows, k);
     let form = n.form;
     match form {
-        SYSTEM_FORM => SYSTEM_KIND,
-        ANCHOR_FORM | WIDTH_FORM | PERIOD_FORM | TONES_FORM => RETUNING_KIND,
-        LOGIC_FORM => LOGIC_KIND,
-        _ => NO_KIND,
+        SYSTEM_FORM => Kind::System,
+        ANCHOR_FORM | WIDTH_FORM | PERIOD_FORM | TONES_FORM => Kind::Retuning,
+        LOGIC_FORM => Kind::Logic,
+        _ => Kind::Nothing,
     }
 }
 
@@ -139,7 +131,7 @@ fn gather_orders(rows: &[i32], orders: &[u16], from: usize, to: usize) -> [Order
 {
     let mut all = [Order {
         letter: 0,
-        kind: NO_KIND,
+        kind: Kind::Nothing,
         number: 0,
     }; ORDERS];
     for i in from..to {
@@ -167,7 +159,8 @@ fn find_order(rows: &[i32], orders: &[u16], from: usize, to: usize, letter: u8) 
     };
     let order = all[i];
     let number = order.number as u32;
-    if order.kind == LOGIC_KIND {
+    let kind = order.kind;
+    if let Kind::Logic = kind {
         return Called::Logic(number);
     }
     Called::Other(number)

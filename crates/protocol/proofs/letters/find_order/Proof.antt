@@ -1,9 +1,7 @@
 -- `protocol::letters::find_order` meets its contract. Assumes nothing.
 use mathlib.Core.Path.{sym, _∙_}
 use native.Mathlib.Omega.{arith}
-use borrow.Author.Tests.{eq-eqb, ne-eqb}
-use Rattle.protocol.specs.Inner.{logicKind}
-use Rattle.protocol.proofs.Records.{called-gathered, found-gathered}
+use Rattle.protocol.proofs.Records.{called-gathered, found-gathered, no-logic}
 use borrow.Author.Needs.{needs}
 use Rattle.protocol.proofs.letters.find_order.Statement.{statement}
 use Rattle.protocol.proofs.letters.find_order.Tie as tie
@@ -35,11 +33,14 @@ array-copy-out-order c = found-gathered (c .before .before .before .before .befo
 cast-number : tie.Need-cast-number
 cast-number c = search needs
 
+enum-told-2 : tie.Need-enum-told-2
+enum-told-2 c = search needs
+
 returns-2 : tie.Need-returns-2
-returns-2 c = rw (eq-eqb _ logicKind (c .if1 .taken)) at (called-gathered (c .before .before .before .before .before .before .before .before .before .before .args .rows .now) (c .before .before .before .before .before .before .before .before .before .before .args .letter) (c .before .before .before .before .before .before .before .before .before .before .pre) (c .before .before .before .before .before .before .before .before .gather-orders .ensures) (sym (c .before .before .before .before .before .before .before .find-match-in .ensures) ∙ c .before .before .before .before .before .i .given .1))
+returns-2 c = rw (c .enum-told2 .given .1) at (called-gathered (c .before .before .before .before .before .before .before .before .before .before .args .rows .now) (c .before .before .before .before .before .before .before .before .before .before .args .letter) (c .before .before .before .before .before .before .before .before .before .before .pre) (c .before .before .before .before .before .before .before .before .gather-orders .ensures) (sym (c .before .before .before .before .before .before .before .find-match-in .ensures) ∙ c .before .before .before .before .before .i .given .1))
 
 returns-3 : tie.Need-returns-3
-returns-3 c = rw (ne-eqb _ logicKind (c .if1 .left)) at (called-gathered (c .before .before .before .before .before .before .before .before .before .before .args .rows .now) (c .before .before .before .before .before .before .before .before .before .before .args .letter) (c .before .before .before .before .before .before .before .before .before .before .pre) (c .before .before .before .before .before .before .before .before .gather-orders .ensures) (sym (c .before .before .before .before .before .before .before .find-match-in .ensures) ∙ c .before .before .before .before .before .i .given .1))
+returns-3 c = rw (no-logic _ (c .match2 .keys2)) at (called-gathered (c .before .before .before .before .before .before .before .before .before .args .rows .now) (c .before .before .before .before .before .before .before .before .before .args .letter) (c .before .before .before .before .before .before .before .before .before .pre) (c .before .before .before .before .before .before .before .gather-orders .ensures) (sym (c .before .before .before .before .before .before .find-match-in .ensures) ∙ c .before .before .before .before .i .given .1))
 
 pub find-order-spec : {M : Type 1} → statement M
 find-order-spec =
@@ -54,5 +55,6 @@ find-order-spec =
     mul-order
     array-copy-out-order
     cast-number
+    enum-told-2
     returns-2
     returns-3)

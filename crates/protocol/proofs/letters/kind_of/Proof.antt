@@ -1,9 +1,9 @@
 -- `protocol::letters::kind_of` meets its contract. Assumes nothing.
 use mathlib.Core.Path.{_≡_, sym, ap, _∙_}
-use Prim.Native.Nat.{ℕ}
 use native.Mathlib.Omega.{arith}
 use borrow.Author.Needs.{needs}
 use borrow.Author.Tests.{ne-eqb, le-leb, lt-leb}
+use Rattle.orders.specs.declared.Kind.{Kind}
 use Rattle.tables.specs.declared.Numbers.{Numbers}
 use Rattle.tables.specs.Layout.{systemForm, anchorForm, tonesForm, logicForm, rowOf}
 use Rattle.protocol.specs.Inner.{kindOf, kindAt}
@@ -15,7 +15,7 @@ numbers-at-requires : tie.Need-numbers-at-requires
 numbers-at-requires c κs = search needs
 
 -- the kind by the form that was read is that of the definition
-kind-here : (c : tie.After-numbers-at) {k : ℕ} → kindBy (c .numbers-at .result .form) ≡ k → k ≡ kindAt (c .before .args .rows .now) (c .before .args .k)
+kind-here : (c : tie.After-numbers-at) {k : Kind} → kindBy (c .numbers-at .result .form) ≡ k → k ≡ kindAt (c .before .args .rows .now) (c .before .args .k)
 kind-here c e = sym e ∙ kind-by (c .numbers-at .result) ∙ ap (λ (n : Numbers). kindOf (rowOf n)) (c .numbers-at .ensures)
 
 returns : tie.Need-returns
