@@ -24,9 +24,7 @@ use tuning::ToneChanges;
 ghost use mathlib.Core.Path.{_≡_};
 ghost use mathlib.Core.Bool.{true};
 ghost use Prim.Native.Nat.{_≤_};
-ghost use lib.IntN.{natAbs};
 ghost use Rattle.tuning.specs.State.{validState};
-ghost use Rattle.tuning.specs.Inner.{modestChange, modestRetuning, allModest};
 
 const CASE: usize = 552;
 
@@ -50,9 +48,9 @@ const TONE_SYSTEM: u8 = 14;
 
 const LINE_FEED: u8 = 10;
 
-// A sum of a text has up to 41 bits. A tone or a period that is shifted by more than twice the tones' range leaves its own
-// range, and so does one set there: every sum beyond this number is refused as this number is, which stands for it.
-const FARTHEST_SUM: u64 = 200_000_001;
+// A sum of a text has up to 41 bits. One that 32 bits can't hold is out of every range, and so is the farthest that they can,
+// which stands for it.
+const FARTHEST: u64 = 2_147_483_647;
 
 fn wide(b: u8) -> u64
     ensures { λ r. ⌜ r ≤ 255 ⌝ }
@@ -74,33 +72,29 @@ fn four_bytes(case: &[u8; 552], at: usize) -> u64
         + wide(case[at + 3])
 }
 
-// Eight bytes of two's complement as a number of at most `FARTHEST_SUM` either way.
-fn clamp(bits: u64) -> i32
-    ensures { λ r. ⌜ natAbs r ≤ 200_000_001 ⌝ }
-{
+// Eight bytes of two's complement as a number of at most `FARTHEST` either way.
+fn clamp(bits: u64) -> i32 {
     let below = u64::MAX - bits;
-    if below < FARTHEST_SUM {
+    if below < FARTHEST {
         return -1 - below as i32;
     }
-    if bits < FARTHEST_SUM {
+    if bits < FARTHEST {
         return bits as i32;
     }
     if below < bits {
-        return -(FARTHEST_SUM as i32);
+        return -(FARTHEST as i32);
     }
-    FARTHEST_SUM as i32
+    FARTHEST as i32
 }
 
 fn value_at(case: &[u8; 552], at: usize) -> i32
     requires { ⌜ at ≤ 544 ⌝ }
-    ensures { λ r. ⌜ natAbs r ≤ 200_000_001 ⌝ }
 {
     clamp(four_bytes(case, at) * 4294967296 + four_bytes(case, at + 4))
 }
 
 fn change_at(case: &[u8; 552], at: usize) -> ToneChange
     requires { ⌜ at ≤ 543 ⌝ }
-    ensures { λ r. ⌜ modestChange r ≡ true ⌝ }
 {
     let value = value_at(case, at + 1);
     let kind = case[at];
@@ -111,9 +105,7 @@ fn change_at(case: &[u8; 552], at: usize) -> ToneChange
     }
 }
 
-fn changes_of(case: &[u8; 552]) -> ToneChanges
-    ensures { λ r. ⌜ allModest r ≡ true ⌝ }
-{
+fn changes_of(case: &[u8; 552]) -> ToneChanges {
     let mut list = ToneChanges {
         count: case[COUNT],
         positions: [PositionChange {
@@ -140,9 +132,7 @@ fn amount_asked(opcode: u8, n: u16) -> Amount {
     }
 }
 
-fn retuning_of(case: &[u8; 552]) -> Retuning
-    ensures { λ r. ⌜ modestRetuning r ≡ true ⌝ }
-{
+fn retuning_of(case: &[u8; 552]) -> Retuning {
     let opcode = case[0];
     let n = two_bytes(case[1], case[2]);
     let value = Interval(value_at(case, VALUE));

@@ -1,26 +1,11 @@
--- The loop's invariant: every change stored so far is modest, as is muting.
-use mathlib.Core.Path.{_≡_, refl}
-use mathlib.Core.Bool.{true, and-eq-true-iff}
-use mathlib.Core.List.{List, [], _∷_}
-use Prim.Native.Nat.{ℕ, zero, suc, _-_}
+-- Nothing is asked of the list.
+use Prim.Native.Nat.{_-_}
 use borrow.Author.Needs.{needs}
-use lib.ListN.{set}
-use Rattle.tuning.specs.declared.PositionChange.{PositionChange}
-use Rattle.tuning.specs.Inner.{modestChange, eachModest}
 use Rattle.tuning_calls.proofs.changes_of.Statement.{statement}
 use Rattle.tuning_calls.proofs.changes_of.Tie as tie
 
--- a modest change put among modest ones
-set-modest : (l : List PositionChange) (i : ℕ) (x : PositionChange) → modestChange (x .change) ≡ true → eachModest l ≡ true → eachModest (set l i x) ≡ true
-unfolding eachModest
-set-modest [] i x h k = refl
-set-modest (y ∷ l) zero x h k = simp (h, and-eq-true-iff (modestChange (y .change)) (eachModest l) .0 k .1)
-set-modest (y ∷ l) (suc i) x h k =
-    let e = and-eq-true-iff (modestChange (y .change)) (eachModest l) .0 k in
-    simp (e .0, set-modest l i x h (e .1))
-
 abbrev Inv-loop : tie.InvT-loop
-Inv-loop case list₀ i₀ list i = (eachModest (list .positions) ≡ true)
+Inv-loop case list₀ i₀ list i = Unit
 
 abbrev μ-loop : tie.MeasureT-loop
 μ-loop case list₀ i₀ list i = 60 - i
@@ -29,8 +14,7 @@ element-copy-out-t7 : tie.Need-element-copy-out-t7 Inv-loop μ-loop
 element-copy-out-t7 c = search needs
 
 loop-holds : tie.Need-loop-holds Inv-loop μ-loop
-unfolding eachModest
-loop-holds c = refl
+loop-holds c = tt
 
 mul-change-at : tie.Need-mul-change-at Inv-loop μ-loop
 mul-change-at c = search needs
@@ -54,12 +38,10 @@ loop-less : tie.Need-loop-less Inv-loop μ-loop
 loop-less c = search needs
 
 loop-again : tie.Need-loop-again Inv-loop μ-loop
-loop-again c =
-    let l = c .before .before .loop in
-    set-modest (l .list .positions) (l .i) (record { change = c .change-at .result }) (c .change-at .ensures) (l .inv)
+loop-again c = tt
 
 returns : tie.Need-returns Inv-loop μ-loop
-returns c = c .before .loop .inv
+returns c = search needs
 
 pub changes-of-spec : {M : Type 1} → statement M
 changes-of-spec =

@@ -1,11 +1,9 @@
--- Each number that is cast is below the farthest sum.
+-- Each number that is cast fits 32 bits.
 use Prim.Native.Nat.{_-_}
 use native.Mathlib.Omega.{arith}
-use lib.IntN.{pos, negsuc, _-ℤ_}
-use mir.Facts.{toZ-ofZ}
-use mir.ValLaws.{toZ-pos}
+use lib.IntN.{pos, negsuc}
 use mir.Syntax.{w32}
-use mir.Val.{SFits}
+use mir.ValLaws.{toZ-pos}
 use Rattle.integers.proofs.Signed.{signed, diff}
 use borrow.Author.Needs.{needs}
 use Rattle.tuning_calls.proofs.clamp.Statement.{statement}
@@ -23,16 +21,13 @@ sub-result c =
     rw (toZ-pos w32 below (omega arith)) (omega (signed, diff (negsuc 0) (pos below)))
 
 returns : tie.Need-returns
-returns c =
-    let below = 18446744073709551615 - c .before .args .bits in
-    let f : SFits w32 (negsuc 0 -ℤ pos below) = omega (signed, diff (negsuc 0) (pos below)) in
-    rw (toZ-pos w32 below (omega arith), toZ-ofZ f) (omega (arith, diff (negsuc 0) (pos below) .size))
+returns c = search needs
 
 cast-result-2 : tie.Need-cast-result-2
 cast-result-2 c = search needs
 
 returns-2 : tie.Need-returns-2
-returns-2 c = rw (toZ-pos w32 (c .before .before .args .bits) (omega arith)) (omega arith)
+returns-2 c = search needs
 
 cast-result-3 : tie.Need-cast-result-3
 cast-result-3 c = search needs
