@@ -12,23 +12,10 @@ use Rattle.tables.specs.declared.Numbers.{Numbers}
 use Rattle.tables.specs.declared.Row.{Row}
 use Rattle.tables.specs.declared.Row.the-variants.{Unused}
 use Rattle.tables.specs.Layout.{numbers, rowOf, intervalForm, toneForm, systemForm, anchorForm, widthForm, periodForm, tonesForm, logicForm}
+use Rattle.tables.proofs.Forms.{by-form, no-row}
 use Rattle.validity.specs.Valid.{isLogic}
 use Rattle.protocol.specs.Letters.{isLogicOf}
 use Rattle.protocol.specs.Inner.{kindOf, isLogicKind}
-
--- the forms one by one, and those that no row has
-by-form : (P : ℕ → Type 0) → P 0 → P 1 → P 2 → P 3 → P 4 → P 5 → P 6 → P 7 → P 8 → ((f : ℕ) → logicForm < f → P f) → (f : ℕ) → P f
-by-form P p₀ p₁ p₂ p₃ p₄ p₅ p₆ p₇ p₈ other zero = p₀
-by-form P p₀ p₁ p₂ p₃ p₄ p₅ p₆ p₇ p₈ other (suc zero) = p₁
-by-form P p₀ p₁ p₂ p₃ p₄ p₅ p₆ p₇ p₈ other (suc (suc zero)) = p₂
-by-form P p₀ p₁ p₂ p₃ p₄ p₅ p₆ p₇ p₈ other (suc (suc (suc zero))) = p₃
-by-form P p₀ p₁ p₂ p₃ p₄ p₅ p₆ p₇ p₈ other (suc (suc (suc (suc zero)))) = p₄
-by-form P p₀ p₁ p₂ p₃ p₄ p₅ p₆ p₇ p₈ other (suc (suc (suc (suc (suc zero))))) = p₅
-by-form P p₀ p₁ p₂ p₃ p₄ p₅ p₆ p₇ p₈ other (suc (suc (suc (suc (suc (suc zero)))))) = p₆
-by-form P p₀ p₁ p₂ p₃ p₄ p₅ p₆ p₇ p₈ other (suc (suc (suc (suc (suc (suc (suc zero))))))) = p₇
-by-form P p₀ p₁ p₂ p₃ p₄ p₅ p₆ p₇ p₈ other (suc (suc (suc (suc (suc (suc (suc (suc zero)))))))) = p₈
-by-form P p₀ p₁ p₂ p₃ p₄ p₅ p₆ p₇ p₈ other (suc (suc (suc (suc (suc (suc (suc (suc (suc f))))))))) =
-    other (suc (suc (suc (suc (suc (suc (suc (suc (suc f))))))))) (omega arith)
 
 -- the kind of a row, as the code finds it by the form
 abbrev pub kindBy : ℕ → Kind
@@ -40,43 +27,32 @@ module _ (n : Numbers) where
   abbrev row : ℕ → Row
   row f = rowOf (numbers f (n .first) (n .second) (n .from) (n .to))
 
-  no-row : (f : ℕ) → logicForm < f → row f ≡ Unused
-  unfolding rowOf
-  no-row f h =
-      simp (
-        ne-eqb f intervalForm (omega arith),
-        ne-eqb f toneForm (omega arith),
-        ne-eqb f systemForm (omega arith),
-        ne-eqb f anchorForm (omega arith),
-        ne-eqb f widthForm (omega arith),
-        ne-eqb f periodForm (omega arith),
-        ne-eqb f tonesForm (omega arith),
-        ne-eqb f logicForm (omega arith),
-      )
+  none : (f : ℕ) → logicForm < f → row f ≡ Unused
+  none f h = no-row f (n .first) (n .second) (n .from) (n .to) h
 
   pub logic-by : (letter : ℕ) → eqb (n .form) logicForm && eqb (up (n .first)) letter ≡ isLogicOf letter (rowOf n)
   unfolding rowOf
   logic-by letter =
       by-form (λ f. eqb f logicForm && eqb (up (n .first)) letter ≡ isLogicOf letter (row f)) refl refl refl refl refl refl refl refl refl
-      (λ f h. rw (no-row f h, ne-eqb f logicForm (omega arith))) (n .form)
+      (λ f h. rw (none f h, ne-eqb f logicForm (omega arith))) (n .form)
 
   pub logic-is : eqb (n .form) logicForm ≡ isLogic (rowOf n)
   unfolding rowOf
   logic-is =
       by-form (λ f. eqb f logicForm ≡ isLogic (row f)) refl refl refl refl refl refl refl refl refl
-      (λ f h. rw (no-row f h, ne-eqb f logicForm (omega arith))) (n .form)
+      (λ f h. rw (none f h, ne-eqb f logicForm (omega arith))) (n .form)
 
   pub logic-kind : isLogicKind (kindOf (rowOf n)) ≡ eqb (n .form) logicForm
   unfolding rowOf
   logic-kind =
       by-form (λ f. isLogicKind (kindOf (row f)) ≡ eqb f logicForm) refl refl refl refl refl refl refl refl refl
-      (λ f h. rw (no-row f h, ne-eqb f logicForm (omega arith))) (n .form)
+      (λ f h. rw (none f h, ne-eqb f logicForm (omega arith))) (n .form)
 
   pub kind-by : kindBy (n .form) ≡ kindOf (rowOf n)
   unfolding rowOf
   kind-by =
       by-form (λ f. kindBy f ≡ kindOf (row f)) refl refl refl refl refl refl refl refl refl
       (λ f h.
-      rw (no-row f h, ne-eqb f systemForm (omega arith), lt-leb f tonesForm (omega arith), le-leb anchorForm f (omega arith))
+      rw (none f h, ne-eqb f systemForm (omega arith), lt-leb f tonesForm (omega arith), le-leb anchorForm f (omega arith))
       (rw (ne-eqb f logicForm (omega arith))))
       (n .form)

@@ -1,5 +1,6 @@
 pub mod Lists
 pub mod Rows
+pub mod Forms
 pub mod Systems
 pub mod Stored
 pub mod Whole

@@ -19,6 +19,7 @@ use Rattle.tuning.specs.declared.PeriodChange.{PeriodChange}
 use Rattle.tables.specs.declared.Row.{Row}
 use Rattle.tables.specs.declared.Row.the-variants.{Unused}
 use Rattle.tables.specs.Layout.{Tables, numbers, numberAt, readAt, mostOrders, numbersOf, rowOf, rowCount, used, intervalForm, toneForm, systemForm, anchorForm, widthForm, periodForm, tonesForm, logicForm, amountOf, amountCode, amountNumber, periodOf, periodCode, periodSum, keptCode, absoluteCode, plusCode, minusCode, timesCode, divideCode, freshCode, onwardCode, mutedCode, soundsCode, muteCode, moveCode, setCode}
+use Rattle.tables.proofs.Forms.{by-form, past-forms, no-row}
 use Rattle.validity.specs.declared.Kinds.{Kinds}
 use Rattle.validity.specs.declared.Ends.{Ends}
 use Rattle.validity.specs.Valid.{same, noPart, isPart, isSum, isCapital, isAnchorAmount, isWidthAmount, isSystemOrRetuning, isCalled, refersTo, isStart, declarationRight, isOwn, rowsRight, declarations, kinds, oneMore, kindsFrom, kindsRight, belonging, ends, follows, endsAfter, partsFollow, ordersRight, toneRight, changeRight, eachRight, listRight, countsRight, validTables}
@@ -58,49 +59,9 @@ swapped false b c = refl
 
 -- ---- the forms of rows
 
--- what holds of each form, and of the numbers beyond, holds of every number
-by-form : (P : ℕ → Type 0) → P 0 → P 1 → P 2 → P 3 → P 4 → P 5 → P 6 → P 7 → P 8 → ((f : ℕ) → logicForm < f → P f) → (f : ℕ) → P f
-by-form P a b c d e g h i j k zero = a
-by-form P a b c d e g h i j k (suc zero) = b
-by-form P a b c d e g h i j k (suc (suc zero)) = c
-by-form P a b c d e g h i j k (suc (suc (suc zero))) = d
-by-form P a b c d e g h i j k (suc (suc (suc (suc zero)))) = e
-by-form P a b c d e g h i j k (suc (suc (suc (suc (suc zero))))) = g
-by-form P a b c d e g h i j k (suc (suc (suc (suc (suc (suc zero)))))) = h
-by-form P a b c d e g h i j k (suc (suc (suc (suc (suc (suc (suc zero))))))) = i
-by-form P a b c d e g h i j k (suc (suc (suc (suc (suc (suc (suc (suc zero)))))))) = j
-by-form P a b c d e g h i j k (suc (suc (suc (suc (suc (suc (suc (suc (suc f))))))))) = k (suc (suc (suc (suc (suc (suc (suc (suc (suc f))))))))) (omega arith)
-
--- a row that is none of the forms
-
-module _ (f : ℕ) (a b : ℤ) (m n : ℕ) (h : logicForm < f) where
-  other-row : rowOf (numbers f a b m n) ≡ Unused
-  unfolding rowOf
-  other-row =
-      simp (
-        ne-eqb f intervalForm (omega arith),
-        ne-eqb f toneForm (omega arith),
-        ne-eqb f systemForm (omega arith),
-        ne-eqb f anchorForm (omega arith),
-        ne-eqb f widthForm (omega arith),
-        ne-eqb f periodForm (omega arith),
-        ne-eqb f tonesForm (omega arith),
-        ne-eqb f logicForm (omega arith),
-      )
-
-  other-fast : (rows : List ℤ) (count : ℕ) (e : Ends) → fastRow rows count e (numbers f a b m n) ≡ false
-  unfolding fastRow
-  other-fast rows count e =
-      simp (
-        ne-eqb f intervalForm (omega arith),
-        ne-eqb f toneForm (omega arith),
-        ne-eqb f systemForm (omega arith),
-        ne-eqb f anchorForm (omega arith),
-        ne-eqb f widthForm (omega arith),
-        ne-eqb f periodForm (omega arith),
-        ne-eqb f tonesForm (omega arith),
-        ne-eqb f logicForm (omega arith),
-      )
+no-fast : (f : ℕ) (a b : ℤ) (m n : ℕ) → logicForm < f → (rows : List ℤ) (count : ℕ) (e : Ends) → fastRow rows count e (numbers f a b m n) ≡ false
+unfolding fastRow
+no-fast f a b m n h rows count e = past-forms f h _ _ _ _ _ _ _ _ _
 
 -- ---- amounts, periods and starts
 
@@ -162,7 +123,7 @@ module _ (a b : ℤ) (m n : ℕ) where
   row f = rowOf (numbers f a b m n)
 
   none : {A : Type 0} (g : Row → A) (f : ℕ) → logicForm < f → g (row f) ≡ g Unused
-  none g f h = ap g (other-row f a b m n h)
+  none g f h = ap g (no-row f a b m n h)
 
   pub started : (f : ℕ) → isSystemOrRetuning (row f) ≡ leb systemForm f && leb f tonesForm
   unfolding rowOf
@@ -307,8 +268,8 @@ module _ (t : Tables) where
       where
         unknown : (f : ℕ) → logicForm < f → rightAt (pos f) ≡ fastAt (pos f)
         unknown f h =
-            ap (λ (r : Row). right r (pos f)) (other-row f a b (up x) (up y) h)
-            ∙ rw (other-fast f a b (up x) (up y) h (t .rows) (rowCount t) e)
+            ap (λ (r : Row). right r (pos f)) (no-row f a b (up x) (up y) h)
+            ∙ rw (no-fast f a b (up x) (up y) h (t .rows) (rowCount t) e)
             (never (isZero (pos f) && isZero a && isZero b && isZero x && isZero y) true (leZ (pos 0) (pos f) && leZ (pos 0) x && leZ (pos 0) y))
 
 -- ---- the rows, what they count and where their own end

@@ -1,6 +1,6 @@
 -- Which tables are valid: "a table's .. number out of range, or a reference beyond its count", "Unused places of tables .. are zero, else 23". Ranges and
 -- counts are those of "Numbers allowed". A row is judged by the declaration that it stands for (`rowAt`).
-use mathlib.Core.Bool.{Bool, true, false, cond, _&&_}
+use mathlib.Core.Bool.{Bool, true, false, cond, _&&_, _||_}
 use mathlib.Core.List.{List, [], _∷_}
 use Prim.Native.Nat.{ℕ, zero, suc, _+_, _*_}
 use lib.Dec.{leb, ltb, eqb}
@@ -60,30 +60,37 @@ isCapital c = leb firstLetter c && leb c lastLetter
 
 -- ---- references: "A called name means the retuning of that name, else the tone system, else (orders only) the logic"
 
+-- what a call of a row's declaration does
+pub data CalledAs : Type 0 where
+  nothing-called retunes activates : CalledAs
+
+abbrev pub calledAs : Row → CalledAs
+calledAs Unused = nothing-called
+calledAs (Interval d) = nothing-called
+calledAs (Tone p) = nothing-called
+calledAs (System a P from to) = retunes
+calledAs (Retuning r from to) = retunes
+calledAs (Logic c s from to) = activates
+
+abbrev pub doesRetune : CalledAs → Bool
+doesRetune nothing-called = false
+doesRetune retunes = true
+doesRetune activates = false
+
+abbrev pub doesActivate : CalledAs → Bool
+doesActivate nothing-called = false
+doesActivate retunes = false
+doesActivate activates = true
+
 abbrev pub isLogic : Row → Bool
-isLogic Unused = false
-isLogic (Interval d) = false
-isLogic (Tone p) = false
-isLogic (System a P from to) = false
-isLogic (Retuning r from to) = false
-isLogic (Logic c s from to) = true
+isLogic r = doesActivate (calledAs r)
 
 -- what a start may call, and what an order may
 abbrev pub isSystemOrRetuning : Row → Bool
-isSystemOrRetuning Unused = false
-isSystemOrRetuning (Interval d) = false
-isSystemOrRetuning (Tone p) = false
-isSystemOrRetuning (System a P from to) = true
-isSystemOrRetuning (Retuning r from to) = true
-isSystemOrRetuning (Logic c s from to) = false
+isSystemOrRetuning r = doesRetune (calledAs r)
 
 abbrev pub isCalled : Row → Bool
-isCalled Unused = false
-isCalled (Interval d) = false
-isCalled (Tone p) = false
-isCalled (System a P from to) = true
-isCalled (Retuning r from to) = true
-isCalled (Logic c s from to) = true
+isCalled r = isSystemOrRetuning r || isLogic r
 
 -- declaration i is within the count of rows, and such a one
 abbrev pub refersTo : (Row → Bool) → Tables → ℕ → Bool
