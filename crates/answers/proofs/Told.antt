@@ -1,26 +1,23 @@
 -- The line of an answer to a key's frame tells the sound that was answered.
 -- Assumes nothing.
-use Prim.Native.Nat.{ℕ, suc, _+_, _-_, _^_, _≤_, _<_}
+use Prim.Native.Nat.{ℕ, _-_, _^_, _<_}
 use mathlib.Core.Path.{_≡_, refl, ap, _∙_}
-use mathlib.Core.List.{List, [], _∷_, _++_}
-use mathlib.Core.Option.{some, Option·map}
+use mathlib.Core.List.{List, [], _∷_}
+use mathlib.Core.Option.{some}
 use native.Mathlib.Omega.{arith}
 use borrow.Author.Tests.{ne-eqb}
 use lib.IntN.{ℤ, pos, negsuc, natAbs}
 use lib.ListN.{length, take, length-append}
 use lib.Seq.{take-at}
-use mir.Syntax.{w32}
-use mir.Val.{SFits}
 use Rattle.integers.proofs.Signed.{signed, abs}
 use Rattle.tuning.specs.Scale.{Sound, muted, sounds}
-use Rattle.frames.specs.Frames.{keyKind}
-use Rattle.hexadecimal.specs.Digits.{hexes, bytesOf}
-use Rattle.hexadecimal.specs.Numbers.{twos, fourOf, numberOf, signedOf}
+use Rattle.hexadecimal.specs.Digits.{hexes}
+use Rattle.hexadecimal.specs.Numbers.{twos}
 use Rattle.hexadecimal.specs.Lines.{lineFeed, lineOf}
 use Rattle.hexadecimal.proofs.Complement.{twos-small}
 use Rattle.hexadecimal.proofs.RoundTrip.{bytes-back, four-back, four-bytes, twos-back}
 use Rattle.answers.specs.Answer.{mutedBits, bitsOf, keyBytes}
-use Rattle.answers.specs.Told.{withoutFeed, soundBy, headBytes, toldBy}
+use Rattle.answers.specs.Told.{withoutFeed, soundBy, toldBy}
 
 -- a sound that 32 bits tell apart from a muted one
 abbrev pub Told : Sound ℤ → Type 0

@@ -1,7 +1,7 @@
 -- What a row is, by its form: its kind, and whether it is a logic. Assumes nothing.
 use mathlib.Core.Path.{_≡_, refl}
 use mathlib.Core.Bool.{cond, _&&_}
-use Prim.Native.Nat.{ℕ, zero, suc, _<_}
+use Prim.Native.Nat.{ℕ, _<_}
 use native.Mathlib.Omega.{arith}
 use borrow.Author.Tests.{ne-eqb, le-leb, lt-leb}
 use lib.Dec.{eqb, leb}
@@ -11,7 +11,7 @@ use Rattle.orders.specs.declared.Kind.the-variants as kind
 use Rattle.tables.specs.declared.Numbers.{Numbers}
 use Rattle.tables.specs.declared.Row.{Row}
 use Rattle.tables.specs.declared.Row.the-variants.{Unused}
-use Rattle.tables.specs.Layout.{numbers, rowOf, intervalForm, toneForm, systemForm, anchorForm, widthForm, periodForm, tonesForm, logicForm}
+use Rattle.tables.specs.Layout.{numbers, rowOf, systemForm, anchorForm, tonesForm, logicForm}
 use Rattle.tables.proofs.Forms.{by-form, no-row}
 use Rattle.validity.specs.Valid.{isLogic}
 use Rattle.protocol.specs.Letters.{isLogicOf}

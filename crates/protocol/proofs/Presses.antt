@@ -7,7 +7,6 @@ use Prim.Native.Nat.{ℕ}
 use borrow.Author.Tests.{eqb-true}
 use types.Run.{OneOf, miss}
 use denote.Enum.Declared.{tagOf}
-use lib.Dec.{eqb}
 use lib.IntN.{ℤ}
 use Rattle.integers.specs.Parts.{up}
 use Rattle.orders.specs.declared.Kind.{Kind}

@@ -6,7 +6,6 @@ use native.Mathlib.Omega.{arith}
 use borrow.Author.Tests.{ne-eqb}
 use lib.Dec.{eqb}
 use lib.IntN.{ℤ}
-use Rattle.tables.specs.declared.Row.{Row}
 use Rattle.tables.specs.declared.Row.the-variants.{Unused}
 use Rattle.tables.specs.Layout.{numbers, rowOf, intervalForm, toneForm, systemForm, anchorForm, widthForm, periodForm, tonesForm, logicForm}
 

@@ -2,7 +2,7 @@
 use mathlib.Core.Path.{_≡_, refl, sym, ap, _∙_}
 use mathlib.Core.Bool.{Bool, true, false, not, Bool·not-not, and-false}
 use mathlib.Core.List.{List, [], _∷_}
-use Prim.Native.Nat.{ℕ, zero, suc, _+_, _≤_}
+use Prim.Native.Nat.{ℕ, suc, _+_, _≤_}
 use native.Mathlib.Nat.{suc-ne-zero}
 use native.Mathlib.Omega.{arith}
 use borrow.Author.Tests.{le-leb}
@@ -20,8 +20,8 @@ use Rattle.tuning.specs.declared.Reach.{Reach}
 use Rattle.tuning.specs.declared.Reach.the-variants.{Silent, By}
 use Rattle.tuning.specs.declared.Amount.{Amount}
 use Rattle.tuning.specs.Scale.{Sound, muted, sounds}
-use Rattle.tuning.specs.Tuning.{Tuning, PeriodTo, PositionTo, Action, anchorTo, widthTo, periodTo, tonesTo, system, amounts, width, toneAt, soundOf, apart, reach, anchoredBy, anchored, widenedBy, widened, newPeriod, newTones, done}
-use Rattle.tuning.specs.Desk.{cents, between, isAnchor, isWidth, isPeriod, anyBeyond, Check, firstFailing, badAnchor, badWidth, badPeriod, badTone, unreached, checks, ifTaken, Called, called}
+use Rattle.tuning.specs.Tuning.{Tuning, PeriodTo, PositionTo, Action, anchorTo, widthTo, periodTo, tonesTo, system, amounts, width, soundOf, apart, reach, anchoredBy, anchored, widenedBy, widened, newPeriod, newTones, done}
+use Rattle.tuning.specs.Desk.{cents, between, isAnchor, isWidth, isPeriod, anyBeyond, Check, firstFailing, badAnchor, badWidth, badPeriod, badTone, unreached, ifTaken, Called, called}
 use Rattle.tuning.specs.State.{places, heard, held, toneOf, coded, validState, replied}
 use Rattle.tuning.specs.Inner.{reachOf}
 use Rattle.tuning.proofs.Valid.{Valid, none}

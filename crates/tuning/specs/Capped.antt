@@ -1,14 +1,12 @@
 -- A sum of terms may lie far past the range of tones. One past twice that range takes every tone and every period out of its range, so it may be held as
 -- 1 past it: a call with the one is the call with the other (`CappedSame`).
 use mathlib.Core.Bool.{cond}
-use mathlib.Core.List.{List, map}
-use mathlib.Core.Path.{_≡_}
 use Prim.Native.Nat.{ℕ, _+_, _*_}
 use lib.IntN.{ℤ, pos, negℤ}
 use lib.Signed.{leZ}
 use Rattle.limits.specs.Limits.{farthestTone}
-use Rattle.tuning.specs.Tuning.{Tuning, PeriodTo, fresh, onward, PositionTo, mute, move, setTo, Action, periodTo, tonesTo}
-use Rattle.tuning.specs.Desk.{cents, called}
+use Rattle.tuning.specs.Tuning.{PeriodTo, fresh, onward, PositionTo, mute, move, setTo}
+use Rattle.tuning.specs.Desk.{cents}
 
 abbrev pub farthestSum : ℕ
 farthestSum = 2 * farthestTone + 1

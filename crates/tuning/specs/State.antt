@@ -1,5 +1,5 @@
 -- The state as the code holds it, a struct with sixty places, and the tuning that it stands for; which states are valid.
-use mathlib.Core.Bool.{Bool, true, false, not, _&&_}
+use mathlib.Core.Bool.{Bool, true, not, _&&_}
 use mathlib.Core.List.{List, [], _∷_, _++_, map}
 use Prim.Native.Nat.{ℕ, _-_}
 use lib.IntN.{ℤ, pos}
@@ -20,7 +20,7 @@ use Rattle.tuning.specs.declared.Retuning.the-variants.{Anchor, Width, P
 use Rattle.limits.specs.Limits.{mostPositions}
 use Rattle.tuning.specs.Scale.{Sound, muted, sounds}
 use Rattle.tuning.specs.Tuning.{Tuning, PeriodTo, fresh, onward, PositionTo, mute, move, setTo, Action, anchorTo, widthTo, periodTo, tonesTo}
-use Rattle.tuning.specs.Desk.{cents, isAnchor, isWidth, isPeriod, isMuted, anyBeyond, Called, called}
+use Rattle.tuning.specs.Desk.{cents, isAnchor, isWidth, isPeriod, isMuted, anyBeyond, called}
 
 -- the places of a state: "width not 1 to 60"
 abbrev pub places : ℕ

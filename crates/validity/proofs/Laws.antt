@@ -18,9 +18,6 @@ use Rattle.tuning.specs.State.{heard}
 use Rattle.tuning.specs.declared.Operator.the-variants.{Plus, Minus, Times, Divide}
 use Rattle.tuning.specs.declared.Amount.{Amount}
 use Rattle.tuning.specs.declared.Amount.the-variants.{Kept, Absolute, Relative}
-use Rattle.tuning.specs.declared.PeriodChange.{PeriodChange}
-use Rattle.tuning.specs.declared.PeriodChange.the-variants.{Fresh, Onward}
-use Rattle.tuning.specs.declared.Retuning.{Retuning as RetuningForm}
 use Rattle.tuning.specs.declared.Retuning.the-variants.{Anchor, Width, Period, Tones}
 use Rattle.tuning.proofs.Held.{valid-coded}
 use Rattle.tuning.proofs.Lists.{both}

@@ -18,7 +18,7 @@ use Rattle.tuning.specs.declared.Amount.the-variants.{Relative}
 use Rattle.tuning.specs.declared.PeriodChange.{PeriodChange}
 use Rattle.tables.specs.declared.Row.{Row}
 use Rattle.tables.specs.declared.Row.the-variants.{Unused}
-use Rattle.tables.specs.Layout.{Tables, numbers, numberAt, readAt, mostOrders, numbersOf, rowOf, rowCount, used, intervalForm, toneForm, systemForm, anchorForm, widthForm, periodForm, tonesForm, logicForm, amountOf, amountCode, amountNumber, periodOf, periodCode, periodSum, keptCode, absoluteCode, plusCode, minusCode, timesCode, divideCode, freshCode, onwardCode, mutedCode, soundsCode, muteCode, moveCode, setCode}
+use Rattle.tables.specs.Layout.{Tables, numbers, numberAt, readAt, mostOrders, numbersOf, rowOf, rowCount, used, systemForm, tonesForm, logicForm, amountOf, amountCode, amountNumber, periodOf, periodCode, periodSum, keptCode, absoluteCode, plusCode, minusCode, timesCode, divideCode, freshCode, onwardCode, mutedCode, soundsCode, muteCode, moveCode, setCode}
 use Rattle.tables.proofs.Forms.{by-form, past-forms, no-row}
 use Rattle.validity.specs.declared.Kinds.{Kinds}
 use Rattle.validity.specs.declared.Ends.{Ends}

@@ -1,5 +1,5 @@
 -- A key and what it is shifted by, as 32 bits hold them; their sum is a byte.
-use mathlib.Core.Path.{_≡_, sym, ap, _∙_}
+use mathlib.Core.Path.{_≡_, _∙_}
 use mathlib.Core.Bool.{true}
 use Prim.Native.Nat.{ℕ, _<_, _≤_}
 use native.Mathlib.Omega.{arith}
@@ -10,7 +10,7 @@ use lib.Signed.{leZ, nonNeg}
 use mir.Facts.{toZ-pos, toZ-ofZ}
 use mir.Syntax.{w8, w32}
 use mir.Val.{Fits, SFits, toZ, ofZ}
-use Rattle.integers.proofs.Signed.{signed, sum, abs}
+use Rattle.integers.proofs.Signed.{signed, abs}
 use Rattle.cents.specs.Passages.{keyShift}
 use Rattle.cents.proofs.KeyNumber.shift.Statement.{statement}
 use Rattle.cents.proofs.KeyNumber.shift.Tie as tie

@@ -1,5 +1,5 @@
 -- By the two cases of a change.
-use mathlib.Core.Path.{_≡_, ap, _∙_}
+use mathlib.Core.Path.{ap, _∙_}
 use borrow.Author.Needs.{needs}
 use lib.IntN.{ℤ, _+ℤ_}
 use Rattle.integers.proofs.Signed.{signed, sum}

@@ -1,12 +1,11 @@
 -- `tuning::State::reach` meets its contract: by what stands at position 0 and what the key gives. Assumes nothing.
-use mathlib.Core.Path.{_≡_, sym, ap, _∙_}
+use mathlib.Core.Path.{sym, ap, _∙_}
 use Prim.Native.Nat.{_≤_}
 use native.Mathlib.Omega.{arith}
 use borrow.Author.Needs.{needs}
 use lib.IntN.{ℤ, natAbs}
 use Rattle.integers.proofs.Signed.{signed, diff}
-use Rattle.tuning.specs.declared.Tone.the-variants.{Muted, At}
-use Rattle.tuning.specs.declared.Reach.{Reach}
+use Rattle.tuning.specs.declared.Tone.the-variants.{Muted}
 use Rattle.tuning.specs.declared.Reach.the-variants.{By}
 use Rattle.tuning.specs.Inner.{size, reachOf}
 use Rattle.tuning.proofs.Valid.{valid-of, tone-size}

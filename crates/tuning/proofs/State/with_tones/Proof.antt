@@ -8,7 +8,7 @@ use borrow.Author.Needs.{needs}
 use lib.ListN.{length, getD}
 use Rattle.tuning.specs.declared.Tone.{Tone}
 use Rattle.tuning.specs.declared.Position.{Position}
-use Rattle.tuning.specs.Tuning.{Action, tonesTo, done}
+use Rattle.tuning.specs.Tuning.{tonesTo, done}
 use Rattle.tuning.specs.Desk.{cents}
 use Rattle.tuning.specs.Capped.{cappedTo}
 use Rattle.tuning.specs.State.{held, coded, tonesMeant}

@@ -4,7 +4,7 @@ use mathlib.Core.Path.{_≡_, ap, _∙_}
 use Prim.Native.Nat.{ℕ, _+_, _-_, _≤_}
 use native.Mathlib.Omega.{arith}
 use borrow.Author.Needs.{needs}
-use lib.ListN.{length, length-replicate}
+use lib.ListN.{length-replicate}
 use Rattle.tuning.specs.declared.Tone.{Tone}
 use Rattle.tuning.specs.declared.Position.{Position}
 use Rattle.tuning.specs.Tuning.{soundOf}

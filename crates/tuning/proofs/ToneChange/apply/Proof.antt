@@ -1,7 +1,6 @@
 -- By the three cases of a change.
-use mathlib.Core.Path.{_≡_, ap, _∙_}
+use mathlib.Core.Path.{ap, _∙_}
 use lib.IntN.{ℤ}
-use native.Mathlib.Omega.{arith}
 use borrow.Author.Needs.{needs}
 use Rattle.tuning.specs.Tuning.{raised}
 use Rattle.tuning.specs.Desk.{cents}
