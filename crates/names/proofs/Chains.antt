@@ -16,7 +16,7 @@ use Rattle.symbols.specs.Names.{nameAt}
 use Rattle.names.specs.declared.Bearer.{Bearer}
 use Rattle.names.specs.declared.Bearer.the-variants.{Nothing, Row}
 use Rattle.grammar.specs.declared.Kind.{Kind}
-use Rattle.names.specs.Names.{numberFrom, numberOf, twiceFrom}
+use Rattle.names.specs.Names.{bearerFrom, bearerOf, twiceFrom}
 use Rattle.names.specs.Inner.{markOf, markRoom, unpacked, namedOf, Kept, buckets, bucketOf, lastIn, Chained, mostDeclarations}
 use Rattle.names.proofs.Searching.{isNamed, number-past, number-once}
 use Rattle.names.proofs.Marks.{kept-told}
@@ -121,7 +121,7 @@ module _ (l : List ℕ) {n : ℕ} (h : n < length l) (few : n < mostDeclarations
 
 -- what is found below row n
 abbrev foundBelow : List ℕ → List ℕ → Kind → List ℕ → ℕ → Bearer
-foundBelow text l k name n = numberOf text (namedOf (take n l)) k name
+foundBelow text l k name n = bearerOf text (namedOf (take n l)) k name
 
 -- one row more
 more-taken : (l : List ℕ) (row : ℕ) → row < length l → namedOf (take (suc row) l) ≡ namedOf (take row l) ++ unpacked (getD l row 0) ∷ []
@@ -164,10 +164,10 @@ module _ {text l : List ℕ} (w : Kept text l) (k : Kind) (name : List ℕ) wher
 pub record Ahead (text l name : List ℕ) (mark next : ℕ) : Type 0 where
   pub within : next ≤ length l
   pub last : lastIn l (bucketOf mark) next ≡ next
-  pub found : (k : Kind) → mark ≡ markOf k name → foundBelow text l k name next ≡ numberOf text (namedOf l) k name
+  pub found : (k : Kind) → mark ≡ markOf k name → foundBelow text l k name next ≡ bearerOf text (namedOf l) k name
 
 module _ {text l heads links : List ℕ} (w : Kept text l) (c : Chained l heads links) (name : List ℕ) (mark : ℕ) where
-  ahead-at : (n : ℕ) → n ≤ length l → ((k : Kind) → mark ≡ markOf k name → foundBelow text l k name n ≡ numberOf text (namedOf l) k name)
+  ahead-at : (n : ℕ) → n ≤ length l → ((k : Kind) → mark ≡ markOf k name → foundBelow text l k name n ≡ bearerOf text (namedOf l) k name)
       → {next : ℕ} → next ≡ lastIn l (bucketOf mark) n → Ahead text l name mark next
   ahead-at n h f e =
       record {
@@ -179,8 +179,8 @@ module _ {text l heads links : List ℕ} (w : Kept text l) (c : Chained l heads 
   pub ahead-first : Ahead text l name mark (getD heads (bucketOf mark) 0)
   ahead-first = ahead-at (length l) (omega arith) (λ k q. rw take-length) (c .head (bucketOf mark) (omega arith))
 
-  pub ahead-end : {next : ℕ} → Ahead text l name mark next → next ≡ 0 → (k : Kind) → mark ≡ markOf k name → Nothing ≡ numberOf text (namedOf l) k name
-  unfolding numberFrom
+  pub ahead-end : {next : ℕ} → Ahead text l name mark next → next ≡ 0 → (k : Kind) → mark ≡ markOf k name → Nothing ≡ bearerOf text (namedOf l) k name
+  unfolding bearerFrom
   ahead-end a z k q = ap (foundBelow text l k name) (sym z) ∙ a .found k q
 
   module _ {next : ℕ} (a : Ahead text l name mark next) (z : next ≡ 0 → ⊥) where
@@ -204,7 +204,7 @@ module _ {text l heads links : List ℕ} (w : Kept text l) (c : Chained l heads 
       row-told : {t : Bool} → b ≡ t → (k : Kind) → mark ≡ markOf k name → isNamed text (unpacked (getD l (next - 1) 0)) k name ≡ t
       row-told z k q = sym (kept-told text w (next - 1) row-kept k name q e) ∙ z
 
-      pub ahead-hit : b ≡ true → (k : Kind) → mark ≡ markOf k name → Row (next - 1) ≡ numberOf text (namedOf l) k name
+      pub ahead-hit : b ≡ true → (k : Kind) → mark ≡ markOf k name → Row (next - 1) ≡ bearerOf text (namedOf l) k name
       ahead-hit t k q = sym (row-hit w k name (next - 1) row-kept (row-told t k q)) ∙ present .found k q
 
       pub ahead-on : b ≡ false → Ahead text l name mark (getD links (next - 1) 0)

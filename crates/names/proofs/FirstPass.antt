@@ -19,7 +19,7 @@ use Rattle.names.specs.declared.Role.{Role}
 use Rattle.names.specs.declared.Role.the-variants as role
 use Rattle.names.proofs.Role as roles
 use Rattle.names.specs.Parts.{Part, declares, gives, uses, says, part}
-use Rattle.names.specs.Names.{Named, namedBy, declared, numberOf, noRepeat, repeatAt, twiceFrom}
+use Rattle.names.specs.Names.{Named, namedBy, declared, bearerOf, noRepeat, repeatAt, twiceFrom}
 use Rattle.names.specs.Inner.{roleOf, packed, namedOf, Kept, beginningBy, beginningsFrom, beginnings, distinctFrom, begunWith, InText, FirstPass}
 use Rattle.names.proofs.Searching.{no-repeat-at}
 use Rattle.names.proofs.Marks.{kept-names, kept-now}
@@ -47,7 +47,7 @@ role-other (says m) h = (λ ds. refl, λ i xs. refl)
 -- ---- the declarations before the n-th, and those from it on
 
 module _ (text : List ℕ) (ds : List Named) (n : ℕ) {d : Named} {rest : List Named} (e : drop n ds ≡ d ∷ rest) {f : Bearer}
-    (q : f ≡ numberOf text (take n ds) (d .kind) (nameAt text (d .place))) where
+    (q : f ≡ bearerOf text (take n ds) (d .kind) (nameAt text (d .place))) where
   twice-on : f ≡ Nothing → twiceFrom text (take (n + 1) ds) (drop (n + 1) ds) ≡ twiceFrom text (take n ds) (drop n ds)
   unfolding twiceFrom
   twice-on z = rw (e, head-rest ds n e, head-taken ds n e, twiceFrom, ← q, z)
@@ -69,7 +69,7 @@ module _ (text : List ℕ) (ds : List Named) (n : ℕ) {d : Named} {rest : List 
 pub distinct-few : (text : List ℕ) (before ds : List Named) → distinctFrom text before ds ≤ length ds
 unfolding distinctFrom
 distinct-few text before [] = omega arith
-distinct-few text before (d ∷ ds) = go (numberOf text before (d .kind) (nameAt text (d .place))) (distinct-few text (before ++ d ∷ []) ds)
+distinct-few text before (d ∷ ds) = go (bearerOf text before (d .kind) (nameAt text (d .place))) (distinct-few text (before ++ d ∷ []) ds)
   where
     go : (f : Bearer) → distinctFrom text (before ++ d ∷ []) ds ≤ length ds
         → elim f [ Row n ↦ 0 | Nothing ↦ suc (distinctFrom text (before ++ d ∷ []) ds) ] ≤ suc (length ds)
@@ -79,7 +79,7 @@ distinct-few text before (d ∷ ds) = go (numberOf text before (d .kind) (nameAt
 pub distinct-all : (text : List ℕ) (before ds : List Named) → twiceFrom text before ds ≡ noRepeat → distinctFrom text before ds ≡ length ds
 unfolding distinctFrom twiceFrom
 distinct-all text before [] e = refl
-distinct-all text before (d ∷ ds) e = go (numberOf text before (d .kind) (nameAt text (d .place))) (distinct-all text (before ++ d ∷ []) ds) e
+distinct-all text before (d ∷ ds) e = go (bearerOf text before (d .kind) (nameAt text (d .place))) (distinct-all text (before ++ d ∷ []) ds) e
   where
     go : (f : Bearer) → (twiceFrom text (before ++ d ∷ []) ds ≡ noRepeat → distinctFrom text (before ++ d ∷ []) ds ≡ length ds)
         → elim f [ Row n ↦ repeatAt (d .place) | Nothing ↦ twiceFrom text (before ++ d ∷ []) ds ] ≡ noRepeat
@@ -93,7 +93,7 @@ unfolding distinctFrom twiceFrom
 distinct-once text before ds zero h = refl
 distinct-once text before [] (suc n) h = absurd (omega arith)
 distinct-once text before (d ∷ ds) (suc n) h =
-    go (numberOf text before (d .kind) (nameAt text (d .place))) (distinct-once text (before ++ d ∷ []) ds n) h
+    go (bearerOf text before (d .kind) (nameAt text (d .place))) (distinct-once text (before ++ d ∷ []) ds n) h
   where
     go : (f : Bearer) → (n ≤ distinctFrom text (before ++ d ∷ []) ds → twiceFrom text (before ++ d ∷ []) (take n ds) ≡ noRepeat)
         → suc n ≤ elim f [ Row m ↦ 0 | Nothing ↦ suc (distinctFrom text (before ++ d ∷ []) ds) ]
@@ -200,9 +200,9 @@ module _ (text : List ℕ) (is : List Item) (names₀ starts₀ : List ℕ) wher
         pub one-more : n < length (declared is)
         one-more = head-fits (declared is) n names-here
 
-        module _ {f : Bearer} (found : f ≡ numberOf text (namedOf (take n l)) k (nameAt text q)) where
-          found-before : f ≡ numberOf text (take n (declared is)) k (nameAt text q)
-          found-before = found ∙ ap (λ ds. numberOf text ds k (nameAt text q)) (kept-names text (declared is) names₀ n (p .few) (p .kept))
+        module _ {f : Bearer} (found : f ≡ bearerOf text (namedOf (take n l)) k (nameAt text q)) where
+          found-before : f ≡ bearerOf text (take n (declared is)) k (nameAt text q)
+          found-before = found ∙ ap (λ ds. bearerOf text ds k (nameAt text q)) (kept-names text (declared is) names₀ n (p .few) (p .kept))
 
           -- the name stood before in its kind
           pub passed-stop : {j : ℕ} → f ≡ Row j → FirstPass text is names₀ starts₀ (record { number = nameTwice; place = q; declarations = n }) l m

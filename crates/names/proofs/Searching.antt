@@ -17,7 +17,7 @@ use Rattle.symbols.proofs.Letters.{same-true}
 use Rattle.grammar.specs.declared.Kind.{Kind}
 use Rattle.grammar.specs.declared.Kind.the-variants.{Interval, Tone, System, Retuning, Logic, Order as AnOrder}
 use Rattle.grammar.specs.Moves.{kinds, kindNumber}
-use Rattle.names.specs.Names.{Named, numberFrom, numberOf, Repeat, noRepeat, repeatAt, twiceFrom, calledIn}
+use Rattle.names.specs.Names.{Named, bearerFrom, bearerOf, Repeat, noRepeat, repeatAt, twiceFrom, calledIn}
 
 -- kinds are told apart by their numbers
 pub kind-back : (k : Kind) → getD kinds (kindNumber k) AnOrder ≡ k
@@ -52,30 +52,30 @@ none-else p Nothing e = (refl, e)
 
 -- one declaration more
 module _ (text : List ℕ) (d : Named) (k : Kind) (name : List ℕ) where
-  pub number-past : isNamed text d k name ≡ false → (n : ℕ) (ds : List Named) → numberFrom n text (ds ++ d ∷ []) k name ≡ numberFrom n text ds k name
-  unfolding numberFrom
-  number-past e n [] = rw (numberFrom, e)
+  pub number-past : isNamed text d k name ≡ false → (n : ℕ) (ds : List Named) → bearerFrom n text (ds ++ d ∷ []) k name ≡ bearerFrom n text ds k name
+  unfolding bearerFrom
+  number-past e n [] = rw (bearerFrom, e)
   number-past e n (x ∷ ds) = ap (λ f. elim (isNamed text x k name) [ true ↦ Row n | false ↦ f ]) (number-past e (suc n) ds)
 
-  number-last : isNamed text d k name ≡ true → (n : ℕ) (ds : List Named) → numberFrom n text ds k name ≡ Nothing
-      → numberFrom n text (ds ++ d ∷ []) k name ≡ Row (n + length ds)
-  unfolding numberFrom
-  number-last e n [] q = rw (numberFrom, e) (ap Row (omega arith))
+  number-last : isNamed text d k name ≡ true → (n : ℕ) (ds : List Named) → bearerFrom n text ds k name ≡ Nothing
+      → bearerFrom n text (ds ++ d ∷ []) k name ≡ Row (n + length ds)
+  unfolding bearerFrom
+  number-last e n [] q = rw (bearerFrom, e) (ap Row (omega arith))
   number-last e n (x ∷ ds) q =
       let w = no-row n (isNamed text x k name) q in
-      rw (numberFrom, w .0) (number-last e (suc n) ds (w .1) ∙ ap Row (omega arith))
+      rw (bearerFrom, w .0) (number-last e (suc n) ds (w .1) ∙ ap Row (omega arith))
 
   -- where no name stands twice, none in front of a declaration is of its kind and name
   once-before : (before xs ys : List Named) → twiceFrom text before (xs ++ d ∷ ys) ≡ noRepeat
-      → numberOf text (before ++ xs) (d .kind) (nameAt text (d .place)) ≡ Nothing
+      → bearerOf text (before ++ xs) (d .kind) (nameAt text (d .place)) ≡ Nothing
   unfolding twiceFrom
-  once-before before [] ys e = rw append-nil (none-else (d .place) (numberOf text before (d .kind) (nameAt text (d .place))) e .0)
+  once-before before [] ys e = rw append-nil (none-else (d .place) (bearerOf text before (d .kind) (nameAt text (d .place))) e .0)
   once-before before (x ∷ xs) ys e =
-      rw append-snoc at (once-before (before ++ x ∷ []) xs ys (none-else (x .place) (numberOf text before (x .kind) (nameAt text (x .place))) e .1))
+      rw append-snoc at (once-before (before ++ x ∷ []) xs ys (none-else (x .place) (bearerOf text before (x .kind) (nameAt text (x .place))) e .1))
 
   -- so a declaration of the kind and the name, though it is the last, is the one that is found
   pub number-once : (xs ys : List Named) → twiceFrom text [] (xs ++ d ∷ ys) ≡ noRepeat → isNamed text d k name ≡ true
-      → numberOf text (xs ++ d ∷ []) k name ≡ Row (length xs)
+      → bearerOf text (xs ++ d ∷ []) k name ≡ Row (length xs)
   number-once xs ys o e =
       let h = and-eq-true-iff _ _ .0 e in
       let j = kind-told (d .kind) k (eqb-true _ _ (h .0)) in
@@ -85,9 +85,9 @@ module _ (text : List ℕ) (d : Named) (k : Kind) (name : List ℕ) where
 
 -- a name that is looked for in one kind after another
 module _ (text : List ℕ) (ds : List Named) (name : List ℕ) where
-  pub called-one : (k : Kind) → numberOf text ds k name ≡ calledIn text ds (k ∷ []) name
+  pub called-one : (k : Kind) → bearerOf text ds k name ≡ calledIn text ds (k ∷ []) name
   unfolding calledIn
-  called-one k = go (numberOf text ds k name)
+  called-one k = go (bearerOf text ds k name)
     where
       go : (f : Bearer) → f ≡ elim f [ Row n ↦ Row n | Nothing ↦ Nothing ]
       go (Row n) = refl
@@ -96,7 +96,7 @@ module _ (text : List ℕ) (ds : List Named) (name : List ℕ) where
   pub called-here : (ks js : List Kind) {n : ℕ} → calledIn text ds ks name ≡ Row n → calledIn text ds (ks ++ js) name ≡ Row n
   unfolding calledIn
   called-here [] js e = absurd (nothing-no-row e)
-  called-here (k ∷ ks) js {n} e = go (called-here ks js) (numberOf text ds k name) e
+  called-here (k ∷ ks) js {n} e = go (called-here ks js) (bearerOf text ds k name) e
     where
       go : (calledIn text ds ks name ≡ Row n → calledIn text ds (ks ++ js) name ≡ Row n) → (f : Bearer)
           → elim f [ Row m ↦ Row m | Nothing ↦ calledIn text ds ks name ] ≡ Row n
@@ -107,7 +107,7 @@ module _ (text : List ℕ) (ds : List Named) (name : List ℕ) where
   pub called-on : (ks js : List Kind) → calledIn text ds ks name ≡ Nothing → calledIn text ds (ks ++ js) name ≡ calledIn text ds js name
   unfolding calledIn
   called-on [] js e = refl
-  called-on (k ∷ ks) js e = go (called-on ks js) (numberOf text ds k name) e
+  called-on (k ∷ ks) js e = go (called-on ks js) (bearerOf text ds k name) e
     where
       go : (calledIn text ds ks name ≡ Nothing → calledIn text ds (ks ++ js) name ≡ calledIn text ds js name) → (f : Bearer)
           → elim f [ Row m ↦ Row m | Nothing ↦ calledIn text ds ks name ] ≡ Nothing
@@ -124,13 +124,13 @@ record Numbered (n : ℕ) (ds : List Named) (k : Kind) (r : ℕ) : Type 0 where
   below : index < length ds
   kind : (d : Named) → getD ds index d .kind ≡ k
 
-number-found : (n : ℕ) (text : List ℕ) (ds : List Named) (k : Kind) (name : List ℕ) {r : ℕ} → numberFrom n text ds k name ≡ Row r → Numbered n ds k r
-unfolding numberFrom
+number-found : (n : ℕ) (text : List ℕ) (ds : List Named) (k : Kind) (name : List ℕ) {r : ℕ} → bearerFrom n text ds k name ≡ Row r → Numbered n ds k r
+unfolding bearerFrom
 number-found n text [] k name e = absurd (nothing-no-row e)
 number-found n text (d ∷ ds) k name {r} e = go _ refl (number-found (suc n) text ds k name) e
   where
-    go : (b : Bool) → isNamed text d k name ≡ b → (numberFrom (suc n) text ds k name ≡ Row r → Numbered (suc n) ds k r)
-        → elim b [ true ↦ Row n | false ↦ numberFrom (suc n) text ds k name ] ≡ Row r → Numbered n (d ∷ ds) k r
+    go : (b : Bool) → isNamed text d k name ≡ b → (bearerFrom (suc n) text ds k name ≡ Row r → Numbered (suc n) ds k r)
+        → elim b [ true ↦ Row n | false ↦ bearerFrom (suc n) text ds k name ] ≡ Row r → Numbered n (d ∷ ds) k r
     go true t later q =
         let h = eqb-true _ _ (and-eq-true-iff _ _ .0 t .0) in
         let z : n ≡ r = cc in
@@ -151,7 +151,7 @@ unfolding calledIn
 called-found text ds [] name e = absurd (nothing-no-row e)
 called-found text ds (k ∷ ks) name {r} e = go _ refl (called-found text ds ks name) e
   where
-    go : (f : Bearer) → numberOf text ds k name ≡ f → (calledIn text ds ks name ≡ Row r → OfKinds ds ks r)
+    go : (f : Bearer) → bearerOf text ds k name ≡ f → (calledIn text ds ks name ≡ Row r → OfKinds ds ks r)
         → elim f [ Row n ↦ Row n | Nothing ↦ calledIn text ds ks name ] ≡ Row r → OfKinds ds (k ∷ ks) r
     go (Row n) t later q =
         let w = number-found 0 text ds k name (t ∙ q) in

@@ -21,7 +21,7 @@ use Rattle.names.specs.declared.Role.the-variants as role
 use Rattle.names.specs.declared.Scope.{Scope}
 use Rattle.names.specs.declared.Scope.the-variants.{Intervals, Tones, Starts, Orders}
 use Rattle.names.specs.Parts.{Part, declares, gives, uses, says, part, Use, add, subtract, base, position, start, order}
-use Rattle.names.specs.Names.{Named, declared, numberOf, calledIn, meant, numbered, Repeat, noRepeat, repeatAt, twiceFrom, resolved, unlessMissing, meanings}
+use Rattle.names.specs.Names.{Named, declared, bearerOf, calledIn, meant, numbered, Repeat, noRepeat, repeatAt, twiceFrom, resolved, unlessMissing, meanings}
 
 -- ---- what an item does with a name
 
@@ -120,7 +120,7 @@ beginnings is = beginningsFrom 0 is
 unfoldable pub distinctFrom : List ℕ → List Named → List Named → ℕ
 distinctFrom text before [] = 0
 distinctFrom text before (d ∷ ds) =
-    elim (numberOf text before (d .kind) (nameAt text (d .place))) [
+    elim (bearerOf text before (d .kind) (nameAt text (d .place))) [
       | Row n ↦ 0
       | Nothing ↦ suc (distinctFrom text (before ++ d ∷ []) ds)
     ]

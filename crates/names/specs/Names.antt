@@ -33,16 +33,16 @@ declared [] = []
 declared (i ∷ is) = namedBy (part i) (declared is)
 
 -- the number of the declaration of a kind and a name, counted from n
-unfoldable pub numberFrom : ℕ → List ℕ → List Named → Kind → List ℕ → Bearer
-numberFrom n text [] k name = Nothing
-numberFrom n text (d ∷ ds) k name =
+unfoldable pub bearerFrom : ℕ → List ℕ → List Named → Kind → List ℕ → Bearer
+bearerFrom n text [] k name = Nothing
+bearerFrom n text (d ∷ ds) k name =
     elim (eqb (kindNumber (d .kind)) (kindNumber k) && same (nameAt text (d .place)) name) [
       | true ↦ Row n
-      | false ↦ numberFrom (suc n) text ds k name
+      | false ↦ bearerFrom (suc n) text ds k name
     ]
 
-abbrev pub numberOf : List ℕ → List Named → Kind → List ℕ → Bearer
-numberOf text ds k name = numberFrom 0 text ds k name
+abbrev pub bearerOf : List ℕ → List Named → Kind → List ℕ → Bearer
+bearerOf text ds k name = bearerFrom 0 text ds k name
 
 -- ---- 5: "name used twice in a kind; the second"
 
@@ -55,7 +55,7 @@ pub data Repeat : Type 0 where
 unfoldable pub twiceFrom : List ℕ → List Named → List Named → Repeat
 twiceFrom text before [] = noRepeat
 twiceFrom text before (d ∷ ds) =
-    elim (numberOf text before (d .kind) (nameAt text (d .place))) [
+    elim (bearerOf text before (d .kind) (nameAt text (d .place))) [
       | Row n ↦ repeatAt (d .place)
       | Nothing ↦ twiceFrom text (before ++ d ∷ []) ds
     ]
@@ -65,7 +65,7 @@ twiceFrom text before (d ∷ ds) =
 -- a name is looked for in one kind, else in the next
 unfoldable pub calledIn : List ℕ → List Named → List Kind → List ℕ → Bearer
 calledIn text ds [] name = Nothing
-calledIn text ds (k ∷ ks) name = elim (numberOf text ds k name) [ Row n ↦ Row n | Nothing ↦ calledIn text ds ks name ]
+calledIn text ds (k ∷ ks) name = elim (bearerOf text ds k name) [ Row n ↦ Row n | Nothing ↦ calledIn text ds ks name ]
 
 -- the kinds that a use may mean: terms use intervals, tones and positions use tones,
 -- "start is a tone system or retuning name", and an order calls a logic as well

@@ -19,7 +19,7 @@ ghost use Rattle.symbols.specs.Names.{nameAt};
 ghost use Rattle.grammar.specs.Moves.{kindNumber};
 ghost use Rattle.grammar.specs.Reading.{mostBytes};
 ghost use Rattle.names.specs.Parts.{part};
-ghost use Rattle.names.specs.Names.{numberOf, calledIn};
+ghost use Rattle.names.specs.Names.{bearerOf, calledIn};
 ghost use Rattle.names.specs.Inner.{roleOf, tagOf, markOf, markRoom, packed, unpacked, namedOf, Kept, Chained, kindsIn, itemsIn, Held, Declarable, Room, FirstPass, SecondPass, BothPasses, mostDeclarations};
 
 // Room for a kind's number.
@@ -148,7 +148,7 @@ fn find_declaration(
 ) -> Bearer
     requires { ⌜ Kept (now text) (now declared) ⌝ }
     requires { ⌜ Chained (now declared) (now heads) (now links) ⌝ }
-    ensures { λ r. ⌜ r ≡ numberOf (now (text .entry)) (namedOf (now (declared .entry))) kind (nameAt (now (text .entry)) at) ⌝ }
+    ensures { λ r. ⌜ r ≡ bearerOf (now (text .entry)) (namedOf (now (declared .entry))) kind (nameAt (now (text .entry)) at) ⌝ }
 {
     let mark = mark_of(text, kind, at);
     let mut next = heads[mark as usize % BUCKETS];

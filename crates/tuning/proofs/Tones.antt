@@ -14,9 +14,9 @@ use Rattle.tuning.specs.Scale.{muted}
 use Rattle.tuning.specs.Tuning.{width, raised, soundOf}
 use Rattle.tuning.specs.Desk.{cents}
 use Rattle.tuning.specs.State.{heard, heardAt, held, toneOf}
-use Rattle.tuning.specs.Inner.{placeOf, size}
+use Rattle.tuning.specs.Inner.{locatedAt, size}
 use Rattle.tuning.specs.declared.State.{State}
-use Rattle.tuning.specs.declared.Place.{Place}
+use Rattle.tuning.specs.declared.Located.{Located}
 use Rattle.tuning.specs.declared.Position.{Position}
 use Rattle.tuning.specs.declared.Tone.{Tone}
 use Rattle.tuning.specs.declared.Tone.the-variants.{Muted, At}
@@ -45,8 +45,8 @@ raised-size (At p) d = omega (arith, sum (p .0) d .size)
 
 -- the place of a key of a valid state
 module _ (s : State) (v : Valid s) (x : ℕ) (h : x ≤ s .anchor .0 + 127) where
-  abbrev pub place : Place
-  place = placeOf (subℕ x (s .anchor .0)) (s .width)
+  abbrev pub place : Located
+  place = locatedAt (subℕ x (s .anchor .0)) (s .width)
 
   pub place-position : place .position < s .width
   place-position = floor-range (subℕ x (s .anchor .0)) (s .width) (v .least)

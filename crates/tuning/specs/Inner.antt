@@ -2,7 +2,7 @@
 use Prim.Native.Nat.{ℕ}
 use lib.IntN.{ℤ, natAbs}
 use Rattle.integers.specs.Floor.{floorDiv, floorMod}
-use Rattle.tuning.specs.declared.Place.{Place}
+use Rattle.tuning.specs.declared.Located.{Located}
 use Rattle.tuning.specs.declared.Tone.{Tone}
 use Rattle.tuning.specs.declared.Tone.the-variants.{Muted, At}
 use Rattle.tuning.specs.declared.Reach.{Reach}
@@ -10,8 +10,8 @@ use Rattle.tuning.specs.declared.Reach.the-variants.{Silent, By}
 use Rattle.tuning.specs.Scale.{Sound, muted, sounds}
 
 -- where a key that many keys above the anchor stands
-abbrev pub placeOf : ℤ → ℕ → Place
-placeOf steps width = record { position = floorMod steps width; periods = floorDiv steps width }
+abbrev pub locatedAt : ℤ → ℕ → Located
+locatedAt steps width = record { position = floorMod steps width; periods = floorDiv steps width }
 
 -- how far from zero a tone is
 abbrev pub size : Tone → ℕ

@@ -23,8 +23,8 @@ abbrev pub toneSystemTwo : Tuning cents
 toneSystemTwo = record { anchor = 69; tones = sounds (frequency hertz440) ∷ sounds (frequency hertz440 +ℤ intervalFifth) ∷ []; period = intervalOctave }
 
 -- a call's number, and the tuning after it
-abbrev pub numberOf : Tuning cents → Action cents → ℕ
-numberOf s c = called s c .number
+abbrev pub callNumber : Tuning cents → Action cents → ℕ
+callNumber s c = called s c .number
 
 abbrev pub tuningAfter : Tuning cents → Action cents → Tuning cents
 tuningAfter s c = called s c .state
@@ -47,10 +47,10 @@ unfoldable pub tuningSums : List Row
 tuningSums =
     (soundOf cents toneSystemTwo 70 gives sounds (pos 7601955))
     ∷ (soundOf cents toneSystemTwo 68 gives sounds (pos 6401955))
-    ∷ (numberOf (start cents) (widthTo (Relative Times 5)) gives Status.done)
+    ∷ (callNumber (start cents) (widthTo (Relative Times 5)) gives Status.done)
     ∷ (width cents (tuningAfter (start cents) (widthTo (Relative Times 5))) gives 60)
     ∷ (tuningAfter (start cents) (widthTo (Relative Times 5)) .period gives pos 6000000)
-    ∷ (numberOf (start cents) (widthTo (Absolute 61)) gives widthOutOfRange)
+    ∷ (callNumber (start cents) (widthTo (Absolute 61)) gives widthOutOfRange)
     ∷ []
 
 -- "Proved from the definitions, as a single list under a single statement"
@@ -68,14 +68,14 @@ comparedSums =
     (twiceUp .anchor gives 71)
     ∷ (soundOf cents twiceUp 71 gives sounds (pos 0x7eb526))
     ∷ (soundOf cents (tuningAfter toneSystemTwo (anchorTo (Relative Plus 1))) 70 gives sounds (pos 7601955))
-    ∷ (numberOf (tuningAfter (start cents) (widthTo (Absolute 1))) (widthTo (Relative Divide 2)) gives widthOutOfRange)
-    ∷ (numberOf (start cents) (periodTo (onward (negℤ intervalOctave))) gives Status.done)
+    ∷ (callNumber (tuningAfter (start cents) (widthTo (Absolute 1))) (widthTo (Relative Divide 2)) gives widthOutOfRange)
+    ∷ (callNumber (start cents) (periodTo (onward (negℤ intervalOctave))) gives Status.done)
     ∷ (tuningAfter (start cents) (periodTo (onward (negℤ intervalOctave))) .period gives pos 0)
-    ∷ (numberOf (tuningAfter (start cents) (periodTo (onward (negℤ intervalOctave)))) (periodTo (onward (negℤ intervalOctave))) gives periodOutOfRange)
-    ∷ (numberOf (start cents) (periodTo (fresh (pos 10 *ℤ intervalOctave))) gives Status.done)
-    ∷ (numberOf (start cents) (periodTo (fresh (pos 11 *ℤ intervalOctave))) gives periodOutOfRange)
-    ∷ (numberOf (start cents) (anchorTo (Relative Minus 61)) gives anchorOutOfRange)
+    ∷ (callNumber (tuningAfter (start cents) (periodTo (onward (negℤ intervalOctave)))) (periodTo (onward (negℤ intervalOctave))) gives periodOutOfRange)
+    ∷ (callNumber (start cents) (periodTo (fresh (pos 10 *ℤ intervalOctave))) gives Status.done)
+    ∷ (callNumber (start cents) (periodTo (fresh (pos 11 *ℤ intervalOctave))) gives periodOutOfRange)
+    ∷ (callNumber (start cents) (anchorTo (Relative Minus 61)) gives anchorOutOfRange)
     ∷ (soundOf cents (tuningAfter (start cents) (tonesTo (mute ∷ []))) 60 gives muted)
-    ∷ (numberOf (tuningAfter (start cents) (tonesTo (mute ∷ []))) (anchorTo Kept) gives endSilent)
-    ∷ (numberOf (start cents) (tonesTo (move (pos 100000000) ∷ [])) gives toneOutOfRange)
+    ∷ (callNumber (tuningAfter (start cents) (tonesTo (mute ∷ []))) (anchorTo Kept) gives endSilent)
+    ∷ (callNumber (start cents) (tonesTo (move (pos 100000000) ∷ [])) gives toneOutOfRange)
     ∷ []

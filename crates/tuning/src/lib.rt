@@ -18,7 +18,7 @@ ghost use lib.ListN.{drop, take};
 ghost use Rattle.tuning.specs.Tuning.{raised, soundOf, start};
 ghost use Rattle.tuning.specs.Desk.{cents, isPeriod, isMuted, beyond, anyBeyond};
 ghost use Rattle.tuning.specs.State.{heard, heardAt, held, toneOf, coded, validState, allMuted};
-ghost use Rattle.tuning.specs.Inner.{placeOf, size};
+ghost use Rattle.tuning.specs.Inner.{locatedAt, size};
 
 // How many positions a state has room for, and the width that takes them all.
 pub const PLACES: usize = MOST_POSITIONS as usize;
@@ -64,7 +64,7 @@ pub struct Reply {
 }
 
 // Where a key stands: its position, and how many periods up.
-pub struct Place {
+pub struct Located {
     pub position: usize,
     pub periods: i32,
 }
@@ -121,21 +121,21 @@ pub enum Reach {
 }
 
 // "x - a = q·w + r with r from 0 to w-1"
-fn locate(steps: KeySteps, width: u8) -> Place
+fn locate(steps: KeySteps, width: u8) -> Located
     requires { ⌜ (0 < width) × (natAbs (steps .0) ≤ 255) ⌝ }
-    ensures { λ r. ⌜ r ≡ placeOf (steps .0) width ⌝ }
+    ensures { λ r. ⌜ r ≡ locatedAt (steps .0) width ⌝ }
 {
     let n = steps.0;
     let w = width as u32;
     if n < 0 {
         let below = (-1 - n) as u32;
-        return Place {
+        return Located {
             position: (w - 1 - below % w) as usize,
             periods: -1 - (below / w) as i32,
         };
     }
     let above = n as u32;
-    Place {
+    Located {
         position: (above % w) as usize,
         periods: (above / w) as i32,
     }

@@ -13,13 +13,13 @@ use mir.Val.{SFits, toZ, ofZ}
 use mir.ValLaws.{toZ-pos}
 use Rattle.integers.specs.Parts.{up, dn}
 use Rattle.integers.proofs.Signed.{signed, diff, abs}
-use Rattle.tuning.specs.Inner.{placeOf}
-use Rattle.tuning.specs.declared.Place.{Place}
+use Rattle.tuning.specs.Inner.{locatedAt}
+use Rattle.tuning.specs.declared.Located.{Located}
 use Rattle.tuning.proofs.locate.Statement.{statement}
 use Rattle.tuning.proofs.locate.Tie as tie
 
 place-below : (z : ℤ) (w : ℕ) → ltZ z (pos 0) ≡ true →
-    _≡_ {A = Place} (record { position = w - 1 - (dn z - 1) % w; periods = negsuc 0 -ℤ pos ((dn z - 1) / w) }) (placeOf z w)
+    _≡_ {A = Located} (record { position = w - 1 - (dn z - 1) % w; periods = negsuc 0 -ℤ pos ((dn z - 1) / w) }) (locatedAt z w)
 place-below (pos n) w h = let e : ⊥ = omega (signed, h) in absurd e
 place-below (negsuc n) w h =
     let q : negsuc 0 -ℤ pos (n / w) ≡ negsuc (n / w) = omega (signed, diff (negsuc 0) (pos (n / w))) in
@@ -28,7 +28,7 @@ place-below (negsuc n) w h =
     simp (e, q, r)
 
 place-above : (z : ℤ) (w : ℕ) → ltZ z (pos 0) ≡ false →
-    _≡_ {A = Place} (record { position = up z % w; periods = pos (up z / w) }) (placeOf z w)
+    _≡_ {A = Located} (record { position = up z % w; periods = pos (up z / w) }) (locatedAt z w)
 place-above (pos n) w h = refl
 place-above (negsuc n) w h = let e : ⊥ = omega (signed, h) in absurd e
 

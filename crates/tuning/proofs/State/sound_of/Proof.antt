@@ -12,9 +12,9 @@ use Rattle.integers.proofs.Signed.{signed}
 use Rattle.tuning.specs.Tuning.{raised}
 use Rattle.tuning.specs.Desk.{cents}
 use Rattle.tuning.specs.State.{heard, toneOf}
-use Rattle.tuning.specs.Inner.{placeOf}
+use Rattle.tuning.specs.Inner.{locatedAt}
 use Rattle.tuning.specs.declared.State.{State}
-use Rattle.tuning.specs.declared.Place.{Place}
+use Rattle.tuning.specs.declared.Located.{Located}
 use Rattle.tuning.proofs.Lists.{length-mapped}
 use Rattle.tuning.proofs.Valid.{Valid, none, valid-of, tone-size}
 use Rattle.tuning.proofs.Steps.{apart-size}
@@ -42,11 +42,11 @@ module _ (c : tie.After-locate) where
   abbrev near : x ≤ s .anchor .0 + 127
   near = c .before .before .before .pre .1
 
-  abbrev here : Place
+  abbrev here : Located
   here = place s v x near
 
   located : c .locate .result ≡ here
-  located = c .locate .ensures ∙ ap (λ (z : ℤ). placeOf z (s .width)) (c .before .distance .ensures)
+  located = c .locate .ensures ∙ ap (λ (z : ℤ). locatedAt z (s .width)) (c .before .distance .ensures)
 
   position : c .locate .result .position < 60
   position = rw located (omega (arith, place-position s v x near, v .most))
@@ -55,7 +55,7 @@ module _ (c : tie.After-locate) where
   periods-fit = omega (signed, place-periods s v x near)
 
   periods : toZ w32 (ofZ w32 (c .locate .result .periods)) ≡ here .periods
-  periods = ap (λ (p : Place). toZ w32 (ofZ w32 (p .periods))) located ∙ toZ-ofZ periods-fit
+  periods = ap (λ (p : Located). toZ w32 (ofZ w32 (p .periods))) located ∙ toZ-ofZ periods-fit
 
 -- the period as often as `locate` says
 shift : (c : tie.After-times) →
@@ -94,7 +94,7 @@ returns c =
     let full = long (l .before .before .before) in
     let sound = c .raise .ensures
     ∙ ap (λ (z : ℤ). toneOf (raised cents z (heard t))) (shift (c .before))
-    ∙ ap (λ (p : Place). toneOf (raised cents (here l .periods *ℤ s l .period .0) (heard (getD (s l .tones) (p .position) none .tone)))) (located l)
+    ∙ ap (λ (p : Located). toneOf (raised cents (here l .periods *ℤ s l .period .0) (heard (getD (s l .tones) (p .position) none .tone)))) (located l)
     ∙ ap toneOf (place-sound (s l) (v l) (x l) (near l) full) in
     (sound, rw sound (sound-size (s l) (v l) (x l) (near l) full))
 
