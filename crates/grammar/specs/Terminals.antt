@@ -18,7 +18,7 @@ use Rattle.symbols.specs.declared.spelling.Letter.{Letter}
 use Rattle.symbols.specs.declared.spelling.Letter.the-variants.{Missing, Capital}
 use Rattle.symbols.specs.Names.{spelled, letterOf}
 use Rattle.grammar.specs.declared.Placed.{Placed}
-use Rattle.grammar.specs.Syntax.{Terminal, interval, tone, tonesystem, retuning, logic, key, root, unused, letter, name, number, equals, colon, plus, minus, times, divide, opening, closing, comma, at, widthOpen, widthClose, arrow, end, nothing, Node, Begin, Finish, IntervalName, IntervalEquals, IntervalBody, FirstNumber, RatioColon, RootWord, IntervalTerm, IntervalSign, IntervalFactor, IntervalDone, ToneName, ToneEquals, ToneBody, ToneTerm, ToneSign, ToneFactor, ToneDone, SystemName, SystemEquals, SystemAnchor, SystemOpen, SystemFirst, SystemComma, SystemTone, SystemPeriod, SystemTerm, SystemSign, SystemFactor, RetuningName, RetuningEquals, RetuningBody, RetuningOpen, RetuningDone, AnchorAt, AnchorPlus, AnchorMinus, AnchorOpen, AnchorClose, WidthBody, WidthAt, WidthPlus, WidthMinus, WidthAsterisk, WidthSlash, WidthClose, WidthEnd, PeriodBody, PeriodTerm, PeriodSign, PeriodFactor, TonesTerm, TonesSign, TonesFactor, TonesComma, LogicName, LogicKey, LogicLetter, LogicEquals, LogicStart, LogicOpen, OrdersOpen, OrderKey, OrderLetter, OrderArrow, LogicDone, Rule, rules}
+use Rattle.grammar.specs.Syntax.{Terminal, interval, tone, tonesystem, retuning, logic, key, root, unused, letter, name, number, equals, colon, plus, minus, times, divide, opening, closing, comma, at, widthOpen, widthClose, arrow, end, nothing, Node, Begin, Finish, IntervalName, IntervalEquals, IntervalBody, IntervalKind, SecondPart, RootRadicand, IntervalSign, IntervalTerm, IntervalTermName, IntervalNext, ToneName, ToneEquals, ToneBody, ToneSign, ToneTerm, ToneTermName, ToneNext, SystemName, SystemEquals, SystemAnchor, SystemOpen, SystemFirst, SystemPosition, SystemComma, SystemPeriod, SystemSign, SystemTerm, SystemTermName, RetuningName, RetuningEquals, RetuningBody, RetuningInside, RetuningNext, AnchorOperator, AnchorPlusNumber, AnchorMinusNumber, AnchorOpen, AnchorClose, WidthBody, WidthOperator, WidthPlusNumber, WidthMinusNumber, WidthTimesNumber, WidthOverNumber, WidthClose, WidthBracket, PeriodBody, PeriodSign, PeriodTerm, PeriodTermName, TonesSign, TonesTerm, TonesTermName, TonesPosition, LogicName, LogicKey, LogicLetter, LogicEquals, LogicStart, LogicOpen, OrderKey, OrderLetter, OrderArrow, OrderName, LogicNext, Rule, rules}
 
 abbrev pub terminalNumber : Terminal → ℕ
 terminalNumber interval = 0
@@ -54,84 +54,84 @@ nodeNumber Finish = 1
 nodeNumber IntervalName = 2
 nodeNumber IntervalEquals = 3
 nodeNumber IntervalBody = 4
-nodeNumber FirstNumber = 5
-nodeNumber RatioColon = 6
-nodeNumber RootWord = 7
-nodeNumber IntervalTerm = 8
-nodeNumber IntervalSign = 9
-nodeNumber IntervalFactor = 10
-nodeNumber IntervalDone = 11
+nodeNumber IntervalKind = 5
+nodeNumber SecondPart = 6
+nodeNumber RootRadicand = 7
+nodeNumber IntervalSign = 8
+nodeNumber IntervalTerm = 9
+nodeNumber IntervalTermName = 10
+nodeNumber IntervalNext = 11
 nodeNumber ToneName = 12
 nodeNumber ToneEquals = 13
 nodeNumber ToneBody = 14
-nodeNumber ToneTerm = 15
-nodeNumber ToneSign = 16
-nodeNumber ToneFactor = 17
-nodeNumber ToneDone = 18
+nodeNumber ToneSign = 15
+nodeNumber ToneTerm = 16
+nodeNumber ToneTermName = 17
+nodeNumber ToneNext = 18
 nodeNumber SystemName = 19
 nodeNumber SystemEquals = 20
 nodeNumber SystemAnchor = 21
 nodeNumber SystemOpen = 22
 nodeNumber SystemFirst = 23
-nodeNumber SystemComma = 24
-nodeNumber SystemTone = 25
+nodeNumber SystemPosition = 24
+nodeNumber SystemComma = 25
 nodeNumber SystemPeriod = 26
-nodeNumber SystemTerm = 27
-nodeNumber SystemSign = 28
-nodeNumber SystemFactor = 29
+nodeNumber SystemSign = 27
+nodeNumber SystemTerm = 28
+nodeNumber SystemTermName = 29
 nodeNumber RetuningName = 30
 nodeNumber RetuningEquals = 31
 nodeNumber RetuningBody = 32
-nodeNumber RetuningOpen = 33
-nodeNumber RetuningDone = 34
-nodeNumber AnchorAt = 35
-nodeNumber AnchorPlus = 36
-nodeNumber AnchorMinus = 37
+nodeNumber RetuningInside = 33
+nodeNumber RetuningNext = 34
+nodeNumber AnchorOperator = 35
+nodeNumber AnchorPlusNumber = 36
+nodeNumber AnchorMinusNumber = 37
 nodeNumber AnchorOpen = 38
 nodeNumber AnchorClose = 39
 nodeNumber WidthBody = 40
-nodeNumber WidthAt = 41
-nodeNumber WidthPlus = 42
-nodeNumber WidthMinus = 43
-nodeNumber WidthAsterisk = 44
-nodeNumber WidthSlash = 45
+nodeNumber WidthOperator = 41
+nodeNumber WidthPlusNumber = 42
+nodeNumber WidthMinusNumber = 43
+nodeNumber WidthTimesNumber = 44
+nodeNumber WidthOverNumber = 45
 nodeNumber WidthClose = 46
-nodeNumber WidthEnd = 47
+nodeNumber WidthBracket = 47
 nodeNumber PeriodBody = 48
-nodeNumber PeriodTerm = 49
-nodeNumber PeriodSign = 50
-nodeNumber PeriodFactor = 51
-nodeNumber TonesTerm = 52
-nodeNumber TonesSign = 53
-nodeNumber TonesFactor = 54
-nodeNumber TonesComma = 55
+nodeNumber PeriodSign = 49
+nodeNumber PeriodTerm = 50
+nodeNumber PeriodTermName = 51
+nodeNumber TonesSign = 52
+nodeNumber TonesTerm = 53
+nodeNumber TonesTermName = 54
+nodeNumber TonesPosition = 55
 nodeNumber LogicName = 56
 nodeNumber LogicKey = 57
 nodeNumber LogicLetter = 58
 nodeNumber LogicEquals = 59
 nodeNumber LogicStart = 60
 nodeNumber LogicOpen = 61
-nodeNumber OrdersOpen = 62
-nodeNumber OrderKey = 63
-nodeNumber OrderLetter = 64
-nodeNumber OrderArrow = 65
-nodeNumber LogicDone = 66
+nodeNumber OrderKey = 62
+nodeNumber OrderLetter = 63
+nodeNumber OrderArrow = 64
+nodeNumber OrderName = 65
+nodeNumber LogicNext = 66
 
 -- the nodes in the order of their numbers; past them nothing follows
 abbrev pub nodes : List Node
 nodes =
-    Begin ∷ Finish ∷ IntervalName ∷ IntervalEquals ∷ IntervalBody ∷ FirstNumber ∷
-    RatioColon ∷ RootWord ∷ IntervalTerm ∷ IntervalSign ∷ IntervalFactor ∷ IntervalDone ∷
-    ToneName ∷ ToneEquals ∷ ToneBody ∷ ToneTerm ∷ ToneSign ∷ ToneFactor ∷
-    ToneDone ∷ SystemName ∷ SystemEquals ∷ SystemAnchor ∷ SystemOpen ∷ SystemFirst ∷
-    SystemComma ∷ SystemTone ∷ SystemPeriod ∷ SystemTerm ∷ SystemSign ∷ SystemFactor ∷
-    RetuningName ∷ RetuningEquals ∷ RetuningBody ∷ RetuningOpen ∷ RetuningDone ∷ AnchorAt ∷
-    AnchorPlus ∷ AnchorMinus ∷ AnchorOpen ∷ AnchorClose ∷ WidthBody ∷ WidthAt ∷
-    WidthPlus ∷ WidthMinus ∷ WidthAsterisk ∷ WidthSlash ∷ WidthClose ∷ WidthEnd ∷
-    PeriodBody ∷ PeriodTerm ∷ PeriodSign ∷ PeriodFactor ∷ TonesTerm ∷ TonesSign ∷
-    TonesFactor ∷ TonesComma ∷ LogicName ∷ LogicKey ∷ LogicLetter ∷ LogicEquals ∷
-    LogicStart ∷ LogicOpen ∷ OrdersOpen ∷ OrderKey ∷ OrderLetter ∷ OrderArrow ∷
-    LogicDone ∷ []
+    Begin ∷ Finish ∷ IntervalName ∷ IntervalEquals ∷ IntervalBody ∷ IntervalKind ∷
+    SecondPart ∷ RootRadicand ∷ IntervalSign ∷ IntervalTerm ∷ IntervalTermName ∷ IntervalNext ∷
+    ToneName ∷ ToneEquals ∷ ToneBody ∷ ToneSign ∷ ToneTerm ∷ ToneTermName ∷
+    ToneNext ∷ SystemName ∷ SystemEquals ∷ SystemAnchor ∷ SystemOpen ∷ SystemFirst ∷
+    SystemPosition ∷ SystemComma ∷ SystemPeriod ∷ SystemSign ∷ SystemTerm ∷ SystemTermName ∷
+    RetuningName ∷ RetuningEquals ∷ RetuningBody ∷ RetuningInside ∷ RetuningNext ∷ AnchorOperator ∷
+    AnchorPlusNumber ∷ AnchorMinusNumber ∷ AnchorOpen ∷ AnchorClose ∷ WidthBody ∷ WidthOperator ∷
+    WidthPlusNumber ∷ WidthMinusNumber ∷ WidthTimesNumber ∷ WidthOverNumber ∷ WidthClose ∷ WidthBracket ∷
+    PeriodBody ∷ PeriodSign ∷ PeriodTerm ∷ PeriodTermName ∷ TonesSign ∷ TonesTerm ∷
+    TonesTermName ∷ TonesPosition ∷ LogicName ∷ LogicKey ∷ LogicLetter ∷ LogicEquals ∷
+    LogicStart ∷ LogicOpen ∷ OrderKey ∷ OrderLetter ∷ OrderArrow ∷ OrderName ∷
+    LogicNext ∷ []
 
 abbrev pub nodeAt : ℕ → Node
 nodeAt n = getD nodes n Finish

@@ -15,7 +15,7 @@ use Rattle.grammar.specs.declared.NumberUse.{NumberUse}
 use Rattle.grammar.specs.declared.NumberUse.the-variants.{RatioFirst, RatioSecond, Degree, Radicand, FirstFactor, Factor, Frequency, AnchorKey, AnchorTo, AnchorUp, AnchorDown, WidthTo, WidthUp, WidthDown, WidthTimes, WidthOver}
 use Rattle.grammar.specs.declared.NameUse.the-variants.{Term, Base, Position, Start, Order}
 use Rattle.grammar.specs.declared.MarkUse.the-variants.{MutedPosition, KeptPosition, KeptAnchor, KeptWidth, Period, Onward}
-use Rattle.grammar.specs.declared.LetterUse.the-variants.{LogicLetter, OrderLetter}
+use Rattle.grammar.specs.declared.LetterUse.the-variants.{LogicLetter, OrderLetter as LetterOfOrder}
 use Rattle.grammar.specs.declared.Action.{Action}
 use Rattle.grammar.specs.declared.Action.the-variants.{Pass, Declare, Hold, Held, Number, Sign, Name, Mark, Letter, CountOrder}
 use Rattle.grammar.specs.declared.Item.{Item}
@@ -25,7 +25,7 @@ use Rattle.grammar.specs.declared.Progress.{Progress}
 use Rattle.grammar.specs.declared.Placed.{Placed}
 use Rattle.grammar.specs.declared.Outcome.{Outcome}
 use Rattle.grammar.specs.declared.Outcome.the-variants.{Go, Give, Refuse}
-use Rattle.grammar.specs.Syntax.{Node, Finish, OrderKey, OrderArrow, Rule, rules}
+use Rattle.grammar.specs.Syntax.{Node, Finish, OrderLetter, OrderName, Rule, rules}
 use Rattle.grammar.specs.Terminals.{nodes, nodeAt, nodeNumber, picked, placed}
 use Rattle.grammar.specs.Moves.{kindNumber, actionAt}
 use Rattle.grammar.specs.Reading.{limit, soFar, oneMore, mostTerms, mostPositions, nextTerm, withPositions, noTerm, unlessFull, termItem, termed, positioned, used, numbered, acted, readItems}
@@ -166,7 +166,7 @@ module _ (s : Progress) (x : Placed) where
   acted-counting text (Mark Period) = giving refl refl refl refl
   acted-counting text (Mark Onward) = giving refl refl refl refl
   acted-counting text (Letter LogicLetter) = giving refl refl refl refl
-  acted-counting text (Letter OrderLetter) = passing refl refl
+  acted-counting text (Letter LetterOfOrder) = passing refl refl
   acted-counting text CountOrder = full CountOrder (limit AnOrder) (soFar AnOrder (s .counts)) _ (λ h. ordering h refl)
 
 -- ---- declared names
@@ -216,7 +216,7 @@ few-names text e k = omega (arith, walk text (λ _. NamesLeft k) (λ s. omega ar
 
 -- the orders that are counted and not yet given, at a node: one from KEY to the arrow
 abbrev owed : Node → ℕ
-owed q = cond (leb (nodeNumber OrderKey) (nodeNumber q) && leb (nodeNumber q) (nodeNumber OrderArrow)) 1 0
+owed q = cond (leb (nodeNumber OrderLetter) (nodeNumber q) && leb (nodeNumber q) (nodeNumber OrderName)) 1 0
 
 -- no rule gives an order that is not owed
 balanced : Node → Rule → Bool
