@@ -1,16 +1,10 @@
 -- Terminals and nodes come back from their numbers: no two share one.
 use mathlib.Core.Path.{_≡_, refl}
-use mathlib.Core.List.{List, [], _∷_}
-use lib.ListN.{getD}
 use Rattle.grammar.specs.Syntax.{Terminal, interval, tone, tonesystem, retuning, logic, key, root, unused, letter, name, number, equals, colon, plus, minus, times, divide, opening, closing, comma, at, widthOpen, widthClose, arrow, end, nothing, Node, Begin, Finish, IntervalName, IntervalEquals, IntervalBody, IntervalKind, SecondPart, RootRadicand, IntervalSign, IntervalTerm, IntervalTermName, IntervalNext, ToneName, ToneEquals, ToneBody, ToneSign, ToneTerm, ToneTermName, ToneNext, SystemName, SystemEquals, SystemAnchor, SystemOpen, SystemFirst, SystemPosition, SystemComma, SystemPeriod, SystemSign, SystemTerm, SystemTermName, RetuningName, RetuningEquals, RetuningBody, RetuningInside, RetuningNext, AnchorOperator, AnchorPlusNumber, AnchorMinusNumber, AnchorOpen, AnchorClose, WidthBody, WidthOperator, WidthPlusNumber, WidthMinusNumber, WidthTimesNumber, WidthOverNumber, WidthClose, WidthBracket, PeriodBody, PeriodSign, PeriodTerm, PeriodTermName, TonesSign, TonesTerm, TonesTermName, TonesPosition, LogicName, LogicKey, LogicLetter, LogicEquals, LogicStart, LogicOpen, OrderKey, OrderLetter, OrderArrow, OrderName, LogicNext}
-use Rattle.grammar.specs.Terminals.{terminalNumber, nodeNumber, nodeAt}
+use Rattle.grammar.specs.Terminals.{terminalNumber}
+use Rattle.grammar.specs.Moves.{nodeNumber, nodeAt, terminalAt}
 
-abbrev terminals : List Terminal
-terminals =
-    interval ∷ tone ∷ tonesystem ∷ retuning ∷ logic ∷ key ∷ root ∷ unused ∷ letter ∷ name ∷ number ∷ equals ∷ colon ∷ plus ∷ minus ∷ times ∷ divide ∷ opening ∷ closing ∷ comma ∷ at ∷ widthOpen ∷ widthClose ∷ arrow ∷ end ∷ nothing
-    ∷ []
-
-pub terminal-back : (t : Terminal) → getD terminals (terminalNumber t) nothing ≡ t
+pub terminal-back : (t : Terminal) → terminalAt (terminalNumber t) ≡ t
 terminal-back interval = refl
 terminal-back tone = refl
 terminal-back tonesystem = refl

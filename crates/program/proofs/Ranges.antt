@@ -1,6 +1,6 @@
 -- What is read of a number or of a letter is allowed.
 -- Assumes nothing.
-use mathlib.Core.Path.{_≡_, refl}
+use mathlib.Core.Path.{_≡_, refl, ap}
 use mathlib.Core.Bool.{Bool, true, false, cond, _&&_, and-eq-true-iff}
 use mathlib.Core.List.{List, [], _∷_}
 use Prim.Native.Nat.{ℕ, _-_, _≤_}
@@ -29,7 +29,7 @@ use Rattle.grammar.specs.declared.NumberUse.the-variants as numberUse
 use Rattle.grammar.specs.declared.NumberRange.{NumberRange}
 use Rattle.grammar.specs.declared.NumberRange.the-variants as range
 use Rattle.grammar.specs.Syntax.{letter}
-use Rattle.grammar.specs.Terminals.{terminalNumber, ofWord, ofLetter, ofMark, terminalOf, placed, capital, letterAt}
+use Rattle.grammar.specs.Terminals.{terminalNumber, ofWord, ofLetter, ofMark, terminalOf, spanOf, capital, letterAt}
 use Rattle.grammar.specs.Reading.{allowed, within, judged}
 use Rattle.program.specs.Allowed.{Decimal, Degree, Letter}
 
@@ -137,11 +137,9 @@ mark-no-letter mark.WidthOpen e = omega arith
 mark-no-letter mark.WidthClose e = omega arith
 mark-no-letter mark.Arrow e = omega arith
 
--- a symbol that the syntax takes for a letter is one
-pub letter-there : (text : List ℕ) (y : Symbol) → terminalNumber (terminalOf text y) ≡ terminalNumber letter
-    → Letter (letterAt text (placed text y))
+numbered-letter : (text : List ℕ) (y : Symbol) → terminalNumber (terminalOf text y) ≡ terminalNumber letter → Letter (letterAt text (spanOf y))
 unfolding terminalOf
-letter-there text (symbol.Name a b) e = go (letterOf (slice a b text)) (letter-fits (slice a b text)) e
+numbered-letter text (symbol.Name a b) e = go (letterOf (slice a b text)) (letter-fits (slice a b text)) e
   where
     w : Word
     w = wordOf (spelled (slice a b text))
@@ -149,7 +147,11 @@ letter-there text (symbol.Name a b) e = go (letterOf (slice a b text)) (letter-f
     go : (l : Spelled) → LetterFits l → terminalNumber (ofLetter l w) ≡ terminalNumber letter → Letter (capital l)
     go Missing h q = absurd (word-no-letter w q)
     go (Capital c) h q = h
-letter-there text (symbol.Number a b) e = absurd (omega arith)
-letter-there text (symbol.Mark k a b) e = absurd (mark-no-letter k e)
-letter-there text (symbol.End a) e = absurd (omega arith)
-letter-there text (symbol.Bad a) e = absurd (omega arith)
+numbered-letter text (symbol.Number a b) e = absurd (omega arith)
+numbered-letter text (symbol.Mark k a b) e = absurd (mark-no-letter k e)
+numbered-letter text (symbol.End a) e = absurd (omega arith)
+numbered-letter text (symbol.Bad a) e = absurd (omega arith)
+
+-- a symbol that the syntax takes for a letter is one
+pub letter-there : (text : List ℕ) (y : Symbol) → terminalOf text y ≡ letter → Letter (letterAt text (spanOf y))
+letter-there text y e = numbered-letter text y (ap terminalNumber e)

@@ -5,8 +5,6 @@ use mathlib.Core.Bool.{Bool, true, false}
 use mathlib.Core.List.{List, [], _∷_}
 use mathlib.Core.Option.{some, Option·none-ne-some, Option·some-injective}
 use Prim.Native.Nat.{ℕ}
-use borrow.Author.Tests.{eqb-true}
-use lib.Dec.{eqb}
 use Rattle.status.specs.Status.{done}
 use Rattle.grammar.specs.declared.Kind.{Kind}
 use Rattle.grammar.specs.declared.Kind.the-variants.{Interval, Tone, System, Retuning, Logic}
@@ -14,7 +12,8 @@ use Rattle.grammar.specs.declared.Action.the-variants.{Pass}
 use Rattle.grammar.specs.declared.Item.{Item}
 use Rattle.grammar.specs.declared.Progress.{Progress}
 use Rattle.grammar.specs.Syntax.{Terminal, blocks, Rule, rules, Node, Begin, Finish, IntervalName, IntervalEquals, IntervalBody, IntervalKind, SecondPart, RootRadicand, IntervalSign, IntervalTerm, IntervalTermName, IntervalNext, ToneName, ToneEquals, ToneBody, ToneSign, ToneTerm, ToneTermName, ToneNext, SystemName, SystemEquals, SystemAnchor, SystemOpen, SystemFirst, SystemPosition, SystemComma, SystemPeriod, SystemSign, SystemTerm, SystemTermName, RetuningName, RetuningEquals, RetuningBody, RetuningInside, RetuningNext, AnchorOperator, AnchorPlusNumber, AnchorMinusNumber, AnchorOpen, AnchorClose, WidthBody, WidthOperator, WidthPlusNumber, WidthMinusNumber, WidthTimesNumber, WidthOverNumber, WidthClose, WidthBracket, PeriodBody, PeriodSign, PeriodTerm, PeriodTermName, TonesSign, TonesTerm, TonesTermName, TonesPosition, LogicName, LogicKey, LogicLetter, LogicEquals, LogicStart, LogicOpen, OrderKey, OrderLetter, OrderArrow, OrderName, LogicNext}
-use Rattle.grammar.specs.Terminals.{terminalNumber, nodeAt, nodeNumber, picked}
+use Rattle.grammar.specs.Terminals.{sameTerminal, picked, terminalOf}
+use Rattle.grammar.proofs.Diagrams.{same-terminal}
 use Rattle.grammar.specs.Reading.{readItems, begun}
 use Rattle.program.specs.Allowed.{Each}
 use Rattle.program.proofs.Formed.{no-term, no-order, Formed, no-more}
@@ -97,7 +96,7 @@ stage LogicNext = nothing
 
 -- a rule leads from stage P to the stage of its next node
 abbrev Good : Stage → Rule → Type 0
-Good P r = Move (r .symbol) P (r .action) (stage (nodeAt (nodeNumber (r .next))))
+Good P r = Move (r .symbol) P (r .action) (stage (r .next))
 
 -- ---- the rules that many nodes share
 
@@ -114,7 +113,7 @@ new-block : {P : Stage} → Ending P → Each (Good P) blocks
 new-block end = (ending end, (ending end, (ending end, (ending end, (ending end, (ending end, tt))))))
 
 same-body : {t : Terminal} {k : Kind} → Move t (body k) Pass (body k)
-same-body = passing (λ n s is c. c)
+same-body = passing (λ s is c. c)
 
 -- ---- the rules of each node
 
@@ -142,7 +141,7 @@ good ToneNext = (declaring whole, (declaring whole, new-block whole))
 good SystemName = (declaring whole, (declaring whole, tt))
 good SystemEquals = (same-body, tt)
 good SystemAnchor = (system-anchor, tt)
-good SystemOpen = (passing (λ n s is c. c), tt)
+good SystemOpen = (passing (λ s is c. c), tt)
 good SystemFirst = (muted-place-mark next-place, (tone-place-name, (tone-place-name, tt)))
 good SystemPosition = (muted-place-mark next-place, (muted-place-mark no-more-places, (tone-place-name, (tone-place-name, tt))))
 good SystemComma = (place-end next-place, (place-end no-more-places, tt))
@@ -181,27 +180,26 @@ good TonesPosition =
 good LogicName = (declaring whole, (declaring whole, tt))
 good LogicKey = (same-body, tt)
 good LogicLetter = (logic-letter, tt)
-good LogicEquals = (passing (λ n s is c. c), tt)
+good LogicEquals = (passing (λ s is c. c), tt)
 good LogicStart = (start-none, (start-name, (start-name, tt)))
-good LogicOpen = (passing (λ n s is c. c), tt)
+good LogicOpen = (passing (λ s is c. c), tt)
 good OrderKey = (order-key, (ending no-more-orders, tt))
 good OrderLetter = (order-letter, tt)
-good OrderArrow = (passing (λ n s is c. c), tt)
+good OrderArrow = (passing (λ s is c. c), tt)
 good OrderName = (order-name, (order-name, tt))
 good LogicNext = (declaring whole, (declaring whole, new-block whole))
 
 -- the rule that is picked for a terminal is one of the list, and is for that terminal
-picked-good : (F : Rule → Type 0) (rs : List Rule) (t : ℕ) {r : Rule} → Each F rs → picked rs t ≡ some r
-    → F r × (t ≡ terminalNumber (r .symbol))
+picked-good : (F : Rule → Type 0) (rs : List Rule) (t : Terminal) {r : Rule} → Each F rs → picked rs t ≡ some r → F r × (t ≡ r .symbol)
 unfolding picked
 picked-good F [] t {r} h e = absurd (Option·none-ne-some r e)
-picked-good F (x ∷ xs) t {r} h e = go (eqb t (terminalNumber (x .symbol))) refl (picked-good F xs t (h .1)) e
+picked-good F (x ∷ xs) t {r} h e = go (sameTerminal t (x .symbol)) refl (picked-good F xs t (h .1)) e
   where
-    go : (b : Bool) → eqb t (terminalNumber (x .symbol)) ≡ b → (picked xs t ≡ some r → F r × (t ≡ terminalNumber (r .symbol)))
-        → elim b [ true ↦ some x | false ↦ picked xs t ] ≡ some r → F r × (t ≡ terminalNumber (r .symbol))
+    go : (b : Bool) → sameTerminal t (x .symbol) ≡ b → (picked xs t ≡ some r → F r × (t ≡ r .symbol))
+        → elim b [ true ↦ some x | false ↦ picked xs t ] ≡ some r → F r × (t ≡ r .symbol)
     go true p later q =
         let same = Option·some-injective x r q in
-        (subst F same (h .0), eqb-true t (terminalNumber (x .symbol)) p ∙ ap (λ (y : Rule). terminalNumber (y .symbol)) same)
+        (subst F same (h .0), same-terminal t (x .symbol) p ∙ ap (λ (y : Rule). y .symbol) same)
     go false p later q = later q
 
 -- ---- a whole text
@@ -215,9 +213,7 @@ unfolding AheadAt
 read-shape text e = out (walk text AheadAt (λ s f. ahead [] no-item no-more) kept e fit-one)
   where
     kept : Kept text AheadAt
-    kept k s y r q =
-        let g = picked-good (Good (stage (nodeAt k))) (rules (nodeAt k)) _ (good (nodeAt k)) q in
-        keeps-ahead (g .0 .leads text (nodeNumber (r .next)) s y (g .1))
+    kept n s y r q = let g = picked-good (Good (stage n)) (rules n) (terminalOf text y) (good n) q in keeps-ahead (g .0 .leads text s y (g .1))
 
-    out : {is : List Item} → Ahead nothing begun is → Formed is
+    out : {is : List Item} → Ahead nothing (begun .kept) is → Formed is
     out (ahead _ no-item r) = r
