@@ -1,7 +1,13 @@
--- Terminals and nodes come back from their numbers: no two share one.
-use mathlib.Core.Path.{_≡_, refl}
+-- Terminals and nodes come back from their numbers: no two share one. So no word and no mark is taken for a letter, or for the text's end.
+use mathlib.Core.Bool.{Bool, true, false, cond}
+use mathlib.Core.Path.{_≡_, refl, subst}
+use lib.Dec.{T}
+use Rattle.symbols.specs.declared.MarkKind.{MarkKind}
+use Rattle.symbols.specs.declared.MarkKind.the-variants as mark
+use Rattle.symbols.specs.declared.words.Word.{Word}
+use Rattle.symbols.specs.declared.words.Word.the-variants as word
 use Rattle.grammar.specs.Syntax.{Terminal, interval, tone, tonesystem, retuning, logic, key, root, unused, letter, name, number, equals, colon, plus, minus, times, divide, opening, closing, comma, at, widthOpen, widthClose, arrow, end, nothing, Node, Begin, Finish, IntervalName, IntervalEquals, IntervalBody, IntervalKind, SecondPart, RootRadicand, IntervalSign, IntervalTerm, IntervalTermName, IntervalNext, ToneName, ToneEquals, ToneBody, ToneSign, ToneTerm, ToneTermName, ToneNext, SystemName, SystemEquals, SystemAnchor, SystemOpen, SystemFirst, SystemPosition, SystemComma, SystemPeriod, SystemSign, SystemTerm, SystemTermName, RetuningName, RetuningEquals, RetuningBody, RetuningInside, RetuningNext, AnchorOperator, AnchorPlusNumber, AnchorMinusNumber, AnchorOpen, AnchorClose, WidthBody, WidthOperator, WidthPlusNumber, WidthMinusNumber, WidthTimesNumber, WidthOverNumber, WidthClose, WidthBracket, PeriodBody, PeriodSign, PeriodTerm, PeriodTermName, TonesSign, TonesTerm, TonesTermName, TonesPosition, LogicName, LogicKey, LogicLetter, LogicEquals, LogicStart, LogicOpen, OrderKey, OrderLetter, OrderArrow, OrderName, LogicNext}
-use Rattle.grammar.specs.Terminals.{terminalNumber}
+use Rattle.grammar.specs.Terminals.{terminalNumber, sameTerminal, ofWord, ofMark}
 use Rattle.grammar.specs.Moves.{nodeNumber, nodeAt, terminalAt}
 
 pub terminal-back : (t : Terminal) → terminalAt (terminalNumber t) ≡ t
@@ -100,3 +106,43 @@ node-back OrderLetter = refl
 node-back OrderArrow = refl
 node-back OrderName = refl
 node-back LogicNext = refl
+
+-- ---- words and marks
+
+abbrev isApart : Terminal → Bool
+isApart t = cond (sameTerminal t letter) false (cond (sameTerminal t end) false true)
+
+apart : (t : Terminal) → T (isApart t) → (t ≡ letter → ⊥) × (t ≡ end → ⊥)
+apart t h = (λ e. subst (λ (u : Terminal). T (isApart u)) e h, λ e. subst (λ (u : Terminal). T (isApart u)) e h)
+
+word-test : (w : Word) → T (isApart (ofWord w))
+word-test word.Interval = tt
+word-test word.Tone = tt
+word-test word.ToneSystem = tt
+word-test word.Retuning = tt
+word-test word.Logic = tt
+word-test word.Key = tt
+word-test word.Root = tt
+word-test word.Unused = tt
+word-test word.Plain = tt
+
+pub word-apart : (w : Word) → (ofWord w ≡ letter → ⊥) × (ofWord w ≡ end → ⊥)
+word-apart w = apart (ofWord w) (word-test w)
+
+mark-test : (k : MarkKind) → T (isApart (ofMark k))
+mark-test mark.Equals = tt
+mark-test mark.Colon = tt
+mark-test mark.Plus = tt
+mark-test mark.Minus = tt
+mark-test mark.Times = tt
+mark-test mark.Divide = tt
+mark-test mark.Open = tt
+mark-test mark.Close = tt
+mark-test mark.Comma = tt
+mark-test mark.At = tt
+mark-test mark.WidthOpen = tt
+mark-test mark.WidthClose = tt
+mark-test mark.Arrow = tt
+
+pub mark-apart : (k : MarkKind) → (ofMark k ≡ letter → ⊥) × (ofMark k ≡ end → ⊥)
+mark-apart k = apart (ofMark k) (mark-test k)

@@ -14,10 +14,7 @@ use lib.Seq.{slice, sets, append-snoc}
 use Rattle.status.specs.Status.{done, textTooLong, noSymbol, symbolNotAllowed, itemTooMany, numberOutOfRange}
 use Rattle.symbols.specs.declared.Symbol.{Symbol}
 use Rattle.symbols.specs.declared.Symbol.the-variants.{Bad, End, Name as NameSymbol, Number as NumberSymbol, Mark as MarkSymbol}
-use Rattle.symbols.specs.declared.MarkKind.{MarkKind}
-use Rattle.symbols.specs.declared.MarkKind.the-variants as mark
 use Rattle.symbols.specs.declared.words.Word.{Word}
-use Rattle.symbols.specs.declared.words.Word.the-variants as word
 use Rattle.symbols.specs.Words.{wordOf}
 use Rattle.symbols.specs.declared.spelling.Letter.{Letter as Spelled}
 use Rattle.symbols.specs.declared.spelling.Letter.the-variants as spelling
@@ -43,11 +40,12 @@ use Rattle.grammar.specs.declared.Outcome.the-variants.{Go, Give, Refuse
 use Rattle.grammar.specs.declared.moves.Move.the-variants.{Missing, To}
 use Rattle.grammar.specs.declared.reading.Reading.{Reading}
 use Rattle.grammar.specs.Syntax.{Terminal, end, nothing, Node, Begin, Finish, Rule, rules}
-use Rattle.grammar.specs.Terminals.{terminalNumber, picked, ofWord, ofLetter, ofMark, terminalOf, startOf, endOf, spanOf}
+use Rattle.grammar.specs.Terminals.{terminalNumber, picked, ofLetter, terminalOf, startOf, endOf, spanOf}
 use Rattle.grammar.specs.Moves.{nodeNumber, moveBy, moveOf}
 use Rattle.grammar.specs.Reading.{Read, limit, mostTerms, mostPositions, soFar, oneMore, withCounts, withPositions, noTerm, nextTerm, unlessFull, counted, positioned, judged, used, ifAllowed, numbered, acted, standing, Step, thenAt, notAllowed, byRule, stepped, begun, with, refusedAt, readFrom, mostBytes, readItems, answered}
 use Rattle.grammar.specs.Reading as reading
 use Rattle.grammar.specs.Items.{row, rowSize, rows, holding, itemSlots}
+use Rattle.grammar.proofs.Numbered.{word-apart, mark-apart}
 use Rattle.grammar.proofs.Diagrams.{moves-by-name, same-node, none-at-nothing, finish-at-end, end-at-finish}
 use Rattle.grammar.proofs.Rows.{holding-more, length-holding}
 
@@ -147,47 +145,21 @@ acted-grown text s CountOrder x =
 
 -- ---- the end of a text is its last symbol, and leads to the last node
 
-word-no-end : (w : Word) → terminalNumber (ofWord w) ≡ terminalNumber end → ⊥
-word-no-end word.Interval e = omega arith
-word-no-end word.Tone e = omega arith
-word-no-end word.ToneSystem e = omega arith
-word-no-end word.Retuning e = omega arith
-word-no-end word.Logic e = omega arith
-word-no-end word.Key e = omega arith
-word-no-end word.Root e = omega arith
-word-no-end word.Unused e = omega arith
-word-no-end word.Plain e = omega arith
-
-mark-no-end : (k : MarkKind) → terminalNumber (ofMark k) ≡ terminalNumber end → ⊥
-mark-no-end mark.Equals e = omega arith
-mark-no-end mark.Colon e = omega arith
-mark-no-end mark.Plus e = omega arith
-mark-no-end mark.Minus e = omega arith
-mark-no-end mark.Times e = omega arith
-mark-no-end mark.Divide e = omega arith
-mark-no-end mark.Open e = omega arith
-mark-no-end mark.Close e = omega arith
-mark-no-end mark.Comma e = omega arith
-mark-no-end mark.At e = omega arith
-mark-no-end mark.WidthOpen e = omega arith
-mark-no-end mark.WidthClose e = omega arith
-mark-no-end mark.Arrow e = omega arith
-
-none-after-end : (text : List ℕ) (y : Symbol) → terminalNumber (terminalOf text y) ≡ terminalNumber end → after y ≡ none
+none-after-end : (text : List ℕ) (y : Symbol) → terminalOf text y ≡ end → after y ≡ none
 unfolding after terminalOf
 none-after-end text (NameSymbol a b) e = absurd (go (letterOf (slice a b text)) (wordOf (spelled (slice a b text))) e)
   where
-    go : (l : Spelled) (w : Word) → terminalNumber (ofLetter l w) ≡ terminalNumber end → ⊥
-    go spelling.Missing w q = word-no-end w q
-    go (spelling.Capital c) w q = omega arith
-none-after-end text (NumberSymbol a b) e = absurd (omega arith)
-none-after-end text (MarkSymbol k a b) e = absurd (mark-no-end k e)
+    go : (l : Spelled) (w : Word) → ofLetter l w ≡ end → ⊥
+    go spelling.Missing w q = word-apart w .1 q
+    go (spelling.Capital c) w q = let z = ap terminalNumber q in omega arith
+none-after-end text (NumberSymbol a b) e = let z = ap terminalNumber e in absurd (omega arith)
+none-after-end text (MarkSymbol k a b) e = absurd (mark-apart k .1 e)
 none-after-end text (End p) e = refl
-none-after-end text (Bad p) e = absurd (omega arith)
+none-after-end text (Bad p) e = let z = ap terminalNumber e in absurd (omega arith)
 
 module _ (text : List ℕ) (n : Node) (y : Symbol) {r : Rule} (picks : picked (rules n) (terminalOf text y) ≡ some r) where
   none-after-finish : r .next ≡ Finish → after y ≡ none
-  none-after-finish f = none-after-end text y (ap terminalNumber (end-at-finish n (terminalOf text y) picks f))
+  none-after-finish f = none-after-end text y (end-at-finish n (terminalOf text y) picks f)
 
   finish-after-none : after y ≡ none → (r .next ≡ Finish) × (r .action ≡ Pass)
   unfolding after terminalOf
