@@ -1,16 +1,16 @@
--- Terminals and nodes come back from their numbers: no two share one.
-use mathlib.Core.Path.{_≡_, refl}
-use mathlib.Core.List.{List, [], _∷_}
-use lib.ListN.{getD}
-use Rattle.grammar.specs.Syntax.{Terminal, interval, tone, tonesystem, retuning, logic, key, root, unused, letter, name, number, equals, colon, plus, minus, times, divide, opening, closing, comma, at, widthOpen, widthClose, arrow, end, nothing, Node, Begin, Finish, IntervalName, IntervalEquals, IntervalBody, FirstNumber, RatioColon, RootWord, IntervalTerm, IntervalSign, IntervalFactor, IntervalDone, ToneName, ToneEquals, ToneBody, ToneTerm, ToneSign, ToneFactor, ToneDone, SystemName, SystemEquals, SystemAnchor, SystemOpen, SystemFirst, SystemComma, SystemTone, SystemPeriod, SystemTerm, SystemSign, SystemFactor, RetuningName, RetuningEquals, RetuningBody, RetuningOpen, RetuningDone, AnchorAt, AnchorPlus, AnchorMinus, AnchorOpen, AnchorClose, WidthBody, WidthAt, WidthPlus, WidthMinus, WidthAsterisk, WidthSlash, WidthClose, WidthEnd, PeriodBody, PeriodTerm, PeriodSign, PeriodFactor, TonesTerm, TonesSign, TonesFactor, TonesComma, LogicName, LogicKey, LogicLetter, LogicEquals, LogicStart, LogicOpen, OrdersOpen, OrderKey, OrderLetter, OrderArrow, LogicDone}
-use Rattle.grammar.specs.Terminals.{terminalNumber, nodeNumber, nodeAt}
+-- Terminals and nodes come back from their numbers: no two share one. So no word and no mark is taken for a letter, or for the text's end.
+use mathlib.Core.Bool.{Bool, true, false, cond}
+use mathlib.Core.Path.{_≡_, refl, subst}
+use lib.Dec.{T}
+use Rattle.symbols.specs.declared.MarkKind.{MarkKind}
+use Rattle.symbols.specs.declared.MarkKind.the-variants as mark
+use Rattle.symbols.specs.declared.words.Word.{Word}
+use Rattle.symbols.specs.declared.words.Word.the-variants as word
+use Rattle.grammar.specs.Syntax.{Terminal, interval, tone, tonesystem, retuning, logic, key, root, unused, letter, name, number, equals, colon, plus, minus, times, divide, opening, closing, comma, at, widthOpen, widthClose, arrow, end, nothing, Node, Begin, Finish, IntervalName, IntervalEquals, IntervalBody, IntervalKind, SecondPart, RootRadicand, IntervalSign, IntervalTerm, IntervalTermName, IntervalNext, ToneName, ToneEquals, ToneBody, ToneSign, ToneTerm, ToneTermName, ToneNext, SystemName, SystemEquals, SystemAnchor, SystemOpen, SystemFirst, SystemPosition, SystemComma, SystemPeriod, SystemSign, SystemTerm, SystemTermName, RetuningName, RetuningEquals, RetuningBody, RetuningInside, RetuningNext, AnchorOperator, AnchorPlusNumber, AnchorMinusNumber, AnchorOpen, AnchorClose, WidthBody, WidthOperator, WidthPlusNumber, WidthMinusNumber, WidthTimesNumber, WidthOverNumber, WidthClose, WidthBracket, PeriodBody, PeriodSign, PeriodTerm, PeriodTermName, TonesSign, TonesTerm, TonesTermName, TonesPosition, LogicName, LogicKey, LogicLetter, LogicEquals, LogicStart, LogicOpen, OrderKey, OrderLetter, OrderArrow, OrderName, LogicNext}
+use Rattle.grammar.specs.Terminals.{terminalNumber, sameTerminal, ofWord, ofMark}
+use Rattle.grammar.specs.Moves.{nodeNumber, nodeAt, terminalAt}
 
-abbrev terminals : List Terminal
-terminals =
-    interval ∷ tone ∷ tonesystem ∷ retuning ∷ logic ∷ key ∷ root ∷ unused ∷ letter ∷ name ∷ number ∷ equals ∷ colon ∷ plus ∷ minus ∷ times ∷ divide ∷ opening ∷ closing ∷ comma ∷ at ∷ widthOpen ∷ widthClose ∷ arrow ∷ end ∷ nothing
-    ∷ []
-
-pub terminal-back : (t : Terminal) → getD terminals (terminalNumber t) nothing ≡ t
+pub terminal-back : (t : Terminal) → terminalAt (terminalNumber t) ≡ t
 terminal-back interval = refl
 terminal-back tone = refl
 terminal-back tonesystem = refl
@@ -44,65 +44,105 @@ node-back Finish = refl
 node-back IntervalName = refl
 node-back IntervalEquals = refl
 node-back IntervalBody = refl
-node-back FirstNumber = refl
-node-back RatioColon = refl
-node-back RootWord = refl
-node-back IntervalTerm = refl
+node-back IntervalKind = refl
+node-back SecondPart = refl
+node-back RootRadicand = refl
 node-back IntervalSign = refl
-node-back IntervalFactor = refl
-node-back IntervalDone = refl
+node-back IntervalTerm = refl
+node-back IntervalTermName = refl
+node-back IntervalNext = refl
 node-back ToneName = refl
 node-back ToneEquals = refl
 node-back ToneBody = refl
-node-back ToneTerm = refl
 node-back ToneSign = refl
-node-back ToneFactor = refl
-node-back ToneDone = refl
+node-back ToneTerm = refl
+node-back ToneTermName = refl
+node-back ToneNext = refl
 node-back SystemName = refl
 node-back SystemEquals = refl
 node-back SystemAnchor = refl
 node-back SystemOpen = refl
 node-back SystemFirst = refl
+node-back SystemPosition = refl
 node-back SystemComma = refl
-node-back SystemTone = refl
 node-back SystemPeriod = refl
-node-back SystemTerm = refl
 node-back SystemSign = refl
-node-back SystemFactor = refl
+node-back SystemTerm = refl
+node-back SystemTermName = refl
 node-back RetuningName = refl
 node-back RetuningEquals = refl
 node-back RetuningBody = refl
-node-back RetuningOpen = refl
-node-back RetuningDone = refl
-node-back AnchorAt = refl
-node-back AnchorPlus = refl
-node-back AnchorMinus = refl
+node-back RetuningInside = refl
+node-back RetuningNext = refl
+node-back AnchorOperator = refl
+node-back AnchorPlusNumber = refl
+node-back AnchorMinusNumber = refl
 node-back AnchorOpen = refl
 node-back AnchorClose = refl
 node-back WidthBody = refl
-node-back WidthAt = refl
-node-back WidthPlus = refl
-node-back WidthMinus = refl
-node-back WidthAsterisk = refl
-node-back WidthSlash = refl
+node-back WidthOperator = refl
+node-back WidthPlusNumber = refl
+node-back WidthMinusNumber = refl
+node-back WidthTimesNumber = refl
+node-back WidthOverNumber = refl
 node-back WidthClose = refl
-node-back WidthEnd = refl
+node-back WidthBracket = refl
 node-back PeriodBody = refl
-node-back PeriodTerm = refl
 node-back PeriodSign = refl
-node-back PeriodFactor = refl
-node-back TonesTerm = refl
+node-back PeriodTerm = refl
+node-back PeriodTermName = refl
 node-back TonesSign = refl
-node-back TonesFactor = refl
-node-back TonesComma = refl
+node-back TonesTerm = refl
+node-back TonesTermName = refl
+node-back TonesPosition = refl
 node-back LogicName = refl
 node-back LogicKey = refl
 node-back LogicLetter = refl
 node-back LogicEquals = refl
 node-back LogicStart = refl
 node-back LogicOpen = refl
-node-back OrdersOpen = refl
 node-back OrderKey = refl
 node-back OrderLetter = refl
 node-back OrderArrow = refl
-node-back LogicDone = refl
+node-back OrderName = refl
+node-back LogicNext = refl
+
+-- ---- words and marks
+
+abbrev isApart : Terminal → Bool
+isApart t = cond (sameTerminal t letter) false (cond (sameTerminal t end) false true)
+
+apart : (t : Terminal) → T (isApart t) → (t ≡ letter → ⊥) × (t ≡ end → ⊥)
+apart t h = (λ e. subst (λ (u : Terminal). T (isApart u)) e h, λ e. subst (λ (u : Terminal). T (isApart u)) e h)
+
+word-test : (w : Word) → T (isApart (ofWord w))
+word-test word.Interval = tt
+word-test word.Tone = tt
+word-test word.ToneSystem = tt
+word-test word.Retuning = tt
+word-test word.Logic = tt
+word-test word.Key = tt
+word-test word.Root = tt
+word-test word.Unused = tt
+word-test word.Plain = tt
+
+pub word-apart : (w : Word) → (ofWord w ≡ letter → ⊥) × (ofWord w ≡ end → ⊥)
+word-apart w = apart (ofWord w) (word-test w)
+
+mark-test : (k : MarkKind) → T (isApart (ofMark k))
+mark-test mark.Equals = tt
+mark-test mark.Colon = tt
+mark-test mark.Plus = tt
+mark-test mark.Minus = tt
+mark-test mark.Times = tt
+mark-test mark.Divide = tt
+mark-test mark.Open = tt
+mark-test mark.Close = tt
+mark-test mark.Comma = tt
+mark-test mark.At = tt
+mark-test mark.WidthOpen = tt
+mark-test mark.WidthClose = tt
+mark-test mark.Arrow = tt
+
+pub mark-apart : (k : MarkKind) → (ofMark k ≡ letter → ⊥) × (ofMark k ≡ end → ⊥)
+mark-apart k = apart (ofMark k) (mark-test k)

@@ -8,12 +8,17 @@ use mathlib.Core.Path.{_≡_, refl, sym, _∙_, ap, subst}
 use Prim.Native.Nat.{ℕ, _+_, _-_, _*_, _^_, _≤_, _<_}
 use native.Mathlib.Omega.{arith}
 use borrow.Author.Tests.{eq-eqb, ne-eqb, le-leb, lt-leb}
-use lib.Dec.{leb}
+use lib.Dec.{leb, eqb}
 use lib.ListN.{length, length-append}
 use lib.Seq.{slice, sets, append-snoc}
 use Rattle.status.specs.Status.{done, textTooLong, noSymbol, symbolNotAllowed, itemTooMany, numberOutOfRange}
 use Rattle.symbols.specs.declared.Symbol.{Symbol}
 use Rattle.symbols.specs.declared.Symbol.the-variants.{Bad, End, Name as NameSymbol, Number as NumberSymbol, Mark as MarkSymbol}
+use Rattle.symbols.specs.declared.words.Word.{Word}
+use Rattle.symbols.specs.Words.{wordOf}
+use Rattle.symbols.specs.declared.spelling.Letter.{Letter as Spelled}
+use Rattle.symbols.specs.declared.spelling.Letter.the-variants as spelling
+use Rattle.symbols.specs.Names.{spelled, letterOf}
 use Rattle.numerals.specs.declared.WrittenNumber.{WrittenNumber}
 use Rattle.numerals.specs.declared.WrittenNumber.the-variants.{Outside, Value}
 use Rattle.symbols.specs.Symbols.{nextSymbol, after, symbolsFrom, symbols}
@@ -29,41 +34,44 @@ use Rattle.grammar.specs.declared.Action.{Action}
 use Rattle.grammar.specs.declared.Action.the-variants.{Pass, Declare, Hold, Held, Number, Sign, Name, Mark, Letter, CountOrder}
 use Rattle.grammar.specs.declared.Item.{Item}
 use Rattle.grammar.specs.declared.Progress.{Progress}
-use Rattle.grammar.specs.declared.Placed.{Placed}
+use Rattle.grammar.specs.declared.Span.{Span}
 use Rattle.grammar.specs.declared.Outcome.{Outcome}
 use Rattle.grammar.specs.declared.Outcome.the-variants.{Go, Give, Refuse}
-use Rattle.grammar.specs.declared.moves.Move.{Move}
 use Rattle.grammar.specs.declared.moves.Move.the-variants.{Missing, To}
 use Rattle.grammar.specs.declared.reading.Reading.{Reading}
-use Rattle.grammar.specs.Syntax.{Finish, end, Rule, rules}
-use Rattle.grammar.specs.Terminals.{terminalNumber, nodeNumber, nodeAt, picked, terminalOf, startOf, endOf, placed, isNothing}
-use Rattle.grammar.specs.Moves.{moveBy, moveOf}
-use Rattle.grammar.specs.Reading.{Read, limit, mostTerms, mostPositions, soFar, oneMore, withCounts, withPositions, noTerm, nextTerm, unlessFull, counted, positioned, judged, used, ifAllowed, numbered, acted, thenAt, notAllowed, byRule, stepped, begun, with, readWhole, refusedAt, isFinished, readFrom, mostBytes, readItems, answered}
+use Rattle.grammar.specs.Syntax.{Terminal, end, nothing, Node, Begin, Finish, Rule, rules}
+use Rattle.grammar.specs.Terminals.{terminalNumber, picked, ofLetter, terminalOf, startOf, endOf, spanOf}
+use Rattle.grammar.specs.Moves.{nodeNumber, moveBy, moveOf}
+use Rattle.grammar.specs.Reading.{Read, limit, mostTerms, mostPositions, soFar, oneMore, withCounts, withPositions, noTerm, nextTerm, unlessFull, counted, positioned, judged, used, ifAllowed, numbered, acted, standing, Step, thenAt, notAllowed, byRule, stepped, begun, with, refusedAt, readFrom, mostBytes, readItems, answered}
+use Rattle.grammar.specs.Reading as reading
 use Rattle.grammar.specs.Items.{row, rowSize, rows, holding, itemSlots}
-use Rattle.grammar.proofs.Diagrams.{none-at-nothing, finish-at-end, passes-to-finish}
+use Rattle.grammar.proofs.Numbered.{word-apart, mark-apart}
+use Rattle.grammar.proofs.Diagrams.{moves-by-name, same-node, none-at-nothing, finish-at-end, end-at-finish}
 use Rattle.grammar.proofs.Rows.{holding-more, length-holding}
 
 -- ---- a step by its move
 
-abbrev moving : List ℕ → Progress → Placed → Move → Outcome
-moving text s x Missing = notAllowed x
-moving text s x (To a n) = thenAt n (acted text s a x)
+module _ (n : Node) (t : Terminal) where
+  no-rule : Missing ≡ moveOf (nodeNumber n) (terminalNumber t) → picked (rules n) t ≡ none
+  no-rule e = go (picked (rules n) t) (e ∙ moves-by-name n t)
+    where
+      go : (o : Option Rule) → Missing ≡ moveBy o → o ≡ none
+      go none q = refl
+      go (some r) q = let z : _≡_ {A = ℕ} 0 1 = cc in absurd (omega arith)
 
-pub step-by : (text : List ℕ) (s : Progress) (x : Placed) {m : Move} → m ≡ moveOf (s .node) (x .terminal) → moving text s x m ≡ stepped text s x
-unfolding stepped moveOf
-step-by text s x e = ap (moving text s x) e ∙ go (picked (rules (nodeAt (s .node))) (x .terminal))
-  where
-    go : (o : Option Rule) → moving text s x (moveBy o) ≡ byRule text s x o
-    go none = refl
-    go (some r) = refl
+  -- the rule of a move
+  record Ruled (a : Action) (k : ℕ) : Type 0 where
+    rule : Rule
+    picks : picked (rules n) t ≡ some rule
+    does : a ≡ rule .action
+    leads : k ≡ nodeNumber (rule .next)
 
--- a property of every refusal is one of the refusal of a symbol that is not allowed
-pub refusal : (P : Outcome → Type 0) (x : Placed) → ((k : ℕ) → P (Refuse k (x .start))) → P (notAllowed x)
-refusal P x h = go (isNothing x)
-  where
-    go : (b : Bool) → P (cond b (Refuse noSymbol (x .start)) (Refuse symbolNotAllowed (x .start)))
-    go true = h noSymbol
-    go false = h symbolNotAllowed
+  ruled : {a : Action} {k : ℕ} → To a k ≡ moveOf (nodeNumber n) (terminalNumber t) → Ruled a k
+  ruled {a} {k} e = go (picked (rules n) t) refl (e ∙ moves-by-name n t)
+    where
+      go : (o : Option Rule) → picked (rules n) t ≡ o → To a k ≡ moveBy o → Ruled a k
+      go none p q = let z : _≡_ {A = ℕ} 0 1 = cc in absurd (omega arith)
+      go (some r) p q = record { rule = r; picks = p; does = cc; leads = cc }
 
 -- ---- an action adds at most one term, and refuses with 4 or 9 alone
 
@@ -72,21 +80,21 @@ Grown n (Refuse k p) = (k ≡ numberOutOfRange) ⊎ (k ≡ itemTooMany)
 Grown n (Go s) = s .term .before ≤ n + 1
 Grown n (Give s i) = s .term .before ≤ n + 1
 
-full-grown : (n most k : ℕ) (x : Placed) (o : Outcome) → Grown n o → Grown n (unlessFull most k x o)
+full-grown : (n most k : ℕ) (x : Span) (o : Outcome) → Grown n o → Grown n (unlessFull most k x o)
 full-grown n most k x o h = go (leb most k)
   where
     go : (b : Bool) → Grown n (cond b (Refuse itemTooMany (x .start)) o)
     go true = inr refl
     go false = h
 
-counted-grown : (s : Progress) (k : Kind) (i : Item) (x : Placed) → Grown (s .term .before) (counted s k i x)
+counted-grown : (s : Progress) (k : Kind) (i : Item) (x : Span) → Grown (s .term .before) (counted s k i x)
 counted-grown s k i x =
     full-grown (s .term .before) (limit k) (soFar k (s .counts)) x (Give (withCounts (oneMore k (s .counts)) (withPositions 0 (noTerm s))) i) (omega arith)
 
-positioned-grown : (s : Progress) (i : Item) (x : Placed) → Grown (s .term .before) (positioned s i x)
+positioned-grown : (s : Progress) (i : Item) (x : Span) → Grown (s .term .before) (positioned s i x)
 positioned-grown s i x = full-grown (s .term .before) mostPositions (s .positions) x (Give (withPositions (s .positions + 1) (noTerm s)) i) (omega arith)
 
-used-grown : (s : Progress) (u : NumberUse) (v : ℕ) (x : Placed) → Grown (s .term .before) (used s u v x)
+used-grown : (s : Progress) (u : NumberUse) (v : ℕ) (x : Span) → Grown (s .term .before) (used s u v x)
 used-grown s RatioFirst v x = omega arith
 used-grown s RatioSecond v x = omega arith
 used-grown s Degree v x = omega arith
@@ -104,14 +112,14 @@ used-grown s WidthDown v x = omega arith
 used-grown s WidthTimes v x = omega arith
 used-grown s WidthOver v x = omega arith
 
-numbered-grown : (text : List ℕ) (s : Progress) (u : NumberUse) (a b : ℕ) (x : Placed) → Grown (s .term .before) (numbered text s u a b x)
+numbered-grown : (text : List ℕ) (s : Progress) (u : NumberUse) (a b : ℕ) (x : Span) → Grown (s .term .before) (numbered text s u a b x)
 numbered-grown text s u a b x = go (judged u (slice a b text))
   where
     go : (v : WrittenNumber) → Grown (s .term .before) (ifAllowed s u a x v)
     go Outside = inl refl
     go (Value v) = used-grown s u v x
 
-pub acted-grown : (text : List ℕ) (s : Progress) (a : Action) (x : Placed) → Grown (s .term .before) (acted text s a x)
+pub acted-grown : (text : List ℕ) (s : Progress) (a : Action) (x : Span) → Grown (s .term .before) (acted text s a x)
 unfolding acted
 acted-grown text s Pass x = omega arith
 acted-grown text s (Declare k) x = counted-grown s k _ x
@@ -135,64 +143,34 @@ acted-grown text s (Letter OrderLetter) x = omega arith
 acted-grown text s CountOrder x =
     full-grown (s .term .before) (limit AnOrder) (soFar AnOrder (s .counts)) x (Go (withCounts (oneMore AnOrder (s .counts)) s)) (omega arith)
 
--- where a step goes on, it adds at most one term
-abbrev More : ℕ → Outcome → Type 0
-More n (Refuse k p) = Unit {0}
-More n (Go s) = s .term .before ≤ n + 1
-More n (Give s i) = s .term .before ≤ n + 1
+-- ---- the end of a text is its last symbol, and leads to the last node
 
-then-more : (n k : ℕ) (o : Outcome) → Grown n o → More n (thenAt k o)
-then-more n k (Refuse m p) h = tt
-then-more n k (Go s) h = h
-then-more n k (Give s i) h = h
-
-step-more : (text : List ℕ) (s : Progress) (x : Placed) → More (s .term .before) (stepped text s x)
-unfolding stepped
-step-more text s x = go (picked (rules (nodeAt (s .node))) (x .terminal))
+none-after-end : (text : List ℕ) (y : Symbol) → terminalOf text y ≡ end → after y ≡ none
+unfolding after terminalOf
+none-after-end text (NameSymbol a b) e = absurd (go (letterOf (slice a b text)) (wordOf (spelled (slice a b text))) e)
   where
-    go : (o : Option Rule) → More (s .term .before) (byRule text s x o)
-    go none = refusal (More (s .term .before)) x (λ k. tt)
-    go (some r) = then-more (s .term .before) (nodeNumber (r .next)) (acted text s (r .action) x) (acted-grown text s (r .action) x)
+    go : (l : Spelled) (w : Word) → ofLetter l w ≡ end → ⊥
+    go spelling.Missing w q = word-apart w .1 q
+    go (spelling.Capital c) w q = let z = ap terminalNumber q in omega arith
+none-after-end text (NumberSymbol a b) e = let z = ap terminalNumber e in absurd (omega arith)
+none-after-end text (MarkSymbol k a b) e = absurd (mark-apart k .1 e)
+none-after-end text (End p) e = refl
+none-after-end text (Bad p) e = let z = ap terminalNumber e in absurd (omega arith)
 
--- ---- after its last symbol a text is refused or complete
+module _ (text : List ℕ) (n : Node) (y : Symbol) {r : Rule} (picks : picked (rules n) (terminalOf text y) ≡ some r) where
+  none-after-finish : r .next ≡ Finish → after y ≡ none
+  none-after-finish f = none-after-end text y (end-at-finish n (terminalOf text y) picks f)
 
-abbrev Ended : Outcome → Type 0
-Ended (Refuse k p) = Unit {0}
-Ended (Go s) = s .node ≡ nodeNumber Finish
-Ended (Give s i) = ⊥
-
-none-after : (text : List ℕ) (s : Progress) (y : Symbol) → after y ≡ none → Ended (stepped text s (placed text y))
-unfolding after terminalOf stepped acted
-none-after text s (Bad p) e = rw (none-at-nothing (s .node)) tt
-none-after text s (End p) e = go (picked (rules (nodeAt (s .node))) (terminalNumber end)) refl
-  where
-    go : (o : Option Rule) → picked (rules (nodeAt (s .node))) (terminalNumber end) ≡ o → Ended (byRule text s (placed text (End p)) o)
-    go none f = tt
-    go (some r) f =
-        let g = finish-at-end (s .node) f in
-        subst (λ (a : Action). Ended (thenAt (nodeNumber (r .next)) (acted text s a (placed text (End p))))) (sym (g .1)) (g .0)
-none-after text s (NameSymbol a b) e = let z : _≡_ {A = ℕ} 0 1 = cc in absurd (omega arith)
-none-after text s (NumberSymbol a b) e = let z : _≡_ {A = ℕ} 0 1 = cc in absurd (omega arith)
-none-after text s (MarkSymbol k a b) e = let z : _≡_ {A = ℕ} 0 1 = cc in absurd (omega arith)
-
--- no item is given where the text is complete
-abbrev Unfinished : Outcome → Type 0
-Unfinished (Refuse k p) = Unit {0}
-Unfinished (Go s) = Unit {0}
-Unfinished (Give s i) = s .node ≡ nodeNumber Finish → ⊥
-
-given-unfinished : (text : List ℕ) (s : Progress) (x : Placed) → Unfinished (stepped text s x)
-unfolding stepped acted
-given-unfinished text s x = go (picked (rules (nodeAt (s .node))) (x .terminal)) refl
-  where
-    then : (n : ℕ) (o : Outcome) → (n ≡ nodeNumber Finish → o ≡ Go s) → Unfinished (thenAt n o)
-    then n (Refuse k p) h = tt
-    then n (Go t) h = tt
-    then n (Give t i) h = λ e. let q = h e in let z : _≡_ {A = ℕ} 0 1 = cc in omega arith
-
-    go : (o : Option Rule) → picked (rules (nodeAt (s .node))) (x .terminal) ≡ o → Unfinished (byRule text s x o)
-    go none e = refusal Unfinished x (λ k. tt)
-    go (some r) e = then (nodeNumber (r .next)) (acted text s (r .action) x) (λ f. ap (λ (a : Action). acted text s a x) (passes-to-finish (s .node) (x .terminal) e f))
+  finish-after-none : after y ≡ none → (r .next ≡ Finish) × (r .action ≡ Pass)
+  unfolding after terminalOf
+  finish-after-none e = go y picks e
+    where
+      go : (z : Symbol) → picked (rules n) (terminalOf text z) ≡ some r → after z ≡ none → (r .next ≡ Finish) × (r .action ≡ Pass)
+      go (Bad p) q e = let z : _≡_ {A = ℕ} 0 1 = let w = sym (none-at-nothing n) ∙ q in cc in absurd (omega arith)
+      go (End p) q e = finish-at-end n q
+      go (NameSymbol a b) q e = let z : _≡_ {A = ℕ} 0 1 = cc in absurd (omega arith)
+      go (NumberSymbol a b) q e = let z : _≡_ {A = ℕ} 0 1 = cc in absurd (omega arith)
+      go (MarkSymbol k a b) q e = let z : _≡_ {A = ℕ} 0 1 = cc in absurd (omega arith)
 
 -- ---- a symbol's places
 
@@ -217,36 +195,38 @@ end-after (MarkSymbol k a b) q = cc
 
 -- ---- one symbol further
 
--- what is read after an outcome
-abbrev turned : List ℕ → Outcome → List Symbol → Read
-turned text (Refuse n p) ys = refusedAt n p
-turned text (Go s) ys = elim (isFinished s) [ true ↦ readWhole | false ↦ readFrom text s ys ]
-turned text (Give s i) ys = with i (readFrom text s ys)
+-- what is read after a step
+abbrev turned : List ℕ → Step → List Symbol → Read
+turned text (reading.refuse n p) ys = refusedAt n p
+turned text (reading.go s) ys = readFrom text s ys
+turned text (reading.give s i) ys = with i (readFrom text s ys)
 
-turned-is : (text : List ℕ) (s : Progress) (y : Symbol) (ys : List Symbol) → readFrom text s (y ∷ ys) ≡ turned text (stepped text s (placed text y)) ys
-unfolding readFrom
-turned-is text s y ys = go (stepped text s (placed text y))
-  where
-    go : (o : Outcome)
-        → _≡_ {A = Read}
-        (elim o [
-          | Refuse n p ↦ refusedAt n p
-          | Go s′ ↦ elim (isFinished s′) [ true ↦ readWhole | false ↦ readFrom text s′ ys ]
-          | Give s′ i ↦ with i (readFrom text s′ ys)
-        ])
-        (turned text o ys)
-    go (Refuse n p) = refl
-    go (Go s′) = refl
-    go (Give s′ i) = refl
+module _ (text : List ℕ) (n : Node) (s : Progress) (y : Symbol) (ys : List Symbol) where
+  turned-is : readFrom text (standing n s) (y ∷ ys) ≡ turned text (stepped text (standing n s) y) ys
+  unfolding readFrom
+  turned-is = go (stepped text (standing n s) y)
+    where
+      go : (o : Step)
+          → _≡_ {A = Read}
+          (elim o [ reading.refuse m p ↦ refusedAt m p | reading.go t ↦ readFrom text t ys | reading.give t i ↦ with i (readFrom text t ys) ])
+          (turned text o ys)
+      go (reading.refuse m p) = refl
+      go (reading.go t) = refl
+      go (reading.give t i) = refl
+
+  -- by the rule, if there is one
+  turned-by : {o : Option Rule} → picked (rules n) (terminalOf text y) ≡ o → readFrom text (standing n s) (y ∷ ys) ≡ turned text (byRule text s y o) ys
+  unfolding stepped
+  turned-by e = turned-is ∙ ap (λ (o : Option Rule). turned text (byRule text s y o) ys) e
 
 -- ---- the items so far
 
 -- r after some items
-abbrev onto : List Item → Read → Read
+abbrev pub onto : List Item → Read → Read
 onto is r = record { items = is ++ r .items; number = r .number; place = r .place }
 
--- reading stands at `at`: `items` holds those read so far over what was there before, and what is left gives the rest
-pub record Standing (text before items : List ℕ) (s : Progress) (at count : ℕ) : Type 0 where
+-- reading stands at the place `at`: `items` holds those read so far over what was there before, and what is left gives the rest
+pub record Midway (text before items : List ℕ) (n : Node) (s : Progress) (at count : ℕ) : Type 0 where
   pub short : length text ≤ mostBytes
   pub room : length before ≡ itemSlots
   pub within : at ≤ length text
@@ -255,28 +235,24 @@ pub record Standing (text before items : List ℕ) (s : Progress) (at count : �
   pub few : count ≤ at
   pub terms : s .term .before ≤ at
   pub held : items ≡ holding so-far before
-  pub left : readItems text ≡ onto so-far (readFrom text s (symbolsFrom text at))
+  pub left : readItems text ≡ onto so-far (readFrom text (standing n s) (symbolsFrom text at))
 
-pub stands-first : (text before : List ℕ) → length text ≤ mostBytes → length before ≡ itemSlots → {s : Progress} → s ≡ begun
-    → Standing text before before s 0 0
+midway-first : (text before : List ℕ) → length text ≤ mostBytes → length before ≡ itemSlots → Midway text before before Begin (begun .kept) 0 0
 unfolding rows readItems symbols
-stands-first text before h k {s} e = subst (λ (t : Progress). Standing text before before t 0 0) (sym e) first
-  where
-    first : Standing text before before begun 0 0
-    first = record {
-      short = h;
-      room = k;
-      within = omega arith;
-      so-far = [];
-      counted = refl;
-      few = omega arith;
-      terms = omega arith;
-      held = refl;
-      left = rw (le-leb (length text) mostBytes h);
-    }
+midway-first text before h k = record {
+  short = h;
+  room = k;
+  within = omega arith;
+  so-far = [];
+  counted = refl;
+  few = omega arith;
+  terms = omega arith;
+  held = refl;
+  left = rw (le-leb (length text) mostBytes h);
+}
 
 -- what a call answers, and what the slice holds then
-abbrev Answer : (text before items : List ℕ) (count number place : ℕ) → Type 0
+abbrev pub Answer : (text before items : List ℕ) (count number place : ℕ) → Type 0
 Answer text before items count number place =
     (_≡_ {A = Reading} (record { count = count; number = number; place = place }) (answered (readItems text))) × (items ≡ holding (readItems text .items) before)
 
@@ -284,65 +260,82 @@ pub too-long : (text items : List ℕ) → mostBytes < length text → Answer te
 unfolding rows readItems
 too-long text items h = rw (lt-leb (length text) mostBytes h) (refl, refl)
 
-module _ {text before items : List ℕ} {s : Progress} {at count : ℕ} (st : Standing text before items s at count) where
+module _ {text before items : List ℕ} {n : Node} {s : Progress} {at count : ℕ} (st : Midway text before items n s at count) where
   -- the slice keeps its length
-  pub kept : length items ≡ length before
+  kept : length items ≡ length before
   kept = ap length (st .held) ∙ length-holding (st .so-far) before (omega (arith, st .few, st .counted, st .within, st .short, st .room))
 
-  stopped : {n p : ℕ} → readFrom text s (symbolsFrom text at) ≡ refusedAt n p → Answer text before items count n p
-  stopped {n} {p} e =
+  stopped : {k p : ℕ} → readFrom text (standing n s) (symbolsFrom text at) ≡ refusedAt k p → Answer text before items count k p
+  stopped {k} {p} e =
       let is = st .so-far in
-      let r : readItems text ≡ record { items = is; number = n; place = p } =
-      st .left ∙ ap (onto is) e ∙ ap (λ (l : List Item). record { items = l; number = n; place = p }) (append-nil is) in
-      (ap (λ (k : ℕ). record { count = k; number = n; place = p }) (st .counted) ∙ ap answered (sym r), st .held ∙ ap (λ (q : Read). holding (q .items) before) (sym r))
+      let r : readItems text ≡ record { items = is; number = k; place = p } =
+      st .left ∙ ap (onto is) e ∙ ap (λ (l : List Item). record { items = l; number = k; place = p }) (append-nil is) in
+      (ap (λ (m : ℕ). record { count = m; number = k; place = p }) (st .counted) ∙ ap answered (sym r), st .held ∙ ap (λ (q : Read). holding (q .items) before) (sym r))
 
-  -- the first symbol from `at` on is y, as the syntax has it x, and leads to o
+  -- the first symbol from `at` on is y
   module _ {y : Symbol} (ey : y ≡ nextSymbol text at) where
-    pub places-fit : (startOf y < 2 ^ 32) × (endOf y < 2 ^ 32)
-    places-fit = let w = places-within text at (st .within) ey in (omega (arith, w .0, st .short), omega (arith, w .1, st .short))
+    spans-fit : (startOf y < 2 ^ 32) × (endOf y < 2 ^ 32)
+    spans-fit = let w = places-within text at (st .within) ey in (omega (arith, w .0, st .short), omega (arith, w .1, st .short))
 
-    module _ {x : Placed} (ex : x ≡ placed text y) {o : Outcome} (eo : o ≡ stepped text s x) where
-      reads : readFrom text s (symbolsFrom text at) ≡ turned text o (goingOn text (after y))
-      reads =
-          ap (readFrom text s) (symbols-next text at (st .within))
-          ∙ turned-is text s (nextSymbol text at) (goingOn text (after (nextSymbol text at)))
-          ∙ rw (← ey, ← ex, ← eo)
+    reads : {o : Option Rule} → picked (rules n) (terminalOf text y) ≡ o
+        → readFrom text (standing n s) (symbolsFrom text at) ≡ turned text (byRule text s y o) (goingOn text (after y))
+    reads {o} e =
+        ap (readFrom text (standing n s)) (symbols-next text at (st .within) ∙ ap (λ (z : Symbol). z ∷ goingOn text (after z)) (sym ey))
+        ∙ turned-by text n s y (goingOn text (after y)) e
 
-      pub refused : {n p : ℕ} → o ≡ Refuse n p → Answer text before items count n p
-      refused q = stopped (reads ∙ rw q)
+    unruled : picked (rules n) (terminalOf text y) ≡ none → Answer text before items count (notAllowed (terminalOf text y)) (startOf y)
+    unruled e = stopped (reads e)
 
-      pub finished : {t : Progress} → o ≡ Go t → t .node ≡ nodeNumber Finish → Answer text before items count done 0
-      finished {t} q e = stopped (reads ∙ rw (q, turned, eq-eqb (t .node) (nodeNumber Finish) e))
+    -- a rule leads to o
+    module _ {r : Rule} (picks : picked (rules n) (terminalOf text y) ≡ some r) {o : Outcome} (eo : o ≡ acted text s (r .action) (spanOf y)) where
+      reads-on : readFrom text (standing n s) (symbolsFrom text at) ≡ turned text (thenAt (r .next) o) (goingOn text (after y))
+      reads-on = reads picks ∙ ap (λ (p : Outcome). turned text (thenAt (r .next) p) (goingOn text (after y))) (sym eo)
+
+      refused : {k p : ℕ} → o ≡ Refuse k p → Answer text before items count k p
+      refused q = stopped (reads-on ∙ rw q)
+
+      finished : {t : Progress} → o ≡ Go t → r .next ≡ Finish → Answer text before items count done 0
+      unfolding readFrom
+      finished {t} q f = stopped (reads-on ∙ rw (q, none-after-finish text n y picks f))
+
+      -- an item is not given at the end
+      given-before : {t : Progress} {i : Item} → o ≡ Give t i → after y ≡ none → ⊥
+      unfolding acted
+      given-before q e =
+          let f = finish-after-none text n y picks e in
+          let p = sym q ∙ eo ∙ ap (λ (a : Action). acted text s a (spanOf y)) (f .1) in
+          let z : _≡_ {A = ℕ} 0 1 = cc in
+          omega arith
 
       -- reading goes on with progress t: later in the text, with at most one term more
       record Further (t : Progress) : Type 0 where
-        later : at < x .end
-        inside : x .end ≤ length text
+        later : at < endOf y
+        inside : endOf y ≤ length text
         terms : t .term .before ≤ s .term .before + 1
-        onward : goingOn text (after y) ≡ symbolsFrom text (x .end)
+        onward : goingOn text (after y) ≡ symbolsFrom text (endOf y)
 
-      further : (t : Progress) → (Ended o → ⊥) → (More (s .term .before) o → t .term .before ≤ s .term .before + 1) → Further t
-      further t n g = go (after y) refl
+      further : (t : Progress) → (after y ≡ none → ⊥) → (Grown (s .term .before) o → t .term .before ≤ s .term .before + 1) → Further t
+      further t last g = go (after y) refl
         where
           go : (a : Option ℕ) → after y ≡ a → Further t
-          go none e = absurd (n (subst Ended (sym (eo ∙ ap (stepped text s) ex)) (none-after text s y e)))
+          go none e = absurd (last e)
           go (some b) e =
               let w = after-within text at (st .within) (ap after (sym ey) ∙ e) in
-              let z : x .end ≡ b = ap (λ (v : Placed). v .end) ex ∙ end-after y e in
+              let z = end-after y e in
               record {
                 later = omega (arith, w .0);
                 inside = omega (arith, w .1);
-                terms = g (subst (More (s .term .before)) (sym eo) (step-more text s x));
+                terms = g (subst (Grown (s .term .before)) (sym eo) (acted-grown text s (r .action) (spanOf y)));
                 onward = ap (goingOn text) e ∙ ap (symbolsFrom text) (sym z);
               }
 
       -- less of the text is left, and reading stands after the symbol
-      pub goes-on : {t : Progress} → o ≡ Go t → (t .node ≡ nodeNumber Finish → ⊥)
-          → (length text - x .end < length text - at) × Standing text before items t (x .end) count
-      goes-on {t} q n =
-          let f = further t (λ e. n (subst Ended q e)) (λ g. subst (More (s .term .before)) q g) in
-          let r : readFrom text s (symbolsFrom text at) ≡ readFrom text t (symbolsFrom text (x .end)) =
-          reads ∙ rw (q, turned, ne-eqb (t .node) (nodeNumber Finish) n) (ap (readFrom text t) (f .onward)) in (
+      goes-on : {t : Progress} → o ≡ Go t → (r .next ≡ Finish → ⊥)
+          → (length text - endOf y < length text - at) × Midway text before items (r .next) t (endOf y) count
+      goes-on {t} q m =
+          let f = further t (λ e. m (finish-after-none text n y picks e .0)) (λ g. subst (Grown (s .term .before)) q g) in
+          let p : readFrom text (standing n s) (symbolsFrom text at) ≡ readFrom text (standing (r .next) t) (symbolsFrom text (endOf y)) =
+          reads-on ∙ rw q (ap (readFrom text (standing (r .next) t)) (f .onward)) in (
             omega (arith, f .later, f .inside),
             record {
               short = st .short;
@@ -353,18 +346,18 @@ module _ {text before items : List ℕ} {s : Progress} {at count : ℕ} (st : St
               few = omega (arith, st .few, f .later);
               terms = omega (arith, st .terms, f .terms, f .later);
               held = st .held;
-              left = st .left ∙ ap (onto (st .so-far)) r;
+              left = st .left ∙ ap (onto (st .so-far)) p;
             },
           )
 
-      pub gives : {t : Progress} {i : Item} {next : List ℕ} → o ≡ Give t i → next ≡ sets items (rowSize * count) (row i)
-          → (length text - x .end < length text - at) × Standing text before next t (x .end) (count + 1)
-      gives {t} {i} {next} q n =
-          let f = further t (λ e. subst Ended q e) (λ g. subst (More (s .term .before)) q g) in
+      gives : {t : Progress} {i : Item} {next : List ℕ} → o ≡ Give t i → next ≡ sets items (rowSize * count) (row i)
+          → (length text - endOf y < length text - at) × Midway text before next (r .next) t (endOf y) (count + 1)
+      gives {t} {i} {next} q e =
+          let f = further t (given-before q) (λ g. subst (Grown (s .term .before)) q g) in
           let is = st .so-far in
-          let rest = readFrom text t (symbolsFrom text (x .end)) in
-          let r : readFrom text s (symbolsFrom text at) ≡ with i rest =
-          reads ∙ rw q (ap (λ (ys : List Symbol). with i (readFrom text t ys)) (f .onward)) in (
+          let rest = readFrom text (standing (r .next) t) (symbolsFrom text (endOf y)) in
+          let p : readFrom text (standing n s) (symbolsFrom text at) ≡ with i rest =
+          reads-on ∙ rw q (ap (λ (ys : List Symbol). with i (readFrom text (standing (r .next) t) ys)) (f .onward)) in (
             omega (arith, f .later, f .inside),
             record {
               short = st .short;
@@ -375,54 +368,101 @@ module _ {text before items : List ℕ} {s : Progress} {at count : ℕ} (st : St
               few = omega (arith, st .few, f .later);
               terms = omega (arith, st .terms, f .terms, f .later);
               held =
-                  n
+                  e
                   ∙ ap (λ (l : List ℕ). sets l (rowSize * count) (row i)) (st .held)
                   ∙ ap (λ (k : ℕ). sets (holding is before) (rowSize * k) (row i)) (st .counted)
                   ∙ holding-more is i before (omega (arith, st .few, st .counted, st .short, st .room, f .later, f .inside));
-              left = st .left ∙ ap (onto is) r ∙ ap (λ (l : List Item). record { items = l; number = rest .number; place = rest .place }) (sym (append-snoc is i (rest .items)));
+              left = st .left ∙ ap (onto is) p ∙ ap (λ (l : List Item). record { items = l; number = rest .number; place = rest .place }) (sym (append-snoc is i (rest .items)));
             },
           )
 
--- ---- the loop: reading stands somewhere, or is finished
+-- ---- the loop: reading stands at the node of which the code holds the number, or is finished
 
-pub record Walking (text before items : List ℕ) (s : Progress) (at count : ℕ) : Type 0 where
-  pub standing : (s .node ≡ nodeNumber Finish → ⊥) → Standing text before items s at count
-  pub ended : s .node ≡ nodeNumber Finish → Answer text before items count done 0
+pub record Walking (text before items : List ℕ) (s : Progress) (node at count : ℕ) : Type 0 where
+  pub stands : Node
+  pub number : node ≡ nodeNumber stands
+  pub midway : (node ≡ nodeNumber Finish → ⊥) → Midway text before items stands s at count
+  pub ended : node ≡ nodeNumber Finish → Answer text before items count done 0
   pub same-size : length items ≡ length before
 
 -- how many symbols may still come
-abbrev pub turnsLeft : List ℕ → Progress → ℕ → ℕ
-turnsLeft text s at = cond (isFinished s) 0 (1 + (length text - at))
+abbrev pub turnsLeft : List ℕ → ℕ → ℕ → ℕ
+turnsLeft text node at = cond (eqb node (nodeNumber Finish)) 0 (1 + (length text - at))
 
-turns-less : (text : List ℕ) (s t : Progress) (at to : ℕ) → (s .node ≡ nodeNumber Finish → ⊥)
-    → ((t .node ≡ nodeNumber Finish → ⊥) → length text - to < length text - at) → turnsLeft text t to < turnsLeft text s at
-turns-less text s t at to n h = rw (ne-eqb (s .node) (nodeNumber Finish) n) (go (isFinished t) refl)
+turns-less : (text : List ℕ) (node next at to : ℕ) → (node ≡ nodeNumber Finish → ⊥)
+    → ((next ≡ nodeNumber Finish → ⊥) → length text - to < length text - at) → turnsLeft text next to < turnsLeft text node at
+turns-less text node next at to n h = rw (ne-eqb node (nodeNumber Finish) n) (go (eqb next (nodeNumber Finish)) refl)
   where
-    go : (b : Bool) → isFinished t ≡ b → cond b 0 (1 + (length text - to)) < 1 + (length text - at)
+    go : (b : Bool) → eqb next (nodeNumber Finish) ≡ b → cond b 0 (1 + (length text - to)) < 1 + (length text - at)
     go true e = omega arith
     go false e = let l = h (λ f. let z : _≡_ {A = Bool} true false = sym (eq-eqb _ _ f) ∙ e in let y : _≡_ {A = ℕ} 0 1 = cc in omega arith) in omega arith
 
-pub walks-first : (text before : List ℕ) → length text ≤ mostBytes → length before ≡ itemSlots → {s : Progress} → s ≡ begun
-    → Walking text before before s 0 0
+pub walks-first : (text before : List ℕ) → length text ≤ mostBytes → length before ≡ itemSlots → {s : Progress} → s ≡ begun .kept
+    → Walking text before before s (nodeNumber Begin) 0 0
 walks-first text before h k {s} e = record {
-  standing = λ n. stands-first text before h k e;
-  ended = λ f. let q : begun .node ≡ nodeNumber Finish = sym (ap (λ (t : Progress). t .node) e) ∙ f in absurd (omega arith);
+  stands = Begin;
+  number = refl;
+  midway = λ n. subst (λ (t : Progress). Midway text before before Begin t 0 0) (sym e) (midway-first text before h k);
+  ended = λ f. absurd (omega arith);
   same-size = refl;
 }
 
--- one symbol further
-module _ {text before items : List ℕ} {s : Progress} {at count : ℕ} (st : Standing text before items s at count) (n : s .node ≡ nodeNumber Finish → ⊥)
-    {y : Symbol} (ey : y ≡ nextSymbol text at) {x : Placed} (ex : x ≡ placed text y) {o : Outcome} (eo : o ≡ stepped text s x) {t : Progress} where
-  pub walks-on : o ≡ Go t → (turnsLeft text t (x .end) < turnsLeft text s at) × Walking text before items t (x .end) count
-  walks-on q = (
-    turns-less text s t at (x .end) n (λ m. goes-on st ey ex eo q m .0),
-    record { standing = λ m. goes-on st ey ex eo q m .1; ended = finished st ey ex eo q; same-size = kept st },
-  )
+module _ {text before items : List ℕ} {s : Progress} {node at count : ℕ} (w : Walking text before items s node at count) (n : node ≡ nodeNumber Finish → ⊥) where
+  pub enough-room : (s .term .before + 1 < 2 ^ 32) × (count + 1 < 2 ^ 32)
+  enough-room = let m = w .midway n in (omega (arith, m .terms, m .within, m .short), omega (arith, m .few, m .within, m .short))
 
-  pub walks-with : {i : Item} {next : List ℕ} → o ≡ Give t i → next ≡ sets items (rowSize * count) (row i)
-      → (turnsLeft text t (x .end) < turnsLeft text s at) × Walking text before next t (x .end) (count + 1)
-  walks-with q e =
-      let g = gives st ey ex eo q e in (
-        turns-less text s t at (x .end) n (λ m. g .0),
-        record { standing = λ m. g .1; ended = λ f. absurd (subst Unfinished (sym eo ∙ q) (given-unfinished text s x) f); same-size = kept (g .1) },
-      )
+  -- the next symbol is y, with its terminal's number and its span
+  module _ {y : Symbol} (ey : y ≡ nextSymbol text at) where
+    pub fits : (startOf y < 2 ^ 32) × (endOf y < 2 ^ 32)
+    fits = spans-fit (w .midway n) ey
+
+    module _ {t : ℕ} (et : t ≡ terminalNumber (terminalOf text y)) {x : Span} (ex : x ≡ spanOf y) where
+      pub walk-unruled : Missing ≡ moveOf node t → {k : ℕ} → k ≡ cond (eqb t (terminalNumber nothing)) noSymbol symbolNotAllowed
+          → Answer text before items count k (x .start)
+      walk-unruled e {k} ek =
+          let q = no-rule (w .stands) (terminalOf text y) (e ∙ rw (w .number, et)) in
+          rw (ex, ek, et) (unruled (w .midway n) ey q)
+
+      -- its move's action leads to o
+      module _ {a : Action} {k : ℕ} (e : To a k ≡ moveOf node t) {o : Outcome} (eo : o ≡ acted text s a x) where
+        by : Ruled (w .stands) (terminalOf text y) a k
+        by = ruled (w .stands) (terminalOf text y) (e ∙ rw (w .number, et))
+
+        done-so : o ≡ acted text s (by .rule .action) (spanOf y)
+        done-so = eo ∙ ap (λ (b : Action). acted text s b x) (by .does) ∙ ap (acted text s (by .rule .action)) ex
+
+        next-is : (k ≡ nodeNumber Finish → ⊥) → by .rule .next ≡ Finish → ⊥
+        next-is m f = m (by .leads ∙ ap nodeNumber f)
+
+        pub walk-refused : {m p : ℕ} → o ≡ Refuse m p → Answer text before items count m p
+        walk-refused q = refused (w .midway n) ey (by .picks) done-so q
+
+        module _ {u : Progress} where
+          pub walks-on : o ≡ Go u → (turnsLeft text k (x .end) < turnsLeft text node at) × Walking text before items u k (x .end) count
+          walks-on q = rw ex (
+            turns-less text node k at (endOf y) n (λ m. goes-on (w .midway n) ey (by .picks) done-so q (next-is m) .0),
+            record {
+              stands = by .rule .next;
+              number = by .leads;
+              midway = λ m. goes-on (w .midway n) ey (by .picks) done-so q (next-is m) .1;
+              ended = λ f. finished (w .midway n) ey (by .picks) done-so q (same-node (by .rule .next) Finish (sym (by .leads) ∙ f));
+              same-size = w .same-size;
+            },
+          )
+
+          pub walks-with : {i : Item} {next : List ℕ} → o ≡ Give u i → next ≡ sets items (rowSize * count) (row i)
+              → (turnsLeft text k (x .end) < turnsLeft text node at) × Walking text before next u k (x .end) (count + 1)
+          walks-with {i} {next} q h =
+              let g = gives (w .midway n) ey (by .picks) done-so q h in
+              rw ex (
+                turns-less text node k at (endOf y) n (λ m. g .0),
+                record {
+                  stands = by .rule .next;
+                  number = by .leads;
+                  midway = λ m. g .1;
+                  ended = λ f.
+                      absurd (given-before (w .midway n) ey (by .picks) done-so q
+                      (none-after-finish text (w .stands) y (by .picks) (same-node (by .rule .next) Finish (sym (by .leads) ∙ f))));
+                  same-size = kept (g .1);
+                },
+              )

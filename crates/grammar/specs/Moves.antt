@@ -1,4 +1,4 @@
--- The numbers of actions in the code's table, and its moves: for the contracts of private functions.
+-- The numbers of nodes, terminals and actions in the code's tables, and the moves: for the contracts of private functions.
 use mathlib.Core.Bool.{Bool, true, false, cond}
 use mathlib.Core.List.{List, [], _∷_}
 use mathlib.Core.Path.{_≡_}
@@ -15,13 +15,115 @@ use Rattle.grammar.specs.declared.NameUse.the-variants.{Term, Base, Posi
 use Rattle.grammar.specs.declared.MarkUse.{MarkUse}
 use Rattle.grammar.specs.declared.MarkUse.the-variants.{MutedPosition, KeptPosition, KeptAnchor, KeptWidth, Period, Onward}
 use Rattle.grammar.specs.declared.LetterUse.{LetterUse}
-use Rattle.grammar.specs.declared.LetterUse.the-variants.{LogicLetter, OrderLetter}
+use Rattle.grammar.specs.declared.LetterUse.the-variants.{LogicLetter as LetterOfLogic, OrderLetter as LetterOfOrder}
 use Rattle.grammar.specs.declared.Action.{Action}
 use Rattle.grammar.specs.declared.Action.the-variants.{Pass, Declare, Hold, Held, Number, Sign, Name, Mark, Letter, CountOrder}
 use Rattle.grammar.specs.declared.moves.Move.{Move}
 use Rattle.grammar.specs.declared.moves.Move.the-variants.{Missing, To}
-use Rattle.grammar.specs.Syntax.{Rule, rules}
-use Rattle.grammar.specs.Terminals.{nodeAt, nodeNumber, picked}
+use Rattle.grammar.specs.Syntax.{Terminal, interval, tone, tonesystem, retuning, logic, key, root, unused, letter, name, number, equals, colon, plus, minus, times, divide, opening, closing, comma, at, widthOpen, widthClose, arrow, end, nothing, Node, Begin, Finish, IntervalName, IntervalEquals, IntervalBody, IntervalKind, SecondPart, RootRadicand, IntervalSign, IntervalTerm, IntervalTermName, IntervalNext, ToneName, ToneEquals, ToneBody, ToneSign, ToneTerm, ToneTermName, ToneNext, SystemName, SystemEquals, SystemAnchor, SystemOpen, SystemFirst, SystemPosition, SystemComma, SystemPeriod, SystemSign, SystemTerm, SystemTermName, RetuningName, RetuningEquals, RetuningBody, RetuningInside, RetuningNext, AnchorOperator, AnchorPlusNumber, AnchorMinusNumber, AnchorOpen, AnchorClose, WidthBody, WidthOperator, WidthPlusNumber, WidthMinusNumber, WidthTimesNumber, WidthOverNumber, WidthClose, WidthBracket, PeriodBody, PeriodSign, PeriodTerm, PeriodTermName, TonesSign, TonesTerm, TonesTermName, TonesPosition, LogicName, LogicKey, LogicLetter, LogicEquals, LogicStart, LogicOpen, OrderKey, OrderLetter, OrderArrow, OrderName, LogicNext, Rule, rules}
+use Rattle.grammar.specs.Terminals.{terminalNumber, picked}
+
+-- ---- nodes and terminals
+
+-- a number tells two nodes apart (`node-back` of proofs/Numbered.antt: no two share one)
+abbrev pub nodeNumber : Node → ℕ
+nodeNumber Begin = 0
+nodeNumber Finish = 1
+nodeNumber IntervalName = 2
+nodeNumber IntervalEquals = 3
+nodeNumber IntervalBody = 4
+nodeNumber IntervalKind = 5
+nodeNumber SecondPart = 6
+nodeNumber RootRadicand = 7
+nodeNumber IntervalSign = 8
+nodeNumber IntervalTerm = 9
+nodeNumber IntervalTermName = 10
+nodeNumber IntervalNext = 11
+nodeNumber ToneName = 12
+nodeNumber ToneEquals = 13
+nodeNumber ToneBody = 14
+nodeNumber ToneSign = 15
+nodeNumber ToneTerm = 16
+nodeNumber ToneTermName = 17
+nodeNumber ToneNext = 18
+nodeNumber SystemName = 19
+nodeNumber SystemEquals = 20
+nodeNumber SystemAnchor = 21
+nodeNumber SystemOpen = 22
+nodeNumber SystemFirst = 23
+nodeNumber SystemPosition = 24
+nodeNumber SystemComma = 25
+nodeNumber SystemPeriod = 26
+nodeNumber SystemSign = 27
+nodeNumber SystemTerm = 28
+nodeNumber SystemTermName = 29
+nodeNumber RetuningName = 30
+nodeNumber RetuningEquals = 31
+nodeNumber RetuningBody = 32
+nodeNumber RetuningInside = 33
+nodeNumber RetuningNext = 34
+nodeNumber AnchorOperator = 35
+nodeNumber AnchorPlusNumber = 36
+nodeNumber AnchorMinusNumber = 37
+nodeNumber AnchorOpen = 38
+nodeNumber AnchorClose = 39
+nodeNumber WidthBody = 40
+nodeNumber WidthOperator = 41
+nodeNumber WidthPlusNumber = 42
+nodeNumber WidthMinusNumber = 43
+nodeNumber WidthTimesNumber = 44
+nodeNumber WidthOverNumber = 45
+nodeNumber WidthClose = 46
+nodeNumber WidthBracket = 47
+nodeNumber PeriodBody = 48
+nodeNumber PeriodSign = 49
+nodeNumber PeriodTerm = 50
+nodeNumber PeriodTermName = 51
+nodeNumber TonesSign = 52
+nodeNumber TonesTerm = 53
+nodeNumber TonesTermName = 54
+nodeNumber TonesPosition = 55
+nodeNumber LogicName = 56
+nodeNumber LogicKey = 57
+nodeNumber LogicLetter = 58
+nodeNumber LogicEquals = 59
+nodeNumber LogicStart = 60
+nodeNumber LogicOpen = 61
+nodeNumber OrderKey = 62
+nodeNumber OrderLetter = 63
+nodeNumber OrderArrow = 64
+nodeNumber OrderName = 65
+nodeNumber LogicNext = 66
+
+-- the nodes in the order of their numbers; past them nothing follows
+abbrev pub nodes : List Node
+nodes =
+    Begin ∷ Finish ∷ IntervalName ∷ IntervalEquals ∷ IntervalBody ∷ IntervalKind ∷
+    SecondPart ∷ RootRadicand ∷ IntervalSign ∷ IntervalTerm ∷ IntervalTermName ∷ IntervalNext ∷
+    ToneName ∷ ToneEquals ∷ ToneBody ∷ ToneSign ∷ ToneTerm ∷ ToneTermName ∷
+    ToneNext ∷ SystemName ∷ SystemEquals ∷ SystemAnchor ∷ SystemOpen ∷ SystemFirst ∷
+    SystemPosition ∷ SystemComma ∷ SystemPeriod ∷ SystemSign ∷ SystemTerm ∷ SystemTermName ∷
+    RetuningName ∷ RetuningEquals ∷ RetuningBody ∷ RetuningInside ∷ RetuningNext ∷ AnchorOperator ∷
+    AnchorPlusNumber ∷ AnchorMinusNumber ∷ AnchorOpen ∷ AnchorClose ∷ WidthBody ∷ WidthOperator ∷
+    WidthPlusNumber ∷ WidthMinusNumber ∷ WidthTimesNumber ∷ WidthOverNumber ∷ WidthClose ∷ WidthBracket ∷
+    PeriodBody ∷ PeriodSign ∷ PeriodTerm ∷ PeriodTermName ∷ TonesSign ∷ TonesTerm ∷
+    TonesTermName ∷ TonesPosition ∷ LogicName ∷ LogicKey ∷ LogicLetter ∷ LogicEquals ∷
+    LogicStart ∷ LogicOpen ∷ OrderKey ∷ OrderLetter ∷ OrderArrow ∷ OrderName ∷
+    LogicNext ∷ []
+
+abbrev pub nodeAt : ℕ → Node
+nodeAt n = getD nodes n Finish
+
+-- the terminals in the order of their numbers; past them is none that a rule is for
+abbrev pub terminals : List Terminal
+terminals =
+    interval ∷ tone ∷ tonesystem ∷ retuning ∷ logic ∷ key ∷ root ∷ unused ∷ letter ∷ name ∷ number ∷ equals ∷ colon ∷ plus ∷ minus ∷ times
+    ∷ divide ∷ opening ∷ closing ∷ comma ∷ at ∷ widthOpen ∷ widthClose ∷ arrow ∷ end ∷ nothing ∷ []
+
+abbrev pub terminalAt : ℕ → Terminal
+terminalAt t = getD terminals t nothing
+
+-- ---- actions
 
 abbrev pub kinds : List Kind
 kinds = Interval ∷ Tone ∷ System ∷ Retuning ∷ Logic ∷ AnOrder ∷ []
@@ -38,7 +140,7 @@ abbrev pub markUses : List MarkUse
 markUses = MutedPosition ∷ KeptPosition ∷ KeptAnchor ∷ KeptWidth ∷ Period ∷ Onward ∷ []
 
 abbrev pub letterUses : List LetterUse
-letterUses = LogicLetter ∷ OrderLetter ∷ []
+letterUses = LetterOfLogic ∷ LetterOfOrder ∷ []
 
 abbrev pub plainActions : List Action
 plainActions = Pass ∷ Hold ∷ CountOrder ∷ Sign false ∷ Sign true ∷ []
@@ -53,7 +155,7 @@ actionAt n =
     (cond (eqb class 3) (Number (getD numberUses i RatioFirst))
     (cond (eqb class 4) (Name (getD nameUses i Term))
     (cond (eqb class 5) (Mark (getD markUses i MutedPosition))
-    (cond (eqb class 6) (Letter (getD letterUses i LogicLetter))
+    (cond (eqb class 6) (Letter (getD letterUses i LetterOfLogic))
     (getD plainActions i Pass))))))
 
 -- ---- and the number of an action
@@ -100,8 +202,8 @@ markUseNumber Period = 4
 markUseNumber Onward = 5
 
 abbrev pub letterUseNumber : LetterUse → ℕ
-letterUseNumber LogicLetter = 0
-letterUseNumber OrderLetter = 1
+letterUseNumber LetterOfLogic = 0
+letterUseNumber LetterOfOrder = 1
 
 abbrev pub signNumber : Bool → ℕ
 signNumber false = 3
@@ -125,8 +227,13 @@ abbrev pub moveBy : Option Rule → Move
 moveBy none = Missing
 moveBy (some r) = To (r .action) (nodeNumber (r .next))
 
+-- at the numbers of a node and of a terminal
 unfoldable pub moveOf : ℕ → ℕ → Move
-moveOf node terminal = moveBy (picked (rules (nodeAt node)) terminal)
+moveOf node terminal = moveBy (picked (rules (nodeAt node)) (terminalAt terminal))
+
+-- the numbers stand for the names: the move there is that of the rule which is picked by name (`moves-by-name` of proofs/Diagrams.antt)
+abbrev pub MovesByName : Type 0
+MovesByName = (n : Node) (t : Terminal) → moveOf (nodeNumber n) (terminalNumber t) ≡ moveBy (picked (rules n) t)
 
 -- ---- the code's two tables: for each node (row) and terminal (column) the next node's number and the action's, 0 where there is no rule
 
@@ -145,10 +252,10 @@ actionBy none = 0
 actionBy (some r) = actionNumber (r .action)
 
 abbrev pub nextEntry : ℕ → ℕ
-nextEntry i = nextBy (picked (rules (nodeAt (i / terminalCount))) (i % terminalCount))
+nextEntry i = nextBy (picked (rules (nodeAt (i / terminalCount))) (terminalAt (i % terminalCount)))
 
 abbrev pub actionEntry : ℕ → ℕ
-actionEntry i = actionBy (picked (rules (nodeAt (i / terminalCount))) (i % terminalCount))
+actionEntry i = actionBy (picked (rules (nodeAt (i / terminalCount))) (terminalAt (i % terminalCount)))
 
 -- the n entries that f gives from i on
 abbrev pub tabulate : (ℕ → ℕ) → ℕ → ℕ → List ℕ

@@ -3,7 +3,7 @@ use mathlib.Core.Bool.{Bool, true, false, cond}
 use mathlib.Core.List.{List, [], _∷_}
 use mathlib.Core.Option.{Option, some, none}
 use Prim.Native.Nat.{ℕ, _+_}
-use lib.Dec.{leb, eqb}
+use lib.Dec.{leb}
 use lib.ListN.{length}
 use lib.Seq.{slice}
 use Rattle.status.specs.Status.{done, textTooLong, noSymbol, symbolNotAllowed, numberOutOfRange, itemTooMany}
@@ -30,16 +30,16 @@ use Rattle.grammar.specs.declared.Counts.{Counts}
 use Rattle.grammar.specs.declared.FirstNumber.{FirstNumber}
 use Rattle.grammar.specs.declared.NextTerm.{NextTerm}
 use Rattle.grammar.specs.declared.Progress.{Progress}
-use Rattle.grammar.specs.declared.Placed.{Placed}
+use Rattle.grammar.specs.declared.Span.{Span}
 use Rattle.grammar.specs.declared.Outcome.{Outcome}
 use Rattle.grammar.specs.declared.Outcome.the-variants.{Go, Give, Refuse}
 use Rattle.symbols.specs.Symbols.{symbols}
 use Rattle.symbols.specs.declared.Symbol.{Symbol}
 use Rattle.grammar.specs.declared.reading.Reading.{Reading}
-use Rattle.grammar.specs.Syntax.{Begin, Finish, Rule, rules}
+use Rattle.grammar.specs.Syntax.{Terminal, Node, Begin, Rule, rules}
 use Rattle.limits.specs.Limits.{leastDegree, mostDegree, mostFactor, mostAnchor, mostAmount, leastDivisor, mostIntervals, mostToneNames, mostSystems, mostLogics, mostRetunings, mostOrders}
 pub use Rattle.limits.specs.Limits.{mostBytes, mostTerms, mostPositions}
-use Rattle.grammar.specs.Terminals.{placed, picked, nodeAt, nodeNumber, isNothing, letterAt}
+use Rattle.grammar.specs.Terminals.{terminalOf, startOf, spanOf, isNothing, picked, letterAt}
 
 -- ---- "Numbers allowed"
 
@@ -98,26 +98,23 @@ oneMore Retuning c = record { intervals = c .intervals; tones = c .tones; system
 oneMore Logic c = record { intervals = c .intervals; tones = c .tones; systems = c .systems; retunings = c .retunings; logics = c .logics + 1; orders = c .orders }
 oneMore AnOrder c = record { intervals = c .intervals; tones = c .tones; systems = c .systems; retunings = c .retunings; logics = c .logics; orders = c .orders + 1 }
 
-abbrev pub atNode : ℕ → Progress → Progress
-atNode n s = record { node = n; first = s .first; term = s .term; positions = s .positions; letter = s .letter; counts = s .counts }
-
 abbrev pub withFirst : FirstNumber → Progress → Progress
-withFirst n s = record { node = s .node; first = n; term = s .term; positions = s .positions; letter = s .letter; counts = s .counts }
+withFirst n s = record { first = n; term = s .term; positions = s .positions; letter = s .letter; counts = s .counts }
 
 abbrev pub withTerm : NextTerm → Progress → Progress
-withTerm t s = record { node = s .node; first = s .first; term = t; positions = s .positions; letter = s .letter; counts = s .counts }
+withTerm t s = record { first = s .first; term = t; positions = s .positions; letter = s .letter; counts = s .counts }
 
 abbrev pub withPositions : ℕ → Progress → Progress
-withPositions n s = record { node = s .node; first = s .first; term = s .term; positions = n; letter = s .letter; counts = s .counts }
+withPositions n s = record { first = s .first; term = s .term; positions = n; letter = s .letter; counts = s .counts }
 
 abbrev pub withLetter : ℕ → Progress → Progress
-withLetter c s = record { node = s .node; first = s .first; term = s .term; positions = s .positions; letter = c; counts = s .counts }
+withLetter c s = record { first = s .first; term = s .term; positions = s .positions; letter = c; counts = s .counts }
 
 abbrev pub withCounts : Counts → Progress → Progress
-withCounts c s = record { node = s .node; first = s .first; term = s .term; positions = s .positions; letter = s .letter; counts = c }
+withCounts c s = record { first = s .first; term = s .term; positions = s .positions; letter = s .letter; counts = c }
 
 -- an interval's first number: held from its place to the place after it, then judged
-abbrev pub heldFirst : Placed → Progress → Progress
+abbrev pub heldFirst : Span → Progress → Progress
 heldFirst x s = withFirst (record { start = x .start; end = x .end; value = 0 }) s
 
 abbrev pub judgedFirst : ℕ → Progress → Progress
@@ -134,20 +131,20 @@ noTerm s = nextTerm false 1 0 s
 -- ---- what each action does at the symbol x
 
 -- "one more item than allowed; its first symbol"
-abbrev pub unlessFull : ℕ → ℕ → Placed → Outcome → Outcome
+abbrev pub unlessFull : ℕ → ℕ → Span → Outcome → Outcome
 unlessFull most n x o = cond (leb most n) (Refuse itemTooMany (x .start)) o
 
 -- a declaration begins with its name; there is no term and no position yet
-abbrev pub counted : Progress → Kind → Item → Placed → Outcome
+abbrev pub counted : Progress → Kind → Item → Span → Outcome
 counted s k i x =
     unlessFull (limit k) (soFar k (s .counts)) x (Give (withCounts (oneMore k (s .counts)) (withPositions 0 (noTerm s))) i)
 
 -- an order begins with KEY
-abbrev pub orderCounted : Progress → Placed → Outcome
+abbrev pub orderCounted : Progress → Span → Outcome
 orderCounted s x = unlessFull (limit AnOrder) (soFar AnOrder (s .counts)) x (Go (withCounts (oneMore AnOrder (s .counts)) s))
 
 -- a sign belongs to its term
-abbrev pub signed : Progress → Bool → Placed → Outcome
+abbrev pub signed : Progress → Bool → Span → Outcome
 signed s m x = unlessFull mostTerms (s .term .before) x (Go (nextTerm m 1 (s .term .before) s))
 
 abbrev pub termItem : Bool → ℕ → ℕ → Item
@@ -155,21 +152,21 @@ termItem true factor place = item.Subtract factor place
 termItem false factor place = item.Add factor place
 
 -- a term ends with its interval's name
-abbrev pub termed : Progress → ℕ → Placed → Outcome
+abbrev pub termed : Progress → ℕ → Span → Outcome
 termed s factor x = Give (nextTerm false 1 (s .term .before + 1) s) (termItem (s .term .minus) factor (x .start))
 
 -- a position of a list, with no terms yet; "(empty: the mark after)"
-abbrev pub positioned : Progress → Item → Placed → Outcome
+abbrev pub positioned : Progress → Item → Span → Outcome
 positioned s i x = unlessFull mostPositions (s .positions) x (Give (withPositions (s .positions + 1) (noTerm s)) i)
 
-abbrev pub named : Progress → NameUse → Placed → Outcome
+abbrev pub named : Progress → NameUse → Span → Outcome
 named s Term x = termed s (s .term .factor) x
 named s Base x = Give s (item.Base (x .start))
 named s Position x = positioned s (item.TonePosition (x .start)) x
 named s Start x = Give s (item.Start (x .start))
 named s Order x = Give s (item.Order (s .letter) (x .start))
 
-abbrev pub marked : Progress → MarkUse → Placed → Outcome
+abbrev pub marked : Progress → MarkUse → Span → Outcome
 marked s MutedPosition x = positioned s item.MutedPosition x
 marked s KeptPosition x = positioned s item.KeptPosition x
 marked s KeptAnchor x = Give s item.AnchorKept
@@ -182,7 +179,7 @@ lettered s LogicLetter c = Give s (item.Letter c)
 lettered s OrderLetter c = Go (withLetter c s)
 
 -- a number of which the value is allowed, at the symbol x
-abbrev pub used : Progress → NumberUse → ℕ → Placed → Outcome
+abbrev pub used : Progress → NumberUse → ℕ → Span → Outcome
 used s RatioFirst v x = Go (judgedFirst v s)
 used s RatioSecond v x = Give s (item.Ratio (s .first .value) v)
 used s Degree v x = Go (judgedFirst v s)
@@ -201,15 +198,15 @@ used s WidthTimes v x = Give s (item.WidthTimes v)
 used s WidthOver v x = Give s (item.WidthOver v)
 
 -- "number out of range, too many places, or a point where whole is asked; its place": the number from `start` to `end`
-abbrev pub ifAllowed : Progress → NumberUse → ℕ → Placed → WrittenNumber → Outcome
+abbrev pub ifAllowed : Progress → NumberUse → ℕ → Span → WrittenNumber → Outcome
 ifAllowed s u start x Outside = Refuse numberOutOfRange start
 ifAllowed s u start x (Value v) = used s u v x
 
-abbrev pub numbered : List ℕ → Progress → NumberUse → ℕ → ℕ → Placed → Outcome
+abbrev pub numbered : List ℕ → Progress → NumberUse → ℕ → ℕ → Span → Outcome
 numbered text s u start end x = ifAllowed s u start x (judged u (slice start end text))
 
--- what is done at the symbol x, before the next node
-unfoldable pub acted : List ℕ → Progress → Action → Placed → Outcome
+-- what is done at the symbol x
+unfoldable pub acted : List ℕ → Progress → Action → Span → Outcome
 acted text s Pass x = Go s
 acted text s (Declare k) x = counted s k (item.Declared k (x .start)) x
 acted text s Hold x = Go (heldFirst x s)
@@ -221,23 +218,38 @@ acted text s (Mark u) x = marked s u x
 acted text s (Letter u) x = lettered s u (letterAt text x)
 acted text s CountOrder x = orderCounted s x
 
--- then the next node
-abbrev pub thenAt : ℕ → Outcome → Outcome
-thenAt n (Go s) = Go (atNode n s)
-thenAt n (Give s i) = Give (atNode n s) i
-thenAt n (Refuse k p) = Refuse k p
+-- ---- one symbol
 
--- "symbol that no continuation allows; its place", or 2 where there is no symbol
-abbrev pub notAllowed : Placed → Outcome
-notAllowed x = cond (isNothing x) (Refuse noSymbol (x .start)) (Refuse symbolNotAllowed (x .start))
+-- where reading stands: at a node of the diagrams, with what it keeps of the symbols before
+pub record Standing : Type 0 where
+  pub node : Node
+  pub kept : Progress
 
-abbrev pub byRule : List ℕ → Progress → Placed → Option Rule → Outcome
-byRule text s x none = notAllowed x
-byRule text s x (some r) = thenAt (nodeNumber (r .next)) (acted text s (r .action) x)
+abbrev pub standing : Node → Progress → Standing
+standing n s = record { node = n; kept = s }
 
--- one symbol
-unfoldable pub stepped : List ℕ → Progress → Placed → Outcome
-stepped text s x = byRule text s x (picked (rules (nodeAt (s .node))) (x .terminal))
+-- what a symbol leads to: a refusal's number and place, or where reading stands after it, perhaps with an item
+pub data Step : Type 0 where
+  refuse : ℕ → ℕ → Step
+  go : Standing → Step
+  give : Standing → Item → Step
+
+-- after what is done, the next node
+abbrev pub thenAt : Node → Outcome → Step
+thenAt n (Go s) = go (standing n s)
+thenAt n (Give s i) = give (standing n s) i
+thenAt n (Refuse k p) = refuse k p
+
+-- where there is no rule: "symbol that no continuation allows; its place", or 2 where there is no symbol
+abbrev pub notAllowed : Terminal → ℕ
+notAllowed t = cond (isNothing t) noSymbol symbolNotAllowed
+
+abbrev pub byRule : List ℕ → Progress → Symbol → Option Rule → Step
+byRule text s y none = refuse (notAllowed (terminalOf text y)) (startOf y)
+byRule text s y (some r) = thenAt (r .next) (acted text s (r .action) (spanOf y))
+
+unfoldable pub stepped : List ℕ → Standing → Symbol → Step
+stepped text s y = byRule text (s .kept) y (picked (rules (s .node)) (terminalOf text y))
 
 -- ---- a whole text
 
@@ -247,14 +259,16 @@ pub record Read : Type 0 where
   pub number : ℕ
   pub place : ℕ
 
-abbrev pub begun : Progress
+abbrev pub begun : Standing
 begun = record {
-  node = nodeNumber Begin;
-  first = record { start = 0; end = 0; value = 0 };
-  term = record { minus = false; factor = 1; before = 0 };
-  positions = 0;
-  letter = 0;
-  counts = record { intervals = 0; tones = 0; systems = 0; retunings = 0; logics = 0; orders = 0 };
+  node = Begin;
+  kept = record {
+    first = record { start = 0; end = 0; value = 0 };
+    term = record { minus = false; factor = 1; before = 0 };
+    positions = 0;
+    letter = 0;
+    counts = record { intervals = 0; tones = 0; systems = 0; retunings = 0; logics = 0; orders = 0 };
+  };
 }
 
 abbrev pub with : Item → Read → Read
@@ -267,18 +281,12 @@ refusedAt n p = record { items = []; number = n; place = p }
 abbrev pub readWhole : Read
 readWhole = record { items = []; number = done; place = 0 }
 
-abbrev pub isFinished : Progress → Bool
-isFinished s = eqb (s .node) (nodeNumber Finish)
-
--- the rest of the symbols, of which the last is the text's end, or a place where no symbol begins
-unfoldable pub readFrom : List ℕ → Progress → List Symbol → Read
+-- the rest of the symbols. The last of them is the text's end, which leads to `Finish`, and no other symbol does (`finish-at-end`, `end-at-finish` of
+-- proofs/Diagrams.antt), or a place where no symbol begins, which is refused (`none-at-nothing`).
+unfoldable pub readFrom : List ℕ → Standing → List Symbol → Read
 readFrom text s [] = readWhole
-readFrom text s (x ∷ xs) =
-    elim (stepped text s (placed text x)) [
-      | Refuse n p ↦ refusedAt n p
-      | Go s′ ↦ elim (isFinished s′) [ true ↦ readWhole | false ↦ readFrom text s′ xs ]
-      | Give s′ i ↦ with i (readFrom text s′ xs)
-    ]
+readFrom text s (y ∷ ys) =
+    elim (stepped text s y) [ refuse n p ↦ refusedAt n p | go t ↦ readFrom text t ys | give t i ↦ with i (readFrom text t ys) ]
 
 unfoldable pub readItems : List ℕ → Read
 readItems text = cond (leb (length text) mostBytes) (readFrom text begun (symbols text)) (refusedAt textTooLong 0)

@@ -19,18 +19,19 @@ pub data Terminal : Type 0 where
   equals colon plus minus times divide opening closing comma at widthOpen widthClose arrow : Terminal
   end nothing : Terminal
 
--- the nodes of the diagrams, each named by what was read last or is read next
+-- the nodes of the diagrams, each named by what comes next: `IntervalKind` by the symbol that tells which kind of interval it is, `IntervalNext` by the next
+-- declaration or block. `Begin` is where a text begins, `Finish` where it is read whole.
 pub data Node : Type 0 where
   Begin Finish : Node
-  IntervalName IntervalEquals IntervalBody FirstNumber RatioColon RootWord IntervalTerm IntervalSign IntervalFactor IntervalDone : Node
-  ToneName ToneEquals ToneBody ToneTerm ToneSign ToneFactor ToneDone : Node
-  SystemName SystemEquals SystemAnchor SystemOpen SystemFirst SystemComma SystemTone SystemPeriod SystemTerm SystemSign SystemFactor : Node
-  RetuningName RetuningEquals RetuningBody RetuningOpen RetuningDone : Node
-  AnchorAt AnchorPlus AnchorMinus AnchorOpen AnchorClose : Node
-  WidthBody WidthAt WidthPlus WidthMinus WidthAsterisk WidthSlash WidthClose WidthEnd : Node
-  PeriodBody PeriodTerm PeriodSign PeriodFactor : Node
-  TonesTerm TonesSign TonesFactor TonesComma : Node
-  LogicName LogicKey LogicLetter LogicEquals LogicStart LogicOpen OrdersOpen OrderKey OrderLetter OrderArrow LogicDone : Node
+  IntervalName IntervalEquals IntervalBody IntervalKind SecondPart RootRadicand IntervalSign IntervalTerm IntervalTermName IntervalNext : Node
+  ToneName ToneEquals ToneBody ToneSign ToneTerm ToneTermName ToneNext : Node
+  SystemName SystemEquals SystemAnchor SystemOpen SystemFirst SystemPosition SystemComma SystemPeriod SystemSign SystemTerm SystemTermName : Node
+  RetuningName RetuningEquals RetuningBody RetuningInside RetuningNext : Node
+  AnchorOperator AnchorPlusNumber AnchorMinusNumber AnchorOpen AnchorClose : Node
+  WidthBody WidthOperator WidthPlusNumber WidthMinusNumber WidthTimesNumber WidthOverNumber WidthClose WidthBracket : Node
+  PeriodBody PeriodSign PeriodTerm PeriodTermName : Node
+  TonesSign TonesTerm TonesTermName TonesPosition : Node
+  LogicName LogicKey LogicLetter LogicEquals LogicStart LogicOpen OrderKey OrderLetter OrderArrow OrderName LogicNext : Node
 
 -- in a node, a symbol that is allowed, the next node, and what is done
 pub record Rule : Type 0 where
@@ -68,82 +69,82 @@ rules Finish = []
 -- INTERVAL name = ..      "`p : q`, or `A ROOT B`, or a sequence"
 rules IntervalName = onName IntervalEquals (Declare Interval)
 rules IntervalEquals = on equals IntervalBody Pass ∷ []
-rules IntervalBody = on number FirstNumber Hold ∷ onName IntervalTerm (Name Term)
-rules FirstNumber = on colon RatioColon (Held RatioFirst) ∷ on root RootWord (Held Degree) ∷ onName IntervalTerm (Held FirstFactor)
-rules RatioColon = on number IntervalDone (Number RatioSecond) ∷ []
-rules RootWord = on number IntervalDone (Number Radicand) ∷ []
-rules IntervalTerm = signs IntervalSign ++ declarations Interval IntervalEquals
-rules IntervalSign = term IntervalFactor IntervalTerm
-rules IntervalFactor = onName IntervalTerm (Name Term)
-rules IntervalDone = declarations Interval IntervalEquals
+rules IntervalBody = on number IntervalKind Hold ∷ onName IntervalSign (Name Term)
+rules IntervalKind = on colon SecondPart (Held RatioFirst) ∷ on root RootRadicand (Held Degree) ∷ onName IntervalSign (Held FirstFactor)
+rules SecondPart = on number IntervalNext (Number RatioSecond) ∷ []
+rules RootRadicand = on number IntervalNext (Number Radicand) ∷ []
+rules IntervalSign = signs IntervalTerm ++ declarations Interval IntervalEquals
+rules IntervalTerm = term IntervalTermName IntervalSign
+rules IntervalTermName = onName IntervalSign (Name Term)
+rules IntervalNext = declarations Interval IntervalEquals
 -- TONE name = ..          "a frequency in hertz, or a tone name followed by any number of signed terms"
 rules ToneName = onName ToneEquals (Declare Tone)
 rules ToneEquals = on equals ToneBody Pass ∷ []
-rules ToneBody = on number ToneDone (Number Frequency) ∷ onName ToneTerm (Name Base)
-rules ToneTerm = signs ToneSign ++ declarations Tone ToneEquals
-rules ToneSign = term ToneFactor ToneTerm
-rules ToneFactor = onName ToneTerm (Name Term)
-rules ToneDone = declarations Tone ToneEquals
+rules ToneBody = on number ToneNext (Number Frequency) ∷ onName ToneSign (Name Base)
+rules ToneSign = signs ToneTerm ++ declarations Tone ToneEquals
+rules ToneTerm = term ToneTermName ToneSign
+rules ToneTermName = onName ToneSign (Name Term)
+rules ToneNext = declarations Tone ToneEquals
 -- TONESYSTEM name = ..    "anchor key, `[` positions parted by commas, each a tone name or nothing `]`, period as a sequence.
 --                         Nothing means a muted position. `[ ]` alone is refused here"
 rules SystemName = onName SystemEquals (Declare System)
 rules SystemEquals = on equals SystemAnchor Pass ∷ []
 rules SystemAnchor = on number SystemOpen (Number AnchorKey) ∷ []
 rules SystemOpen = on opening SystemFirst Pass ∷ []
-rules SystemFirst = on comma SystemComma (Mark MutedPosition) ∷ onName SystemTone (Name Position)
-rules SystemComma = on comma SystemComma (Mark MutedPosition) ∷ on closing SystemPeriod (Mark MutedPosition) ∷ onName SystemTone (Name Position)
-rules SystemTone = on comma SystemComma Pass ∷ on closing SystemPeriod Pass ∷ []
-rules SystemPeriod = term SystemFactor SystemTerm
-rules SystemTerm = signs SystemSign ++ declarations System SystemEquals
-rules SystemSign = term SystemFactor SystemTerm
-rules SystemFactor = onName SystemTerm (Name Term)
+rules SystemFirst = on comma SystemPosition (Mark MutedPosition) ∷ onName SystemComma (Name Position)
+rules SystemPosition = on comma SystemPosition (Mark MutedPosition) ∷ on closing SystemPeriod (Mark MutedPosition) ∷ onName SystemComma (Name Position)
+rules SystemComma = on comma SystemPosition Pass ∷ on closing SystemPeriod Pass ∷ []
+rules SystemPeriod = term SystemTermName SystemSign
+rules SystemSign = signs SystemTerm ++ declarations System SystemEquals
+rules SystemTerm = term SystemTermName SystemSign
+rules SystemTermName = onName SystemSign (Name Term)
 -- RETUNING name = ..
 rules RetuningName = onName RetuningEquals (Declare Retuning)
 rules RetuningEquals = on equals RetuningBody Pass ∷ []
-rules RetuningBody = on number AnchorOpen (Number AnchorTo) ∷ on at AnchorAt Pass ∷ on opening RetuningOpen Pass ∷ []
-rules RetuningOpen =
-    on widthOpen WidthBody Pass ∷ on closing PeriodBody (Mark Period) ∷ on comma TonesComma (Mark MutedPosition)
-    ∷ on at TonesTerm (Mark KeptPosition) ∷ onName TonesTerm (Name Position)
-rules RetuningDone = declarations Retuning RetuningEquals
+rules RetuningBody = on number AnchorOpen (Number AnchorTo) ∷ on at AnchorOperator Pass ∷ on opening RetuningInside Pass ∷ []
+rules RetuningInside =
+    on widthOpen WidthBody Pass ∷ on closing PeriodBody (Mark Period) ∷ on comma TonesPosition (Mark MutedPosition)
+    ∷ on at TonesSign (Mark KeptPosition) ∷ onName TonesSign (Name Position)
+rules RetuningNext = declarations Retuning RetuningEquals
 -- "Anchor: `n [ ]`, `@ [ ]`, `@ + n [ ]`, `@ - n [ ]`."
-rules AnchorAt = on opening AnchorClose (Mark KeptAnchor) ∷ on plus AnchorPlus Pass ∷ on minus AnchorMinus Pass ∷ []
-rules AnchorPlus = on number AnchorOpen (Number AnchorUp) ∷ []
-rules AnchorMinus = on number AnchorOpen (Number AnchorDown) ∷ []
+rules AnchorOperator = on opening AnchorClose (Mark KeptAnchor) ∷ on plus AnchorPlusNumber Pass ∷ on minus AnchorMinusNumber Pass ∷ []
+rules AnchorPlusNumber = on number AnchorOpen (Number AnchorUp) ∷ []
+rules AnchorMinusNumber = on number AnchorOpen (Number AnchorDown) ∷ []
 rules AnchorOpen = on opening AnchorClose Pass ∷ []
-rules AnchorClose = on closing RetuningDone Pass ∷ []
+rules AnchorClose = on closing RetuningNext Pass ∷ []
 -- "Width: `[ << n >> ]`, `@` or `@` with `+ - * /` and n inside."
-rules WidthBody = on number WidthClose (Number WidthTo) ∷ on at WidthAt Pass ∷ []
-rules WidthAt =
-    on widthClose WidthEnd (Mark KeptWidth) ∷ on plus WidthPlus Pass ∷ on minus WidthMinus Pass ∷ on times WidthAsterisk Pass
-    ∷ on divide WidthSlash Pass ∷ []
-rules WidthPlus = on number WidthClose (Number WidthUp) ∷ []
-rules WidthMinus = on number WidthClose (Number WidthDown) ∷ []
-rules WidthAsterisk = on number WidthClose (Number WidthTimes) ∷ []
-rules WidthSlash = on number WidthClose (Number WidthOver) ∷ []
-rules WidthClose = on widthClose WidthEnd Pass ∷ []
-rules WidthEnd = on closing RetuningDone Pass ∷ []
+rules WidthBody = on number WidthClose (Number WidthTo) ∷ on at WidthOperator Pass ∷ []
+rules WidthOperator =
+    on widthClose WidthBracket (Mark KeptWidth) ∷ on plus WidthPlusNumber Pass ∷ on minus WidthMinusNumber Pass ∷ on times WidthTimesNumber Pass
+    ∷ on divide WidthOverNumber Pass ∷ []
+rules WidthPlusNumber = on number WidthClose (Number WidthUp) ∷ []
+rules WidthMinusNumber = on number WidthClose (Number WidthDown) ∷ []
+rules WidthTimesNumber = on number WidthClose (Number WidthTimes) ∷ []
+rules WidthOverNumber = on number WidthClose (Number WidthOver) ∷ []
+rules WidthClose = on widthClose WidthBracket Pass ∷ []
+rules WidthBracket = on closing RetuningNext Pass ∷ []
 -- "Period: `[ ]` then a sequence, or `@` with any signed terms."
-rules PeriodBody = on at PeriodTerm (Mark Onward) ∷ term PeriodFactor PeriodTerm
-rules PeriodTerm = signs PeriodSign ++ declarations Retuning RetuningEquals
-rules PeriodSign = term PeriodFactor PeriodTerm
-rules PeriodFactor = onName PeriodTerm (Name Term)
+rules PeriodBody = on at PeriodSign (Mark Onward) ∷ term PeriodTermName PeriodSign
+rules PeriodSign = signs PeriodTerm ++ declarations Retuning RetuningEquals
+rules PeriodTerm = term PeriodTermName PeriodSign
+rules PeriodTermName = onName PeriodSign (Name Term)
 -- "Tones: `[` positions `]`, each nothing, or `@` or a tone name, with signed terms."
-rules TonesTerm = on comma TonesComma Pass ∷ on closing RetuningDone Pass ∷ signs TonesSign
-rules TonesSign = term TonesFactor TonesTerm
-rules TonesFactor = onName TonesTerm (Name Term)
-rules TonesComma =
-    on comma TonesComma (Mark MutedPosition) ∷ on closing RetuningDone (Mark MutedPosition) ∷ on at TonesTerm (Mark KeptPosition)
-    ∷ onName TonesTerm (Name Position)
+rules TonesSign = on comma TonesPosition Pass ∷ on closing RetuningNext Pass ∷ signs TonesTerm
+rules TonesTerm = term TonesTermName TonesSign
+rules TonesTermName = onName TonesSign (Name Term)
+rules TonesPosition =
+    on comma TonesPosition (Mark MutedPosition) ∷ on closing RetuningNext (Mark MutedPosition) ∷ on at TonesSign (Mark KeptPosition)
+    ∷ onName TonesSign (Name Position)
 -- LOGIC ..                "`name KEY letter = start [ orders ]`; start is a tone system or retuning name or nothing;
 --                         orders, if any, are each `KEY letter -> name`. A letter is a one-letter name from a to z."
 rules LogicName = onName LogicKey (Declare Logic)
 rules LogicKey = on key LogicLetter Pass ∷ []
 rules LogicLetter = on letter LogicEquals (Letter LetterOfLogic) ∷ []
 rules LogicEquals = on equals LogicStart Pass ∷ []
-rules LogicStart = on opening OrdersOpen Pass ∷ onName LogicOpen (Name CalledAtStart)
-rules LogicOpen = on opening OrdersOpen Pass ∷ []
-rules OrdersOpen = on key OrderKey CountOrder ∷ on closing LogicDone Pass ∷ []
-rules OrderKey = on letter OrderLetter (Letter LetterOfOrder) ∷ []
-rules OrderLetter = on arrow OrderArrow Pass ∷ []
-rules OrderArrow = onName OrdersOpen (Name Order)
-rules LogicDone = declarations Logic LogicKey
+rules LogicStart = on opening OrderKey Pass ∷ onName LogicOpen (Name CalledAtStart)
+rules LogicOpen = on opening OrderKey Pass ∷ []
+rules OrderKey = on key OrderLetter CountOrder ∷ on closing LogicNext Pass ∷ []
+rules OrderLetter = on letter OrderArrow (Letter LetterOfOrder) ∷ []
+rules OrderArrow = on arrow OrderName Pass ∷ []
+rules OrderName = onName OrderKey (Name Order)
+rules LogicNext = declarations Logic LogicKey

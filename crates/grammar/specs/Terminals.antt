@@ -1,11 +1,9 @@
--- The numbers of terminals and nodes, by which reading keeps them (`terminal-back`, `node-back` of proofs/Numbered.antt: no two share one); a symbol of
--- the text as a terminal with its place.
-use mathlib.Core.Bool.{Bool, true, false, cond}
+-- The rule for a terminal; and of a symbol of the text, its terminal and its place.
+use mathlib.Core.Bool.{Bool, true, false}
 use mathlib.Core.List.{List, [], _∷_}
 use mathlib.Core.Option.{Option, some, none}
-use Prim.Native.Nat.{ℕ, _+_}
+use Prim.Native.Nat.{ℕ}
 use lib.Dec.{eqb}
-use lib.ListN.{getD}
 use lib.Seq.{slice}
 use Rattle.symbols.specs.declared.Symbol.{Symbol}
 use Rattle.symbols.specs.declared.Symbol.the-variants as symbol
@@ -17,9 +15,10 @@ use Rattle.symbols.specs.Words.{wordOf}
 use Rattle.symbols.specs.declared.spelling.Letter.{Letter}
 use Rattle.symbols.specs.declared.spelling.Letter.the-variants.{Missing, Capital}
 use Rattle.symbols.specs.Names.{spelled, letterOf}
-use Rattle.grammar.specs.declared.Placed.{Placed}
-use Rattle.grammar.specs.Syntax.{Terminal, interval, tone, tonesystem, retuning, logic, key, root, unused, letter, name, number, equals, colon, plus, minus, times, divide, opening, closing, comma, at, widthOpen, widthClose, arrow, end, nothing, Node, Begin, Finish, IntervalName, IntervalEquals, IntervalBody, FirstNumber, RatioColon, RootWord, IntervalTerm, IntervalSign, IntervalFactor, IntervalDone, ToneName, ToneEquals, ToneBody, ToneTerm, ToneSign, ToneFactor, ToneDone, SystemName, SystemEquals, SystemAnchor, SystemOpen, SystemFirst, SystemComma, SystemTone, SystemPeriod, SystemTerm, SystemSign, SystemFactor, RetuningName, RetuningEquals, RetuningBody, RetuningOpen, RetuningDone, AnchorAt, AnchorPlus, AnchorMinus, AnchorOpen, AnchorClose, WidthBody, WidthAt, WidthPlus, WidthMinus, WidthAsterisk, WidthSlash, WidthClose, WidthEnd, PeriodBody, PeriodTerm, PeriodSign, PeriodFactor, TonesTerm, TonesSign, TonesFactor, TonesComma, LogicName, LogicKey, LogicLetter, LogicEquals, LogicStart, LogicOpen, OrdersOpen, OrderKey, OrderLetter, OrderArrow, LogicDone, Rule, rules}
+use Rattle.grammar.specs.declared.Span.{Span}
+use Rattle.grammar.specs.Syntax.{Terminal, interval, tone, tonesystem, retuning, logic, key, root, unused, letter, name, number, equals, colon, plus, minus, times, divide, opening, closing, comma, at, widthOpen, widthClose, arrow, end, nothing, Rule}
 
+-- a number tells two terminals apart (`terminal-back` of proofs/Numbered.antt: no two share one)
 abbrev pub terminalNumber : Terminal → ℕ
 terminalNumber interval = 0
 terminalNumber tone = 1
@@ -48,98 +47,17 @@ terminalNumber arrow = 23
 terminalNumber end = 24
 terminalNumber nothing = 25
 
-abbrev pub nodeNumber : Node → ℕ
-nodeNumber Begin = 0
-nodeNumber Finish = 1
-nodeNumber IntervalName = 2
-nodeNumber IntervalEquals = 3
-nodeNumber IntervalBody = 4
-nodeNumber FirstNumber = 5
-nodeNumber RatioColon = 6
-nodeNumber RootWord = 7
-nodeNumber IntervalTerm = 8
-nodeNumber IntervalSign = 9
-nodeNumber IntervalFactor = 10
-nodeNumber IntervalDone = 11
-nodeNumber ToneName = 12
-nodeNumber ToneEquals = 13
-nodeNumber ToneBody = 14
-nodeNumber ToneTerm = 15
-nodeNumber ToneSign = 16
-nodeNumber ToneFactor = 17
-nodeNumber ToneDone = 18
-nodeNumber SystemName = 19
-nodeNumber SystemEquals = 20
-nodeNumber SystemAnchor = 21
-nodeNumber SystemOpen = 22
-nodeNumber SystemFirst = 23
-nodeNumber SystemComma = 24
-nodeNumber SystemTone = 25
-nodeNumber SystemPeriod = 26
-nodeNumber SystemTerm = 27
-nodeNumber SystemSign = 28
-nodeNumber SystemFactor = 29
-nodeNumber RetuningName = 30
-nodeNumber RetuningEquals = 31
-nodeNumber RetuningBody = 32
-nodeNumber RetuningOpen = 33
-nodeNumber RetuningDone = 34
-nodeNumber AnchorAt = 35
-nodeNumber AnchorPlus = 36
-nodeNumber AnchorMinus = 37
-nodeNumber AnchorOpen = 38
-nodeNumber AnchorClose = 39
-nodeNumber WidthBody = 40
-nodeNumber WidthAt = 41
-nodeNumber WidthPlus = 42
-nodeNumber WidthMinus = 43
-nodeNumber WidthAsterisk = 44
-nodeNumber WidthSlash = 45
-nodeNumber WidthClose = 46
-nodeNumber WidthEnd = 47
-nodeNumber PeriodBody = 48
-nodeNumber PeriodTerm = 49
-nodeNumber PeriodSign = 50
-nodeNumber PeriodFactor = 51
-nodeNumber TonesTerm = 52
-nodeNumber TonesSign = 53
-nodeNumber TonesFactor = 54
-nodeNumber TonesComma = 55
-nodeNumber LogicName = 56
-nodeNumber LogicKey = 57
-nodeNumber LogicLetter = 58
-nodeNumber LogicEquals = 59
-nodeNumber LogicStart = 60
-nodeNumber LogicOpen = 61
-nodeNumber OrdersOpen = 62
-nodeNumber OrderKey = 63
-nodeNumber OrderLetter = 64
-nodeNumber OrderArrow = 65
-nodeNumber LogicDone = 66
+abbrev pub sameTerminal : Terminal → Terminal → Bool
+sameTerminal t u = eqb (terminalNumber t) (terminalNumber u)
 
--- the nodes in the order of their numbers; past them nothing follows
-abbrev pub nodes : List Node
-nodes =
-    Begin ∷ Finish ∷ IntervalName ∷ IntervalEquals ∷ IntervalBody ∷ FirstNumber ∷
-    RatioColon ∷ RootWord ∷ IntervalTerm ∷ IntervalSign ∷ IntervalFactor ∷ IntervalDone ∷
-    ToneName ∷ ToneEquals ∷ ToneBody ∷ ToneTerm ∷ ToneSign ∷ ToneFactor ∷
-    ToneDone ∷ SystemName ∷ SystemEquals ∷ SystemAnchor ∷ SystemOpen ∷ SystemFirst ∷
-    SystemComma ∷ SystemTone ∷ SystemPeriod ∷ SystemTerm ∷ SystemSign ∷ SystemFactor ∷
-    RetuningName ∷ RetuningEquals ∷ RetuningBody ∷ RetuningOpen ∷ RetuningDone ∷ AnchorAt ∷
-    AnchorPlus ∷ AnchorMinus ∷ AnchorOpen ∷ AnchorClose ∷ WidthBody ∷ WidthAt ∷
-    WidthPlus ∷ WidthMinus ∷ WidthAsterisk ∷ WidthSlash ∷ WidthClose ∷ WidthEnd ∷
-    PeriodBody ∷ PeriodTerm ∷ PeriodSign ∷ PeriodFactor ∷ TonesTerm ∷ TonesSign ∷
-    TonesFactor ∷ TonesComma ∷ LogicName ∷ LogicKey ∷ LogicLetter ∷ LogicEquals ∷
-    LogicStart ∷ LogicOpen ∷ OrdersOpen ∷ OrderKey ∷ OrderLetter ∷ OrderArrow ∷
-    LogicDone ∷ []
-
-abbrev pub nodeAt : ℕ → Node
-nodeAt n = getD nodes n Finish
+-- a place where no symbol begins
+abbrev pub isNothing : Terminal → Bool
+isNothing t = sameTerminal t nothing
 
 -- the rule for a terminal, if there is one
-unfoldable pub picked : List Rule → ℕ → Option Rule
+unfoldable pub picked : List Rule → Terminal → Option Rule
 picked [] t = none
-picked (r ∷ rs) t = elim (eqb t (terminalNumber (r .symbol))) [ true ↦ some r | false ↦ picked rs t ]
+picked (r ∷ rs) t = elim (sameTerminal t (r .symbol)) [ true ↦ some r | false ↦ picked rs t ]
 
 -- ---- the terminal of a symbol
 
@@ -199,18 +117,13 @@ endOf (symbol.Mark k a b) = b
 endOf (symbol.End a) = a
 endOf (symbol.Bad a) = a
 
--- a symbol as the syntax has it
-abbrev pub placed : List ℕ → Symbol → Placed
-placed text y = record { terminal = terminalNumber (terminalOf text y); start = startOf y; end = endOf y }
-
--- a place where no symbol begins
-abbrev pub isNothing : Placed → Bool
-isNothing x = eqb (x .terminal) (terminalNumber nothing)
+abbrev pub spanOf : Symbol → Span
+spanOf y = record { start = startOf y; end = endOf y }
 
 -- the letter that a one-letter name is, as a capital
 abbrev pub capital : Letter → ℕ
 capital Missing = 0
 capital (Capital c) = c
 
-abbrev pub letterAt : List ℕ → Placed → ℕ
+abbrev pub letterAt : List ℕ → Span → ℕ
 letterAt text x = capital (letterOf (slice (x .start) (x .end) text))

@@ -11,8 +11,8 @@ use crate::NextTerm;
 use crate::NumberRange;
 use crate::NumberUse;
 use crate::Outcome;
-use crate::Placed;
 use crate::Progress;
+use crate::Span;
 use limits::LEAST_DEGREE;
 use limits::LEAST_DIVISOR;
 use limits::MOST_AMOUNT;
@@ -90,7 +90,7 @@ fn count_one_more(mut counts: Counts, kind: Kind) -> Counts
 }
 
 // One item more than allowed.
-fn refuse_item(x: Placed) -> Outcome
+fn refuse_item(x: Span) -> Outcome
     ensures { λ r. ⌜ r ≡ Outcome.Refuse itemTooMany (x .start) ⌝ }
 {
     Outcome::Refuse {
@@ -119,7 +119,7 @@ fn await_first_term(s: Progress) -> Progress
 }
 
 // A declaration begins with its name.
-fn declare(s: Progress, kind: Kind, x: Placed) -> Outcome
+fn declare(s: Progress, kind: Kind, x: Span) -> Outcome
     ensures { λ r. ⌜ r ≡ counted s kind (Item.Declared kind (x .start)) x ⌝ }
 {
     let counts = s.counts;
@@ -133,7 +133,7 @@ fn declare(s: Progress, kind: Kind, x: Placed) -> Outcome
 }
 
 // An order begins with KEY.
-fn count_order(mut s: Progress, x: Placed) -> Outcome
+fn count_order(mut s: Progress, x: Span) -> Outcome
     ensures { λ r. ⌜ r ≡ orderCounted s x ⌝ }
 {
     let counts = s.counts;
@@ -145,7 +145,7 @@ fn count_order(mut s: Progress, x: Placed) -> Outcome
 }
 
 // A term begins with its sign.
-fn begin_term(s: Progress, minus: bool, x: Placed) -> Outcome
+fn begin_term(s: Progress, minus: bool, x: Span) -> Outcome
     ensures { λ r. ⌜ r ≡ signed s minus x ⌝ }
 {
     let before = s.term.before;
@@ -156,7 +156,7 @@ fn begin_term(s: Progress, minus: bool, x: Placed) -> Outcome
 }
 
 // A term ends with its interval's name.
-fn end_term(s: Progress, factor: u32, x: Placed) -> Outcome
+fn end_term(s: Progress, factor: u32, x: Span) -> Outcome
     requires { ⌜ roomForTerm s ⌝ }
     ensures { λ r. ⌜ r ≡ termed s factor x ⌝ }
 {
@@ -167,7 +167,7 @@ fn end_term(s: Progress, factor: u32, x: Placed) -> Outcome
     Outcome::Give(next, Item::Add(factor, x.start))
 }
 
-fn add_position(s: Progress, item: Item, x: Placed) -> Outcome
+fn add_position(s: Progress, item: Item, x: Span) -> Outcome
     ensures { λ r. ⌜ r ≡ positioned s item x ⌝ }
 {
     let positions = s.positions;
@@ -179,7 +179,7 @@ fn add_position(s: Progress, item: Item, x: Placed) -> Outcome
     Outcome::Give(next, item)
 }
 
-fn use_name(s: Progress, purpose: NameUse, x: Placed) -> Outcome
+fn use_name(s: Progress, purpose: NameUse, x: Span) -> Outcome
     requires { ⌜ roomForTerm s ⌝ }
     ensures { λ r. ⌜ r ≡ named s purpose x ⌝ }
 {
@@ -192,7 +192,7 @@ fn use_name(s: Progress, purpose: NameUse, x: Placed) -> Outcome
     }
 }
 
-fn use_mark(s: Progress, purpose: MarkUse, x: Placed) -> Outcome
+fn use_mark(s: Progress, purpose: MarkUse, x: Span) -> Outcome
     ensures { λ r. ⌜ r ≡ marked s purpose x ⌝ }
 {
     match purpose {
@@ -206,7 +206,7 @@ fn use_mark(s: Progress, purpose: MarkUse, x: Placed) -> Outcome
 }
 
 // The capital of the letter that the symbol is, or 0.
-fn read_letter(text: &[u8], x: Placed) -> u8
+fn read_letter(text: &[u8], x: Span) -> u8
     ensures { λ r. ⌜ r ≡ letterAt (now (text .entry)) x ⌝ }
 {
     let Letter::Capital(letter) = spelling::letter_at(text, x.start as usize, x.end as usize) else {
@@ -228,7 +228,7 @@ fn use_letter(mut s: Progress, purpose: LetterUse, letter: u32) -> Outcome
 }
 
 // An interval's first number is judged later.
-fn hold_number(mut s: Progress, x: Placed) -> Progress
+fn hold_number(mut s: Progress, x: Span) -> Progress
     ensures { λ r. ⌜ r ≡ heldFirst x s ⌝ }
 {
     let first = FirstNumber {
@@ -280,7 +280,7 @@ fn judge(text: &[u8], purpose: NumberUse, start: usize, end: usize) -> WrittenNu
     }
 }
 
-fn use_number(s: Progress, purpose: NumberUse, value: u32, x: Placed) -> Outcome
+fn use_number(s: Progress, purpose: NumberUse, value: u32, x: Span) -> Outcome
     requires { ⌜ roomForTerm s ⌝ }
     ensures { λ r. ⌜ r ≡ used s purpose value x ⌝ }
 {
@@ -311,7 +311,7 @@ fn read_number(
     purpose: NumberUse,
     start: u32,
     end: u32,
-    x: Placed,
+    x: Span,
 ) -> Outcome
     requires { ⌜ roomForTerm s ⌝ }
     ensures { λ r. ⌜ r ≡ numbered (now (text .entry)) s purpose start end x ⌝ }
@@ -326,7 +326,7 @@ fn read_number(
 }
 
 // What an action does at the symbol `x`.
-pub fn act(text: &[u8], s: Progress, action: Action, x: Placed) -> Outcome
+pub fn act(text: &[u8], s: Progress, action: Action, x: Span) -> Outcome
     requires { ⌜ roomForTerm s ⌝ }
     ensures { λ r. ⌜ r ≡ acted (now (text .entry)) s action x ⌝ }
 {

@@ -140,10 +140,8 @@ pub struct NextTerm {
     pub before: u32,
 }
 
-// Where reading stands.
+// What reading keeps of the symbols before.
 pub struct Progress {
-    // The node of the diagrams.
-    pub node: u8,
     pub first: FirstNumber,
     pub term: NextTerm,
     // How many positions the list under way has.
@@ -153,14 +151,13 @@ pub struct Progress {
     pub counts: Counts,
 }
 
-// A symbol as the syntax has it: its terminal's number, its place and the place after it.
-pub struct Placed {
-    pub terminal: u8,
+// A symbol's place, and the place after it.
+pub struct Span {
     pub start: u32,
     pub end: u32,
 }
 
-// What a symbol leads to: a refusal, or more progress, perhaps with an item.
+// What an action leads to: a refusal, or more progress, perhaps with an item.
 pub enum Outcome {
     Refuse { number: u8, place: u32 },
     Go(Progress),

@@ -3,8 +3,8 @@ use crate::Counts;
 use crate::FirstNumber;
 use crate::NextTerm;
 use crate::Outcome;
-use crate::Placed;
 use crate::Progress;
+use crate::Span;
 use crate::actions;
 use crate::items;
 use crate::moves;
@@ -16,16 +16,21 @@ use symbols::spelling;
 use symbols::spelling::Letter;
 use symbols::words;
 ghost use mathlib.Core.Path.{_≡_};
+ghost use mathlib.Core.Bool.{cond};
 ghost use Prim.Native.Nat.{_≤_, _<_, _^_};
+ghost use lib.Dec.{eqb};
 ghost use lib.ListN.{length};
 ghost use lib.Seq.{slice};
-ghost use Rattle.grammar.specs.Terminals.{terminalNumber, ofName, startOf, endOf, placed};
-ghost use Rattle.grammar.specs.Reading.{atNode, thenAt, notAllowed, stepped, begun, mostBytes, readItems, answered};
+ghost use Rattle.status.specs.Status.{noSymbol, symbolNotAllowed};
+ghost use Rattle.grammar.specs.Syntax.{nothing};
+ghost use Rattle.grammar.specs.Terminals.{terminalNumber, ofName, terminalOf, startOf, endOf, spanOf};
+ghost use Rattle.grammar.specs.Reading.{begun, mostBytes, readItems, answered};
 ghost use Rattle.grammar.specs.Moves.{Moves};
 ghost use Rattle.grammar.specs.Items.{holding, itemSlots};
-ghost use Rattle.grammar.specs.Inner.{roomForTerm};
 
-// The node at which a text is complete.
+// The node at which a text begins, and the one at which it is complete.
+const BEGIN: u8 = 0;
+
 const FINISH: u8 = 1;
 
 // How many items were read, and the refusal's number and place, or 0 and 0.
@@ -44,83 +49,65 @@ fn terminal_of_name(text: &[u8], start: usize, end: usize) -> u8
     terminals::of_word(words::word_at(text, start, end))
 }
 
-fn placed_as(terminal: u8, start: usize, end: usize) -> Placed
-    requires { ⌜ (start < 2 ^ 32) × (end < 2 ^ 32) ⌝ }
-    ensures { λ r. ⌜ r ≡ record { terminal = terminal; start = start; end = end } ⌝ }
+fn terminal_of(text: &[u8], symbol: Symbol) -> u8
+    ensures { λ r. ⌜ r ≡ terminalNumber (terminalOf (now (text .entry)) symbol) ⌝ }
 {
-    Placed {
-        terminal,
+    match symbol {
+        Symbol::Name { start, end } => terminal_of_name(text, start, end),
+        Symbol::Number { .. } => terminals::NUMBER,
+        Symbol::Mark { kind, .. } => terminals::of_mark(kind),
+        Symbol::End(_) => terminals::END,
+        Symbol::Bad(_) => terminals::NOTHING,
+    }
+}
+
+fn span_between(start: usize, end: usize) -> Span
+    requires { ⌜ (start < 2 ^ 32) × (end < 2 ^ 32) ⌝ }
+    ensures { λ r. ⌜ r ≡ record { start = start; end = end } ⌝ }
+{
+    Span {
         start: start as u32,
         end: end as u32,
     }
 }
 
-// A symbol as the syntax has it.
-pub fn place_symbol(text: &[u8], symbol: Symbol) -> Placed
+fn span_of(symbol: Symbol) -> Span
     requires { ⌜ (startOf symbol < 2 ^ 32) × (endOf symbol < 2 ^ 32) ⌝ }
-    ensures { λ r. ⌜ r ≡ placed (now (text .entry)) symbol ⌝ }
+    ensures { λ r. ⌜ r ≡ spanOf symbol ⌝ }
 {
     match symbol {
-        Symbol::Name { start, end } => placed_as(terminal_of_name(text, start, end), start, end),
-        Symbol::Number { start, end } => placed_as(terminals::NUMBER, start, end),
-        Symbol::Mark { kind, start, end } => placed_as(terminals::of_mark(kind), start, end),
-        Symbol::End(place) => placed_as(terminals::END, place, place),
-        Symbol::Bad(place) => placed_as(terminals::NOTHING, place, place),
+        Symbol::Name { start, end } => span_between(start, end),
+        Symbol::Number { start, end } => span_between(start, end),
+        Symbol::Mark { start, end, .. } => span_between(start, end),
+        Symbol::End(place) => span_between(place, place),
+        Symbol::Bad(place) => span_between(place, place),
     }
 }
 
-// A symbol that may not follow, or a place where none begins.
-fn refuse_symbol(x: Placed) -> Outcome
-    ensures { λ r. ⌜ r ≡ notAllowed x ⌝ }
+// The number of a symbol that may not follow, or of a place where none begins.
+fn refusal_of(terminal: u8) -> u8
+    ensures { λ r. ⌜ r ≡ cond (eqb terminal (terminalNumber nothing)) noSymbol symbolNotAllowed ⌝ }
 {
-    let place = x.start;
-    if x.terminal == terminals::NOTHING {
-        return Outcome::Refuse {
-            number: status::NO_SYMBOL,
-            place,
-        };
+    if terminal == terminals::NOTHING {
+        return status::NO_SYMBOL;
     }
-    Outcome::Refuse {
-        number: status::SYMBOL_NOT_ALLOWED,
+    status::SYMBOL_NOT_ALLOWED
+}
+
+fn answer(count: usize, number: u8, place: u32) -> Reading
+    ensures { λ r. ⌜ r ≡ record { count = count; number = number; place = place } ⌝ }
+{
+    Reading {
+        count,
+        number,
         place,
     }
 }
 
-fn at_node(mut s: Progress, node: u8) -> Progress
-    ensures { λ r. ⌜ r ≡ atNode node s ⌝ }
-{
-    s.node = node;
-    s
-}
-
-// Where an outcome is no refusal, the node is the next.
-fn go_to(node: u8, outcome: Outcome) -> Outcome
-    ensures { λ r. ⌜ r ≡ thenAt node outcome ⌝ }
-{
-    match outcome {
-        Outcome::Refuse { number, place } => Outcome::Refuse { number, place },
-        Outcome::Go(s) => Outcome::Go(at_node(s, node)),
-        Outcome::Give(s, item) => Outcome::Give(at_node(s, node), item),
-    }
-}
-
-// What one symbol leads to, by the tables of moves.
-pub fn step(text: &[u8], next: &[u8], acts: &[u8], s: Progress, x: Placed) -> Outcome
-    requires { ⌜ roomForTerm s ⌝ }
-    requires { ⌜ Moves (now next) (now acts) ⌝ }
-    ensures { λ r. ⌜ r ≡ stepped (now (text .entry)) s x ⌝ }
-{
-    let Move::To(action, node) = moves::move_at(next, acts, s.node, x.terminal) else {
-        return refuse_symbol(x);
-    };
-    go_to(node, actions::act(text, s, action, x))
-}
-
 fn begin() -> Progress
-    ensures { λ r. ⌜ r ≡ begun ⌝ }
+    ensures { λ r. ⌜ r ≡ begun .kept ⌝ }
 {
     Progress {
-        node: 0,
         first: FirstNumber {
             start: 0,
             end: 0,
@@ -152,30 +139,29 @@ fn read_symbols(text: &[u8], next: &[u8], acts: &[u8], items: &mut [u32]) -> Rea
     ensures { λ r. ⌜ (r ≡ answered (readItems (now (text .entry)))) × (now (items .exit) ≡ holding (readItems (now (text .entry)) .items) (now (items .entry))) ⌝ }
 {
     let mut s = begin();
+    let mut node = BEGIN;
     let mut at = 0;
     let mut count = 0;
-    while s.node != FINISH {
-        let x = place_symbol(text, reader::find_symbol(text, at));
+    while node != FINISH {
+        let symbol = reader::find_symbol(text, at);
+        let terminal = terminal_of(text, symbol);
+        let x = span_of(symbol);
+        let Move::To(action, then) = moves::move_at(next, acts, node, terminal) else {
+            return answer(count, refusal_of(terminal), x.start);
+        };
         at = x.end as usize;
-        match step(text, next, acts, s, x) {
-            Outcome::Refuse { number, place } => return Reading {
-                count,
-                number,
-                place,
-            },
-            Outcome::Go(then) => s = then,
-            Outcome::Give(then, item) => {
+        node = then;
+        match actions::act(text, s, action, x) {
+            Outcome::Refuse { number, place } => return answer(count, number, place),
+            Outcome::Go(more) => s = more,
+            Outcome::Give(more, item) => {
                 items::store_item(items, count, item);
                 count += 1;
-                s = then;
+                s = more;
             }
         }
     }
-    Reading {
-        count,
-        number: status::DONE,
-        place: 0,
-    }
+    answer(count, status::DONE, 0)
 }
 
 // The items of a text go into the first rows of the slice.
@@ -184,11 +170,7 @@ pub fn read_items(text: &[u8], items: &mut [u32]) -> Reading
     ensures { λ r. ⌜ (r ≡ answered (readItems (now (text .entry)))) × (now (items .exit) ≡ holding (readItems (now (text .entry)) .items) (now (items .entry))) ⌝ }
 {
     if MOST_BYTES < text.len() {
-        return Reading {
-            count: 0,
-            number: status::TEXT_TOO_LONG,
-            place: 0,
-        };
+        return answer(0, status::TEXT_TOO_LONG, 0);
     }
     let next = moves::NEXT;
     let acts = moves::ACTIONS;

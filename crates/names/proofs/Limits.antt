@@ -10,7 +10,7 @@ use borrow.Author.Tests.{leb-true, leb-false}
 use lib.Dec.{T, leb}
 use lib.ListN.{length, length-append}
 use lib.Seq.{slice}
-use Rattle.status.specs.Status.{itemTooMany, noSymbol, symbolNotAllowed, textTooLong}
+use Rattle.status.specs.Status.{itemTooMany, textTooLong}
 use Rattle.symbols.specs.declared.Symbol.{Symbol}
 use Rattle.symbols.specs.declared.Symbol.the-variants as symbol
 use Rattle.symbols.specs.Symbols.{nextSymbol, after, cut, symbolsFrom, symbols}
@@ -30,14 +30,15 @@ use Rattle.grammar.specs.declared.Item.{Item}
 use Rattle.grammar.specs.declared.Item.the-variants as item
 use Rattle.grammar.specs.declared.Counts.{Counts}
 use Rattle.grammar.specs.declared.Progress.{Progress}
-use Rattle.grammar.specs.declared.Placed.{Placed}
+use Rattle.grammar.specs.declared.Span.{Span}
 use Rattle.grammar.specs.declared.Outcome.{Outcome}
 use Rattle.grammar.specs.declared.Outcome.the-variants.{Go, Give, Refuse}
-use Rattle.grammar.specs.Syntax.{Node, Finish, Rule, rules}
-use Rattle.grammar.specs.Terminals.{nodes, nodeAt, nodeNumber, picked, startOf, placed, isNothing}
-use Rattle.grammar.specs.Reading.{Read, limit, soFar, oneMore, mostTerms, mostPositions, nextTerm, withCounts, withPositions, noTerm, unlessFull, counted, termItem, termed, positioned, used, judged, ifAllowed, numbered, acted, thenAt, byRule, stepped, begun, with, readWhole, refusedAt, isFinished, readFrom, mostBytes, readItems}
-use Rattle.grammar.proofs.Table.{each, read-of}
-use Rattle.grammar.proofs.Diagrams.{picked-of}
+use Rattle.grammar.specs.Syntax.{Terminal, Node, Rule, rules}
+use Rattle.grammar.specs.Terminals.{picked, terminalOf, startOf, spanOf}
+use Rattle.grammar.specs.Reading.{Read, limit, soFar, oneMore, mostTerms, mostPositions, nextTerm, withCounts, withPositions, noTerm, unlessFull, counted, termItem, termed, positioned, used, judged, ifAllowed, numbered, acted, Standing, Step, thenAt, byRule, stepped, begun, with, refusedAt, readFrom, mostBytes, readItems}
+use Rattle.grammar.specs.Reading as reading
+use Rattle.grammar.proofs.Table.{each}
+use Rattle.grammar.proofs.Diagrams.{at-each, picked-of}
 use Rattle.names.specs.Parts.{Part, declares, gives, uses, says, part}
 use Rattle.names.specs.Names.{Named, namedBy, declared}
 use Rattle.names.specs.Inner.{InText, mostDeclarations, Declarable}
@@ -94,14 +95,14 @@ Counts′ c p (Refuse n q) = Unit {0}
 Counts′ c p (Go t) = Counting c (t .counts) p []
 Counts′ c p (Give t i) = Counting c (t .counts) p (namedBy (part i) [])
 
-full-counts : (c : Counts) (p most n : ℕ) (x : Placed) (o : Outcome) → (n < most → Counts′ c p o) → Counts′ c p (unlessFull most n x o)
+full-counts : (c : Counts) (p most n : ℕ) (x : Span) (o : Outcome) → (n < most → Counts′ c p o) → Counts′ c p (unlessFull most n x o)
 full-counts c p most n x o h = go (leb most n) refl
   where
     go : (b : Bool) → leb most n ≡ b → Counts′ c p (cond b (Refuse itemTooMany (x .start)) o)
     go true e = tt
     go false e = h (leb-false most n e)
 
-module _ (s : Progress) (x : Placed) where
+module _ (s : Progress) (x : Span) where
   abbrev Fine : Outcome → Type 0
   Fine o = Counts′ (s .counts) (x .start) o
 
@@ -160,7 +161,7 @@ isFit (Mark u) = true
 isFit (Letter u) = true
 isFit CountOrder = true
 
-acted-counts : (text : List ℕ) (s : Progress) (a : Action) (x : Placed) → T (isFit a) → Counts′ (s .counts) (x .start) (acted text s a x)
+acted-counts : (text : List ℕ) (s : Progress) (a : Action) (x : Span) → T (isFit a) → Counts′ (s .counts) (x .start) (acted text s a x)
 unfolding acted isFit
 acted-counts text s Pass x t = same
 acted-counts text s (Declare k) x t = counted-counts s x k t
@@ -194,28 +195,30 @@ rule-fit r = isFit (r .action)
 rules-fit : Node → Bool
 rules-fit q = each rule-fit (rules q)
 
-fit-rule : (k t : ℕ) {r : Rule} → picked (rules (nodeAt k)) t ≡ some r → T (isFit (r .action))
+fit-rule : (n : Node) (t : Terminal) {r : Rule} → picked (rules n) t ≡ some r → T (isFit (r .action))
 unfolding rules-fit rule-fit rules isFit isName
-fit-rule k t e = picked-of rule-fit (rules (nodeAt k)) t (read-of rules-fit nodes Finish tt tt k) e .0
+fit-rule n t e = picked-of rule-fit (rules n) t (at-each rules-fit tt tt n) e .0
 
-step-counts : (text : List ℕ) (s : Progress) (x : Placed) → Counts′ (s .counts) (x .start) (stepped text s x)
+-- what a step counts
+abbrev StepCounts : Counts → ℕ → Step → Type 0
+StepCounts c p (reading.refuse n q) = Unit {0}
+StepCounts c p (reading.go t) = Counting c (t .kept .counts) p []
+StepCounts c p (reading.give t i) = Counting c (t .kept .counts) p (namedBy (part i) [])
+
+step-counts : (text : List ℕ) (s : Standing) (y : Symbol) → StepCounts (s .kept .counts) (startOf y) (stepped text s y)
 unfolding stepped
-step-counts text s x = go (picked (rules (nodeAt (s .node))) (x .terminal)) refl
+step-counts text s y = go (picked (rules (s .node)) (terminalOf text y)) refl
   where
-    next : (n : ℕ) (o : Outcome) → Counts′ (s .counts) (x .start) o → Counts′ (s .counts) (x .start) (thenAt n o)
+    next : (n : Node) (o : Outcome) → Counts′ (s .kept .counts) (startOf y) o → StepCounts (s .kept .counts) (startOf y) (thenAt n o)
     next n (Refuse m p) h = tt
     next n (Go t) h = h
     next n (Give t i) h = h
 
-    refused : (b : Bool) → Counts′ (s .counts) (x .start) (cond b (Refuse noSymbol (x .start)) (Refuse symbolNotAllowed (x .start)))
-    refused true = tt
-    refused false = tt
-
-    go : (o : Option Rule) → picked (rules (nodeAt (s .node))) (x .terminal) ≡ o → Counts′ (s .counts) (x .start) (byRule text s x o)
-    go none e = refused (isNothing x)
+    go : (o : Option Rule) → picked (rules (s .node)) (terminalOf text y) ≡ o → StepCounts (s .kept .counts) (startOf y) (byRule text (s .kept) y o)
+    go none e = tt
     go (some r) e =
-        next (nodeNumber (r .next)) (acted text s (r .action) x)
-        (acted-counts text s (r .action) x (fit-rule (s .node) (x .terminal) e))
+        next (r .next) (acted text (s .kept) (r .action) (spanOf y))
+        (acted-counts text (s .kept) (r .action) (spanOf y) (fit-rule (s .node) (terminalOf text y) e))
 
 -- ---- a whole text
 
@@ -270,25 +273,22 @@ some-left ds {es} w h l =
 abbrev itemsOf : Read → List Item
 itemsOf r = r .items
 
-read-left : (text : List ℕ) (ys : List Symbol) (s : Progress) → Starts ys → Limited (s .counts) → Left (s .counts) (declared (readFrom text s ys .items))
+read-left : (text : List ℕ) (ys : List Symbol) (s : Standing) → Starts ys → Limited (s .kept .counts)
+    → Left (s .kept .counts) (declared (readFrom text s ys .items))
 unfolding readFrom declared
-read-left text [] s h w = none-left (s .counts) w
-read-left text (y ∷ ys) s h w = go (stepped text s (placed text y)) (step-counts text s (placed text y)) (λ t. read-left text ys t (h .1))
+read-left text [] s h w = none-left (s .kept .counts) w
+read-left text (y ∷ ys) s h w = go (stepped text s y) (step-counts text s y) (λ t. read-left text ys t (h .1))
   where
-    go : (o : Outcome) → Counts′ (s .counts) (startOf y) o
-        → ((t : Progress) → Limited (t .counts) → Left (t .counts) (declared (readFrom text t ys .items)))
-        → Left (s .counts) (declared (itemsOf (elim o [
-          | Refuse n p ↦ refusedAt n p
-          | Go t ↦ elim (isFinished t) [ true ↦ readWhole | false ↦ readFrom text t ys ]
-          | Give t i ↦ with i (readFrom text t ys)
+    go : (o : Step) → StepCounts (s .kept .counts) (startOf y) o
+        → ((t : Standing) → Limited (t .kept .counts) → Left (t .kept .counts) (declared (readFrom text t ys .items)))
+        → Left (s .kept .counts) (declared (itemsOf (elim o [
+          | reading.refuse n p ↦ refusedAt n p
+          | reading.go t ↦ readFrom text t ys
+          | reading.give t i ↦ with i (readFrom text t ys)
         ])))
-    go (Refuse n p) c later = none-left (s .counts) w
-    go (Go t) c later = ended (isFinished t)
-      where
-        ended : (b : Bool) → Left (s .counts) (declared (itemsOf (elim b [ true ↦ readWhole | false ↦ readFrom text t ys ])))
-        ended true = none-left (s .counts) w
-        ended false = some-left [] c (h .0) (later t (c .limits w))
-    go (Give t i) c later = rw names-front (some-left (namedBy (part i) []) c (h .0) (later t (c .limits w)))
+    go (reading.refuse n p) c later = none-left (s .kept .counts) w
+    go (reading.go t) c later = some-left [] c (h .0) (later t (c .limits w))
+    go (reading.give t i) c later = rw names-front (some-left (namedBy (part i) []) c (h .0) (later t (c .limits w)))
 
 pub read-declarable : (text : List ℕ) → Declarable (readItems text .items)
 unfolding readItems symbols symbolsFrom declared total

@@ -16,8 +16,8 @@ use Rattle.grammar.specs.declared.Progress.{Progress}
 use Rattle.grammar.specs.declared.Outcome.{Outcome}
 use Rattle.grammar.specs.declared.Outcome.the-variants.{Go, Give, Refuse}
 use Rattle.grammar.specs.Syntax.{Terminal}
-use Rattle.grammar.specs.Terminals.{terminalNumber, terminalOf, placed}
-use Rattle.grammar.specs.Reading.{mostTerms, mostPositions, atNode, acted}
+use Rattle.grammar.specs.Terminals.{terminalOf, spanOf}
+use Rattle.grammar.specs.Reading.{mostTerms, mostPositions, acted}
 use Rattle.program.specs.Allowed.{Decimal, Degree, Letter}
 use Rattle.program.proofs.Formed.{TermItems, no-term, add-term, subtract-term, PlaceItems, no-place, muted-place, tone-place, PositionItems, no-position, muted-position, kept-position, tone-position, StartItems, OrderItems, Some, Body, Formed, declaration}
 use Rattle.program.proofs.Walk.{Keeps, refuses, goes, gives}
@@ -127,33 +127,32 @@ Fit s = FitFactor (s .term .factor)
 
 -- ---- a step from stage to stage
 
--- what an outcome leads to, from stage P and progress s to stage Q, at node n
-pub data Leads (P Q : Stage) (n : ℕ) (s : Progress) : Outcome → Type 0 where
-  refused : {k p : ℕ} → (k ≡ done → ⊥) → Leads P Q n s (Refuse k p)
-  passed : {t : Progress} → (Fit s → Fit t) → ((is : List Item) → Comes Q (atNode n t) is → Comes P s is) → Leads P Q n s (Go t)
-  given : {t : Progress} {i : Item} → (Fit s → Fit t) → ((is : List Item) → Fit s → Comes Q (atNode n t) is → Comes P s (i ∷ is))
-      → Leads P Q n s (Give t i)
-  declares : {t : Progress} {k : Kind} {p : ℕ} → Fit t → Comes P s [] → ((is : List Item) → Comes Q (atNode n t) is → Body k is)
-      → Leads P Q n s (Give t (item.Declared k p))
+-- what an outcome leads to, from stage P and progress s to stage Q
+pub data Leads (P Q : Stage) (s : Progress) : Outcome → Type 0 where
+  refused : {k p : ℕ} → (k ≡ done → ⊥) → Leads P Q s (Refuse k p)
+  passed : {t : Progress} → (Fit s → Fit t) → ((is : List Item) → Comes Q t is → Comes P s is) → Leads P Q s (Go t)
+  given : {t : Progress} {i : Item} → (Fit s → Fit t) → ((is : List Item) → Fit s → Comes Q t is → Comes P s (i ∷ is))
+      → Leads P Q s (Give t i)
+  declares : {t : Progress} {k : Kind} {p : ℕ} → Fit t → Comes P s [] → ((is : List Item) → Comes Q t is → Body k is)
+      → Leads P Q s (Give t (item.Declared k p))
 
 -- an action at a symbol leads from stage P to stage Q
 pub record Move (t : Terminal) (P : Stage) (a : Action) (Q : Stage) : Type 0 where
-  pub leads : (text : List ℕ) (n : ℕ) (s : Progress) (y : Symbol) → terminalNumber (terminalOf text y) ≡ terminalNumber t
-      → Leads P Q n s (acted text s a (placed text y))
+  pub leads : (text : List ℕ) (s : Progress) (y : Symbol) → terminalOf text y ≡ t → Leads P Q s (acted text s a (spanOf y))
 
 -- such a step keeps what is ahead
-pub keeps-ahead : {P Q : Stage} {n : ℕ} {s : Progress} {o : Outcome} → Leads P Q n s o
-    → Keeps (λ t is. Fit t → Ahead Q (atNode n t) is) (λ is. Fit s → Ahead P s is) o
+pub keeps-ahead : {P Q : Stage} {s : Progress} {o : Outcome} → Leads P Q s o
+    → Keeps (λ t is. Fit t → Ahead Q t is) (λ is. Fit s → Ahead P s is) o
 keeps-ahead (refused not-done) = refuses not-done
-keeps-ahead {P} {Q} {n} {s} (passed {t = t} fit c) = goes t (λ is later f. on (later (fit f)))
+keeps-ahead {P} {Q} {s} (passed {t = t} fit c) = goes t (λ is later f. on (later (fit f)))
   where
-    on : {is : List Item} → Ahead Q (atNode n t) is → Ahead P s is
+    on : {is : List Item} → Ahead Q t is → Ahead P s is
     on (ahead is w r) = ahead is (c is w) r
-keeps-ahead {P} {Q} {n} {s} (given {t = t} {i = i} fit c) = gives t i (λ is later f. on f (later (fit f)))
+keeps-ahead {P} {Q} {s} (given {t = t} {i = i} fit c) = gives t i (λ is later f. on f (later (fit f)))
   where
-    on : {is : List Item} → Fit s → Ahead Q (atNode n t) is → Ahead P s (i ∷ is)
+    on : {is : List Item} → Fit s → Ahead Q t is → Ahead P s (i ∷ is)
     on f (ahead is w r) = ahead (i ∷ is) (c is f w) r
-keeps-ahead {P} {Q} {n} {s} (declares {t = t} {k = k} {p = p} fit e c) = gives t (item.Declared k p) (λ is later f. on (later fit))
+keeps-ahead {P} {Q} {s} (declares {t = t} {k = k} {p = p} fit e c) = gives t (item.Declared k p) (λ is later f. on (later fit))
   where
-    on : {is : List Item} → Ahead Q (atNode n t) is → Ahead P s (item.Declared k p ∷ is)
+    on : {is : List Item} → Ahead Q t is → Ahead P s (item.Declared k p ∷ is)
     on (ahead is w r) = ahead [] e (declaration (c is w) r)

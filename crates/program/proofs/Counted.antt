@@ -15,22 +15,22 @@ use Rattle.grammar.specs.declared.NumberUse.{NumberUse}
 use Rattle.grammar.specs.declared.NumberUse.the-variants.{RatioFirst, RatioSecond, Degree, Radicand, FirstFactor, Factor, Frequency, AnchorKey, AnchorTo, AnchorUp, AnchorDown, WidthTo, WidthUp, WidthDown, WidthTimes, WidthOver}
 use Rattle.grammar.specs.declared.NameUse.the-variants.{Term, Base, Position, Start, Order}
 use Rattle.grammar.specs.declared.MarkUse.the-variants.{MutedPosition, KeptPosition, KeptAnchor, KeptWidth, Period, Onward}
-use Rattle.grammar.specs.declared.LetterUse.the-variants.{LogicLetter, OrderLetter}
+use Rattle.grammar.specs.declared.LetterUse.the-variants.{LogicLetter, OrderLetter as LetterOfOrder}
 use Rattle.grammar.specs.declared.Action.{Action}
 use Rattle.grammar.specs.declared.Action.the-variants.{Pass, Declare, Hold, Held, Number, Sign, Name, Mark, Letter, CountOrder}
 use Rattle.grammar.specs.declared.Item.{Item}
 use Rattle.grammar.specs.declared.Item.the-variants as item
 use Rattle.grammar.specs.declared.Counts.{Counts}
 use Rattle.grammar.specs.declared.Progress.{Progress}
-use Rattle.grammar.specs.declared.Placed.{Placed}
+use Rattle.grammar.specs.declared.Span.{Span}
 use Rattle.grammar.specs.declared.Outcome.{Outcome}
 use Rattle.grammar.specs.declared.Outcome.the-variants.{Go, Give, Refuse}
-use Rattle.grammar.specs.Syntax.{Node, Finish, OrderKey, OrderArrow, Rule, rules}
-use Rattle.grammar.specs.Terminals.{nodes, nodeAt, nodeNumber, picked, placed}
-use Rattle.grammar.specs.Moves.{kindNumber, actionAt}
+use Rattle.grammar.specs.Syntax.{Terminal, Node, OrderLetter, OrderName, Rule, rules}
+use Rattle.grammar.specs.Terminals.{picked, terminalOf, spanOf}
+use Rattle.grammar.specs.Moves.{nodeNumber, kindNumber, actionAt}
 use Rattle.grammar.specs.Reading.{limit, soFar, oneMore, mostTerms, mostPositions, nextTerm, withPositions, noTerm, unlessFull, termItem, termed, positioned, used, numbered, acted, readItems}
-use Rattle.grammar.proofs.Table.{each, read-of}
-use Rattle.grammar.proofs.Diagrams.{picked-of}
+use Rattle.grammar.proofs.Table.{each}
+use Rattle.grammar.proofs.Diagrams.{at-each, picked-of}
 use Rattle.grammar.proofs.ActionNumbers.{action-back}
 use Rattle.names.specs.Parts.{part}
 use Rattle.names.specs.Names.{Named, namedBy, declared}
@@ -109,7 +109,7 @@ data Counting (s : Progress) : Action → Outcome → Type 0 where
   ordering : {t : Progress} → soFar AnOrder (s .counts) < limit AnOrder → t .counts ≡ oneMore AnOrder (s .counts) → Counting s CountOrder (Go t)
   calling : {c q : ℕ} {t : Progress} → t .counts ≡ s .counts → Counting s (Name Order) (Give t (item.Order c q))
 
-module _ (s : Progress) (x : Placed) where
+module _ (s : Progress) (x : Span) where
   -- an action of weight 1
   module _ (a : Action) (w : weight a ≡ 1) where
     term-counting : (f : ℕ) → Counting s a (termed s f x)
@@ -166,7 +166,7 @@ module _ (s : Progress) (x : Placed) where
   acted-counting text (Mark Period) = giving refl refl refl refl
   acted-counting text (Mark Onward) = giving refl refl refl refl
   acted-counting text (Letter LogicLetter) = giving refl refl refl refl
-  acted-counting text (Letter OrderLetter) = passing refl refl
+  acted-counting text (Letter LetterOfOrder) = passing refl refl
   acted-counting text CountOrder = full CountOrder (limit AnOrder) (soFar AnOrder (s .counts)) _ (λ h. ordering h refl)
 
 -- ---- declared names
@@ -210,25 +210,24 @@ unfolding declared namesOf
 few-names text e k = omega (arith, walk text (λ _. NamesLeft k) (λ s. omega arith) kept e)
   where
     kept : Kept text (λ _. NamesLeft k)
-    kept m s y r q = names-kept k s (acted-counting s (placed text y) text (r .action))
+    kept m s y r q = names-kept k s (acted-counting s (spanOf y) text (r .action))
 
 -- ---- orders
 
 -- the orders that are counted and not yet given, at a node: one from KEY to the arrow
 abbrev owed : Node → ℕ
-owed q = cond (leb (nodeNumber OrderKey) (nodeNumber q) && leb (nodeNumber q) (nodeNumber OrderArrow)) 1 0
+owed q = cond (leb (nodeNumber OrderLetter) (nodeNumber q) && leb (nodeNumber q) (nodeNumber OrderName)) 1 0
 
 -- no rule gives an order that is not owed
 balanced : Node → Rule → Bool
-balanced q r = leb (owed (nodeAt (nodeNumber (r .next))) + weight (r .action)) (owed q + 1)
+balanced q r = leb (owed (r .next) + weight (r .action)) (owed q + 1)
 
 all-balanced : Node → Bool
 all-balanced q = each (balanced q) (rules q)
 
-balance : (m t : ℕ) {r : Rule} → picked (rules (nodeAt m)) t ≡ some r
-    → owed (nodeAt (nodeNumber (r .next))) + weight (r .action) ≤ owed (nodeAt m) + 1
+balance : (q : Node) (t : Terminal) {r : Rule} → picked (rules q) t ≡ some r → owed (r .next) + weight (r .action) ≤ owed q + 1
 unfolding all-balanced balanced rules
-balance m t e = leb→le _ _ (picked-of (balanced (nodeAt m)) (rules (nodeAt m)) t (read-of all-balanced nodes Finish tt tt m) e .0)
+balance q t e = leb→le _ _ (picked-of (balanced q) (rules q) t (at-each all-balanced tt tt q) e .0)
 
 abbrev OrdersLeft : Node → Progress → List Item → Type 0
 OrdersLeft q s is = orderItems is ≤ left AnOrder (s .counts) + owed q
@@ -250,5 +249,4 @@ unfolding orderItems
 few-orders text e = omega (arith, walk text OrdersLeft (λ s. omega arith) kept e)
   where
     kept : Kept text OrdersLeft
-    kept m s y r q =
-        orders-kept (nodeAt m) (nodeAt (nodeNumber (r .next))) s (balance m _ q) (acted-counting s (placed text y) text (r .action))
+    kept n s y r q = orders-kept n (r .next) s (balance n (terminalOf text y) q) (acted-counting s (spanOf y) text (r .action))

@@ -12,22 +12,22 @@ use Rattle.grammar.specs.declared.Action.the-variants.{Pass, Number, Name, Mark
 use Rattle.grammar.specs.declared.Item.{Item}
 use Rattle.grammar.specs.declared.Item.the-variants as item
 use Rattle.grammar.specs.declared.Progress.{Progress}
-use Rattle.grammar.specs.declared.Placed.{Placed}
+use Rattle.grammar.specs.declared.Span.{Span}
 use Rattle.grammar.specs.Syntax.{Terminal}
-use Rattle.grammar.specs.Terminals.{placed}
-use Rattle.grammar.specs.Reading.{allowed, mostTerms, mostPositions, atNode, withPositions, noTerm, positioned, acted}
+use Rattle.grammar.specs.Terminals.{spanOf}
+use Rattle.grammar.specs.Reading.{allowed, mostTerms, mostPositions, withPositions, noTerm, positioned, acted}
 use Rattle.program.proofs.Formed.{no-term, no-place, muted-place, tone-place, PositionItems, no-position, muted-position, kept-position, tone-position, something, Body, a-system, a-tones}
 use Rattle.program.proofs.Ranges.{InRange}
 use Rattle.program.proofs.Ahead.{more-places, more-positions, Stage, nothing, body, sequence, place, places, positions, toneTerms, Places, places-then, SomePlaces, some-places-then, ToneTerms, terms-then, positionsLeft, Comes, Leads, given, Move}
 use Rattle.program.proofs.Steps.{full, fit-one, one-fewer, one-of, passing, nothing-more, Ending, numbering}
 
 -- after one more position, with no term yet
-abbrev onePosition : ℕ → Progress → Progress
-onePosition n s = atNode n (withPositions (s .positions + 1) (noTerm s))
+abbrev onePosition : Progress → Progress
+onePosition s = withPositions (s .positions + 1) (noTerm s)
 
-positioning : {P Q : Stage} (n : ℕ) (s : Progress) (x : Placed) (i : Item)
-    → (s .positions < mostPositions → (is : List Item) → Comes Q (onePosition n s) is → Comes P s (i ∷ is)) → Leads P Q n s (positioned s i x)
-positioning n s x i h = full n s mostPositions (s .positions) x _ (λ l. given (λ _. fit-one) (λ is f c. h l is c))
+positioning : {P Q : Stage} (s : Progress) (x : Span) (i : Item)
+    → (s .positions < mostPositions → (is : List Item) → Comes Q (onePosition s) is → Comes P s (i ∷ is)) → Leads P Q s (positioned s i x)
+positioning s x i h = full s mostPositions (s .positions) x _ (λ l. given (λ _. fit-one) (λ is f c. h l is c))
 
 -- ---- of a tone system
 
@@ -53,21 +53,21 @@ anchored p h (some-places-then ps l ts) = a-system (h .1) (more-places (sub-le m
 
 module _ {t : Terminal} where
   pub system-anchor : Move t (body System) (Number AnchorKey) place
-  system-anchor = numbering (λ n s x v h. given (λ f. f) (λ is f c. anchored (s .positions) h c))
+  system-anchor = numbering (λ s x v h. given (λ f. f) (λ is f c. anchored (s .positions) h c))
 
   pub muted-place-mark : {Q : Stage} → AfterPlace Q → Move t place (Mark MutedPosition) Q
   unfolding acted
   muted-place-mark after = record {
-    leads = λ text n s y e.
-        positioning n s (placed text y) item.MutedPosition (λ h is c. muted-first (one-fewer h) (after (onePosition n s) is c));
+    leads = λ text s y e.
+        positioning s (spanOf y) item.MutedPosition (λ h is c. muted-first (one-fewer h) (after (onePosition s) is c));
   }
 
   pub tone-place-name : Move t place (Name Position) places
   unfolding acted
-  tone-place-name = record { leads = λ text n s y e. positioning n s (placed text y) _ (λ h is c. tone-first (one-fewer h) c) }
+  tone-place-name = record { leads = λ text s y e. positioning s (spanOf y) _ (λ h is c. tone-first (one-fewer h) c) }
 
   pub place-end : {Q : Stage} → AfterPlace Q → Move t places Pass Q
-  place-end after = passing (λ n s is c. after (atNode n s) is c)
+  place-end after = passing (λ s is c. after s is c)
 
 -- ---- of a tones retuning
 
@@ -102,20 +102,20 @@ module _ {t : Terminal} {P : Stage} (lists : Lists P) where
   pub muted-mark : {Q : Stage} → AfterMuted Q → Move t P (Mark MutedPosition) Q
   unfolding acted
   muted-mark after = record {
-    leads = λ text n s y e.
-        positioning n s (placed text y) item.MutedPosition (λ h is c. lists s _ is h (muted-position (after (onePosition n s) is c)));
+    leads = λ text s y e.
+        positioning s (spanOf y) item.MutedPosition (λ h is c. lists s _ is h (muted-position (after (onePosition s) is c)));
   }
 
   pub kept-mark : Move t P (Mark KeptPosition) toneTerms
   unfolding acted
-  kept-mark = record { leads = λ text n s y e. positioning n s (placed text y) item.KeptPosition (λ h is c. lists s _ is h (kept-first c)) }
+  kept-mark = record { leads = λ text s y e. positioning s (spanOf y) item.KeptPosition (λ h is c. lists s _ is h (kept-first c)) }
 
   pub tone-name : Move t P (Name Position) toneTerms
   unfolding acted
-  tone-name = record { leads = λ text n s y e. positioning n s (placed text y) _ (λ h is c. lists s _ is h (tone-with-terms c)) }
+  tone-name = record { leads = λ text s y e. positioning s (spanOf y) _ (λ h is c. lists s _ is h (tone-with-terms c)) }
 
 pub position-end : {t : Terminal} → Move t toneTerms Pass positions
-position-end = passing (λ n s is c. terms-then no-term c)
+position-end = passing (λ s is c. terms-then no-term c)
 
 pub positions-may-end : Ending toneTerms
 positions-may-end s = terms-then no-term no-position

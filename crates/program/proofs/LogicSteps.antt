@@ -9,7 +9,7 @@ use Rattle.grammar.specs.declared.Action.the-variants.{Pass, Name, Letter as AL
 use Rattle.grammar.specs.declared.Item.{Item}
 use Rattle.grammar.specs.declared.Item.the-variants as item
 use Rattle.grammar.specs.Syntax.{Terminal, letter}
-use Rattle.grammar.specs.Terminals.{placed}
+use Rattle.grammar.specs.Terminals.{spanOf}
 use Rattle.grammar.specs.Reading.{limit, soFar, acted}
 use Rattle.program.specs.Allowed.{Letter}
 use Rattle.program.proofs.Formed.{no-start, a-start, an-order, Body, a-logic}
@@ -22,26 +22,26 @@ logic-with l (start-then ss os) = a-logic l ss os
 
 pub logic-letter : Move letter (body Logic) (ALetter LogicLetter) start
 unfolding acted
-logic-letter = record { leads = λ text n s y e. given (λ f. f) (λ is f c. logic-with (letter-there text y e) c) }
+logic-letter = record { leads = λ text s y e. given (λ f. f) (λ is f c. logic-with (letter-there text y e) c) }
 
 pub order-letter : Move letter orders (ALetter OrderLetter) order
 unfolding acted
-order-letter = record { leads = λ text n s y e. passed (λ f. f) (λ is c. c (letter-there text y e)) }
+order-letter = record { leads = λ text s y e. passed (λ f. f) (λ is c. c (letter-there text y e)) }
 
 module _ {t : Terminal} where
   pub start-name : Move t start (Name Start) orders
   unfolding acted
-  start-name = record { leads = λ text n s y e. given (λ f. f) (λ is f os. start-then a-start os) }
+  start-name = record { leads = λ text s y e. given (λ f. f) (λ is f os. start-then a-start os) }
 
   pub start-none : Move t start Pass orders
-  start-none = passing (λ n s is os. start-then no-start os)
+  start-none = passing (λ s is os. start-then no-start os)
 
   pub order-key : Move t orders CountOrder orders
   unfolding acted
   order-key = record {
-    leads = λ text n s y e. full n s (limit AnOrder) (soFar AnOrder (s .counts)) (placed text y) _ (λ h. passed (λ f. f) (λ is c. c));
+    leads = λ text s y e. full s (limit AnOrder) (soFar AnOrder (s .counts)) (spanOf y) _ (λ h. passed (λ f. f) (λ is c. c));
   }
 
   pub order-name : Move t order (Name Order) orders
   unfolding acted
-  order-name = record { leads = λ text n s y e. given (λ f. f) (λ is f os l. an-order l os) }
+  order-name = record { leads = λ text s y e. given (λ f. f) (λ is f os l. an-order l os) }

@@ -1,6 +1,6 @@
 -- What is read of a number or of a letter is allowed.
 -- Assumes nothing.
-use mathlib.Core.Path.{_≡_, refl}
+use mathlib.Core.Path.{_≡_, refl, ap}
 use mathlib.Core.Bool.{Bool, true, false, cond, _&&_, and-eq-true-iff}
 use mathlib.Core.List.{List, [], _∷_}
 use Prim.Native.Nat.{ℕ, _-_, _≤_}
@@ -11,10 +11,7 @@ use lib.ListN.{length}
 use lib.Seq.{slice}
 use Rattle.symbols.specs.declared.Symbol.{Symbol}
 use Rattle.symbols.specs.declared.Symbol.the-variants as symbol
-use Rattle.symbols.specs.declared.MarkKind.{MarkKind}
-use Rattle.symbols.specs.declared.MarkKind.the-variants as mark
 use Rattle.symbols.specs.declared.words.Word.{Word}
-use Rattle.symbols.specs.declared.words.Word.the-variants as word
 use Rattle.symbols.specs.declared.spelling.Letter.{Letter as Spelled}
 use Rattle.symbols.specs.declared.spelling.Letter.the-variants.{Missing, Capital}
 use Rattle.ascii.specs.Ascii.{byte}
@@ -29,8 +26,9 @@ use Rattle.grammar.specs.declared.NumberUse.the-variants as numberUse
 use Rattle.grammar.specs.declared.NumberRange.{NumberRange}
 use Rattle.grammar.specs.declared.NumberRange.the-variants as range
 use Rattle.grammar.specs.Syntax.{letter}
-use Rattle.grammar.specs.Terminals.{terminalNumber, ofWord, ofLetter, ofMark, terminalOf, placed, capital, letterAt}
+use Rattle.grammar.specs.Terminals.{terminalNumber, ofLetter, terminalOf, spanOf, capital, letterAt}
 use Rattle.grammar.specs.Reading.{allowed, within, judged}
+use Rattle.grammar.proofs.Numbered.{word-apart, mark-apart}
 use Rattle.program.specs.Allowed.{Decimal, Degree, Letter}
 
 -- ---- numbers
@@ -111,45 +109,18 @@ letter-fits (b ∷ []) = go (among "a" "z" (small b)) refl
     go false e = tt
 letter-fits (b ∷ c ∷ more) = tt
 
-word-no-letter : (w : Word) → terminalNumber (ofWord w) ≡ terminalNumber letter → ⊥
-word-no-letter word.Interval e = omega arith
-word-no-letter word.Tone e = omega arith
-word-no-letter word.ToneSystem e = omega arith
-word-no-letter word.Retuning e = omega arith
-word-no-letter word.Logic e = omega arith
-word-no-letter word.Key e = omega arith
-word-no-letter word.Root e = omega arith
-word-no-letter word.Unused e = omega arith
-word-no-letter word.Plain e = omega arith
-
-mark-no-letter : (k : MarkKind) → terminalNumber (ofMark k) ≡ terminalNumber letter → ⊥
-mark-no-letter mark.Equals e = omega arith
-mark-no-letter mark.Colon e = omega arith
-mark-no-letter mark.Plus e = omega arith
-mark-no-letter mark.Minus e = omega arith
-mark-no-letter mark.Times e = omega arith
-mark-no-letter mark.Divide e = omega arith
-mark-no-letter mark.Open e = omega arith
-mark-no-letter mark.Close e = omega arith
-mark-no-letter mark.Comma e = omega arith
-mark-no-letter mark.At e = omega arith
-mark-no-letter mark.WidthOpen e = omega arith
-mark-no-letter mark.WidthClose e = omega arith
-mark-no-letter mark.Arrow e = omega arith
-
 -- a symbol that the syntax takes for a letter is one
-pub letter-there : (text : List ℕ) (y : Symbol) → terminalNumber (terminalOf text y) ≡ terminalNumber letter
-    → Letter (letterAt text (placed text y))
+pub letter-there : (text : List ℕ) (y : Symbol) → terminalOf text y ≡ letter → Letter (letterAt text (spanOf y))
 unfolding terminalOf
 letter-there text (symbol.Name a b) e = go (letterOf (slice a b text)) (letter-fits (slice a b text)) e
   where
     w : Word
     w = wordOf (spelled (slice a b text))
 
-    go : (l : Spelled) → LetterFits l → terminalNumber (ofLetter l w) ≡ terminalNumber letter → Letter (capital l)
-    go Missing h q = absurd (word-no-letter w q)
+    go : (l : Spelled) → LetterFits l → ofLetter l w ≡ letter → Letter (capital l)
+    go Missing h q = absurd (word-apart w .0 q)
     go (Capital c) h q = h
-letter-there text (symbol.Number a b) e = absurd (omega arith)
-letter-there text (symbol.Mark k a b) e = absurd (mark-no-letter k e)
-letter-there text (symbol.End a) e = absurd (omega arith)
-letter-there text (symbol.Bad a) e = absurd (omega arith)
+letter-there text (symbol.Number a b) e = let z = ap terminalNumber e in absurd (omega arith)
+letter-there text (symbol.Mark k a b) e = absurd (mark-apart k .0 e)
+letter-there text (symbol.End a) e = let z = ap terminalNumber e in absurd (omega arith)
+letter-there text (symbol.Bad a) e = let z = ap terminalNumber e in absurd (omega arith)

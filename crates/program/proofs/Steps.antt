@@ -12,12 +12,12 @@ use Rattle.grammar.specs.declared.Action.the-variants.{Pass, Declare, Hold, Hel
 use Rattle.grammar.specs.declared.Item.{Item}
 use Rattle.grammar.specs.declared.Item.the-variants as item
 use Rattle.grammar.specs.declared.Progress.{Progress}
-use Rattle.grammar.specs.declared.Placed.{Placed}
+use Rattle.grammar.specs.declared.Span.{Span}
 use Rattle.grammar.specs.declared.Outcome.{Outcome}
 use Rattle.grammar.specs.declared.Outcome.the-variants.{Give}
 use Rattle.grammar.specs.Syntax.{Terminal}
-use Rattle.grammar.specs.Terminals.{placed}
-use Rattle.grammar.specs.Reading.{allowed, limit, soFar, atNode, unlessFull, used, acted}
+use Rattle.grammar.specs.Terminals.{spanOf}
+use Rattle.grammar.specs.Reading.{allowed, limit, soFar, unlessFull, used, acted}
 use Rattle.program.proofs.Formed.{Body, a-ratio, a-root, a-frequency, anchor-kept, anchor-to, anchor-up, anchor-down, width-kept, width-to, width-up, width-down, width-times, width-over}
 use Rattle.program.proofs.Ranges.{InRange, degree}
 use Rattle.program.proofs.Outcomes.{unless-full, if-allowed}
@@ -25,9 +25,9 @@ use Rattle.program.proofs.Ahead.{Stage, nothing, body, secondPart, radi
 
 -- ---- any stage
 
-pub full : {P Q : Stage} (n : ℕ) (s : Progress) (most k : ℕ) (x : Placed) (o : Outcome) → (k < most → Leads P Q n s o)
-    → Leads P Q n s (unlessFull most k x o)
-full {P} {Q} n s = unless-full (Leads P Q n s) (λ k p. refused)
+pub full : {P Q : Stage} (s : Progress) (most k : ℕ) (x : Span) (o : Outcome) → (k < most → Leads P Q s o)
+    → Leads P Q s (unlessFull most k x o)
+full {P} {Q} s = unless-full (Leads P Q s) (λ k p. refused)
 
 -- the factor 1
 pub fit-one : FitFactor 1
@@ -40,9 +40,9 @@ one-fewer h = omega arith
 pub one-of : (most k : ℕ) → 0 < most → suc (most - (k + 1)) ≤ most
 one-of most k h = omega arith
 
-pub passing : {t : Terminal} {P Q : Stage} → ((n : ℕ) (s : Progress) (is : List Item) → Comes Q (atNode n s) is → Comes P s is) → Move t P Pass Q
+pub passing : {t : Terminal} {P Q : Stage} → ((s : Progress) (is : List Item) → Comes Q s is → Comes P s is) → Move t P Pass Q
 unfolding acted
-passing c = record { leads = λ text n s y e. passed (λ f. f) (c n s) }
+passing c = record { leads = λ text s y e. passed (λ f. f) (c s) }
 
 -- a declaration may end here
 abbrev pub Ending : Stage → Type 0
@@ -51,90 +51,90 @@ Ending P = (s : Progress) → Comes P s []
 pub declaring : {t : Terminal} {P : Stage} {k : Kind} → Ending P → Move t P (Declare k) (body k)
 unfolding acted
 declaring {k = k} end = record {
-  leads = λ text n s y e. full n s (limit k) (soFar k (s .counts)) (placed text y) _ (λ h. declares fit-one (end s) (λ is c. c));
+  leads = λ text s y e. full s (limit k) (soFar k (s .counts)) (spanOf y) _ (λ h. declares fit-one (end s) (λ is c. c));
 }
 
 pub nothing-more : (B : List Item → Type 0) {is : List Item} → B [] → Nothing is → B is
 nothing-more B h no-item = h
 
 pub ending : {t : Terminal} {P : Stage} → Ending P → Move t P Pass nothing
-ending {P = P} end = passing (λ n s is c. nothing-more (Comes P s) (end s) c)
+ending {P = P} end = passing (λ s is c. nothing-more (Comes P s) (end s) c)
 
 -- a number, read at once or held
 module _ {t : Terminal} {P Q : Stage} {u : NumberUse}
-    (h : (n : ℕ) (s : Progress) (x : Placed) (v : ℕ) → InRange (allowed u) v → Leads P Q n s (used s u v x)) where
+    (h : (s : Progress) (x : Span) (v : ℕ) → InRange (allowed u) v → Leads P Q s (used s u v x)) where
   pub numbering : Move t P (Number u) Q
   unfolding acted
   numbering = record {
-    leads = λ text n s y e.
-        let x = placed text y in
-        if-allowed (Leads P Q n s) (λ k p. refused) text s u (x .start) (x .end) x (h n s x);
+    leads = λ text s y e.
+        let x = spanOf y in
+        if-allowed (Leads P Q s) (λ k p. refused) text s u (x .start) (x .end) x (h s x);
   }
 
   pub holding : Move t P (Held u) Q
   unfolding acted
   holding = record {
-    leads = λ text n s y e.
-        let x = placed text y in
-        if-allowed (Leads P Q n s) (λ k p. refused) text s u (s .first .start) (s .first .end) x (h n s x);
+    leads = λ text s y e.
+        let x = spanOf y in
+        if-allowed (Leads P Q s) (λ k p. refused) text s u (s .first .start) (s .first .end) x (h s x);
   }
 
 -- ---- declarations of one item
 
-only : {k : Kind} {n : ℕ} {s : Progress} {i : Item} → Body k (i ∷ []) → Leads (body k) nothing n s (Give s i)
+only : {k : Kind} {s : Progress} {i : Item} → Body k (i ∷ []) → Leads (body k) nothing s (Give s i)
 only {k} {i = i} h = given (λ f. f) (λ is f c. nothing-more (λ (l : List Item). Body k (i ∷ l)) h c)
 
 module _ {t : Terminal} where
   pub frequency : Move t (body Tone) (Number Frequency) nothing
-  frequency = numbering (λ n s x v h. only (a-frequency h))
+  frequency = numbering (λ s x v h. only (a-frequency h))
 
   pub anchor-number : Move t (body Retuning) (Number AnchorTo) nothing
-  anchor-number = numbering (λ n s x v h. only (anchor-to (h .1)))
+  anchor-number = numbering (λ s x v h. only (anchor-to (h .1)))
 
   pub anchor-plus : Move t (body Retuning) (Number AnchorUp) nothing
-  anchor-plus = numbering (λ n s x v h. only (anchor-up (h .1)))
+  anchor-plus = numbering (λ s x v h. only (anchor-up (h .1)))
 
   pub anchor-minus : Move t (body Retuning) (Number AnchorDown) nothing
-  anchor-minus = numbering (λ n s x v h. only (anchor-down (h .1)))
+  anchor-minus = numbering (λ s x v h. only (anchor-down (h .1)))
 
   pub anchor-same : Move t (body Retuning) (Mark KeptAnchor) nothing
   unfolding acted
-  anchor-same = record { leads = λ text n s y e. only anchor-kept }
+  anchor-same = record { leads = λ text s y e. only anchor-kept }
 
   pub width-number : Move t (body Retuning) (Number WidthTo) nothing
-  width-number = numbering (λ n s x v h. only (width-to (h .1)))
+  width-number = numbering (λ s x v h. only (width-to (h .1)))
 
   pub width-plus : Move t (body Retuning) (Number WidthUp) nothing
-  width-plus = numbering (λ n s x v h. only (width-up (h .1)))
+  width-plus = numbering (λ s x v h. only (width-up (h .1)))
 
   pub width-minus : Move t (body Retuning) (Number WidthDown) nothing
-  width-minus = numbering (λ n s x v h. only (width-down (h .1)))
+  width-minus = numbering (λ s x v h. only (width-down (h .1)))
 
   pub width-asterisk : Move t (body Retuning) (Number WidthTimes) nothing
-  width-asterisk = numbering (λ n s x v h. only (width-times (h .1)))
+  width-asterisk = numbering (λ s x v h. only (width-times (h .1)))
 
   pub width-slash : Move t (body Retuning) (Number WidthOver) nothing
-  width-slash = numbering (λ n s x v h. only (width-over (h .0) (h .1)))
+  width-slash = numbering (λ s x v h. only (width-over (h .0) (h .1)))
 
   pub width-same : Move t (body Retuning) (Mark KeptWidth) nothing
   unfolding acted
-  width-same = record { leads = λ text n s y e. only width-kept }
+  width-same = record { leads = λ text s y e. only width-kept }
 
   -- a ratio and a root: their first number is held, and judged by the symbol after it
   pub hold : Move t (body Interval) Hold (body Interval)
   unfolding acted
-  hold = record { leads = λ text n s y e. passed (λ f. f) (λ is c. c) }
+  hold = record { leads = λ text s y e. passed (λ f. f) (λ is c. c) }
 
   pub ratio-first : Move t (body Interval) (Held RatioFirst) secondPart
-  ratio-first = holding (λ n s x v h. passed (λ f. f) (λ is c. c h))
+  ratio-first = holding (λ s x v h. passed (λ f. f) (λ is c. c h))
 
   pub ratio-second : Move t secondPart (Number RatioSecond) nothing
-  ratio-second = numbering (λ n s x v h.
+  ratio-second = numbering (λ s x v h.
       given (λ f. f) (λ is f c d. nothing-more (λ (l : List Item). Body Interval (item.Ratio (s .first .value) v ∷ l)) (a-ratio d h) c))
 
   pub root-degree : Move t (body Interval) (Held Degree) radicand
-  root-degree = holding (λ n s x v h. passed (λ f. f) (λ is c. c (degree h)))
+  root-degree = holding (λ s x v h. passed (λ f. f) (λ is c. c (degree h)))
 
   pub root-radicand : Move t radicand (Number Radicand) nothing
-  root-radicand = numbering (λ n s x v h.
+  root-radicand = numbering (λ s x v h.
       given (λ f. f) (λ is f c d. nothing-more (λ (l : List Item). Body Interval (item.Root (s .first .value) v ∷ l)) (a-root d h) c))

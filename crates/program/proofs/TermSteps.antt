@@ -13,7 +13,7 @@ use Rattle.grammar.specs.declared.Action.the-variants.{Held, Number, Sign, Name
 use Rattle.grammar.specs.declared.Item.{Item}
 use Rattle.grammar.specs.declared.Progress.{Progress}
 use Rattle.grammar.specs.Syntax.{Terminal}
-use Rattle.grammar.specs.Terminals.{placed}
+use Rattle.grammar.specs.Terminals.{startOf, spanOf}
 use Rattle.grammar.specs.Reading.{mostTerms, termItem, acted}
 use Rattle.program.proofs.Formed.{TermItems, add-term, subtract-term, a-sequence, from-tone, fresh-period, onward-period}
 use Rattle.program.proofs.Ahead.{more-terms, Stage, body, sequence, term, terms, period, toneTerm, toneTerms, ToneTerms, terms-then, termAndLeft, Comes, FitFactor, passed, given, Move}
@@ -43,33 +43,33 @@ module _ {t : Terminal} where
   pub sign : {m : Bool} → Move t terms (Sign m) term
   unfolding acted
   sign = record {
-    leads = λ text n s y e.
-        full n s mostTerms (s .term .before) (placed text y) _ (λ h. passed (λ _. fit-one) (λ is ts. more-terms (one-fewer h) ts));
+    leads = λ text s y e.
+        full s mostTerms (s .term .before) (spanOf y) _ (λ h. passed (λ _. fit-one) (λ is ts. more-terms (one-fewer h) ts));
   }
 
   pub factor : {P : Stage} → Opens P → Move t P (Number Factor) term
-  factor opens = numbering (λ n s x v h. passed (λ _. h .1) (opens s))
+  factor opens = numbering (λ s x v h. passed (λ _. h .1) (opens s))
 
   pub named-term : {P : Stage} → Opens P → Move t P (Name Term) terms
   unfolding acted
   named-term opens = record {
-    leads = λ text n s y e. given (λ _. fit-one) (λ is f ts. opens s _ (one-term (s .term .minus) (placed text y .start) f ts));
+    leads = λ text s y e. given (λ _. fit-one) (λ is f ts. opens s _ (one-term (s .term .minus) (startOf y) f ts));
   }
 
   pub factor-first : Move t (body Interval) (Held FirstFactor) terms
-  factor-first = holding (λ n s x v h. given (λ _. fit-one) (λ is f ts. opens-interval s _ (one-term (s .term .minus) (x .start) (h .1) ts)))
+  factor-first = holding (λ s x v h. given (λ _. fit-one) (λ is f ts. opens-interval s _ (one-term (s .term .minus) (x .start) (h .1) ts)))
 
   pub base : Move t (body Tone) (Name Base) terms
   unfolding acted
-  base = record { leads = λ text n s y e. given (λ f. f) (λ is f ts. from-tone (more-terms (sub-le mostTerms (s .term .before)) ts)) }
+  base = record { leads = λ text s y e. given (λ f. f) (λ is f ts. from-tone (more-terms (sub-le mostTerms (s .term .before)) ts)) }
 
   pub period-mark : Move t (body Retuning) (Mark Period) period
   unfolding acted
-  period-mark = record { leads = λ text n s y e. given (λ f. f) (λ is f c. c) }
+  period-mark = record { leads = λ text s y e. given (λ f. f) (λ is f c. c) }
 
   pub period-onward : Move t period (Mark Onward) terms
   unfolding acted
-  period-onward = record { leads = λ text n s y e. given (λ f. f) (λ is f ts. onward-period (more-terms (sub-le mostTerms (s .term .before)) ts)) }
+  period-onward = record { leads = λ text s y e. given (λ f. f) (λ is f ts. onward-period (more-terms (sub-le mostTerms (s .term .before)) ts)) }
 
 -- ---- the terms of a position
 
@@ -83,15 +83,15 @@ module _ {t : Terminal} where
   pub tone-sign : {m : Bool} → Move t toneTerms (Sign m) toneTerm
   unfolding acted
   tone-sign = record {
-    leads = λ text n s y e.
-        full n s mostTerms (s .term .before) (placed text y) _ (λ h. passed (λ _. fit-one) (λ is ts. more-tone-terms (one-fewer h) ts));
+    leads = λ text s y e.
+        full s mostTerms (s .term .before) (spanOf y) _ (λ h. passed (λ _. fit-one) (λ is ts. more-tone-terms (one-fewer h) ts));
   }
 
   pub tone-factor : Move t toneTerm (Number Factor) toneTerm
-  tone-factor = numbering (λ n s x v h. passed (λ _. h .1) (λ is c. c))
+  tone-factor = numbering (λ s x v h. passed (λ _. h .1) (λ is c. c))
 
   pub tone-term : Move t toneTerm (Name Term) toneTerms
   unfolding acted
   tone-term = record {
-    leads = λ text n s y e. given (λ _. fit-one) (λ is f ts. one-tone-term (s .term .minus) (placed text y .start) f ts);
+    leads = λ text s y e. given (λ _. fit-one) (λ is f ts. one-tone-term (s .term .minus) (startOf y) f ts);
   }

@@ -1,13 +1,12 @@
 -- What each step keeps holds of all that is read: an induction, from the end of the text back, over a text that is read to its end.
 -- Assumes nothing.
-use mathlib.Core.Path.{_≡_, refl, sym, _∙_, ap, subst, subst₂}
+use mathlib.Core.Path.{_≡_, refl, sym, _∙_, subst, subst₂}
 use mathlib.Core.Bool.{Bool, true, false, cond}
 use mathlib.Core.List.{List, [], _∷_}
 use mathlib.Core.Option.{Option, some, none, Option·none-ne-some}
 use Prim.Native.Nat.{ℕ, zero, suc, _+_, _≤_, _<_}
 use native.Mathlib.Omega.{arith}
-use borrow.Author.Tests.{eqb-true}
-use lib.Dec.{eqb, leb}
+use lib.Dec.{leb}
 use lib.ListN.{length}
 use Rattle.status.specs.Status.{done, noSymbol, symbolNotAllowed, textTooLong}
 use Rattle.symbols.specs.declared.Symbol.{Symbol}
@@ -17,12 +16,12 @@ use Rattle.symbols.proofs.Progress.{after-within, goingOn, symbols-next}
 use Rattle.grammar.specs.declared.Action.{Action}
 use Rattle.grammar.specs.declared.Item.{Item}
 use Rattle.grammar.specs.declared.Progress.{Progress}
-use Rattle.grammar.specs.declared.Placed.{Placed}
 use Rattle.grammar.specs.declared.Outcome.{Outcome}
 use Rattle.grammar.specs.declared.Outcome.the-variants.{Go, Give, Refuse}
-use Rattle.grammar.specs.Syntax.{Node, Begin, Finish, end, Rule, rules}
-use Rattle.grammar.specs.Terminals.{terminalNumber, nodeNumber, nodeAt, picked, terminalOf, placed, isNothing}
-use Rattle.grammar.specs.Reading.{Read, atNode, acted, thenAt, byRule, stepped, begun, with, readWhole, refusedAt, isFinished, readFrom, mostBytes, readItems}
+use Rattle.grammar.specs.Syntax.{Node, Begin, Finish, Rule, rules}
+use Rattle.grammar.specs.Terminals.{picked, isNothing, terminalOf, startOf, spanOf}
+use Rattle.grammar.specs.Reading.{Read, acted, Standing, standing, Step, thenAt, byRule, stepped, begun, with, refusedAt, readFrom, mostBytes, readItems}
+use Rattle.grammar.specs.Reading as reading
 use Rattle.grammar.proofs.Diagrams.{none-at-nothing, finish-at-end}
 
 -- what an outcome keeps: where X holds of what is still to come after it, B holds of what is to come from here on
@@ -31,99 +30,82 @@ pub data Keeps (X : Progress → List Item → Type 0) (B : List Item → Type 0
   goes : (t : Progress) → ((is : List Item) → X t is → B is) → Keeps X B (Go t)
   gives : (t : Progress) (i : Item) → ((is : List Item) → X t is → B (i ∷ is)) → Keeps X B (Give t i)
 
--- what is read after an outcome
-abbrev turned : List ℕ → Outcome → List Symbol → Read
+-- what is read after a step
+abbrev turned : List ℕ → Step → List Symbol → Read
 turned text o ys =
     elim o [
-      | Refuse n p ↦ refusedAt n p
-      | Go s′ ↦ elim (isFinished s′) [ true ↦ readWhole | false ↦ readFrom text s′ ys ]
-      | Give s′ i ↦ with i (readFrom text s′ ys)
+      | reading.refuse n p ↦ refusedAt n p
+      | reading.go t ↦ readFrom text t ys
+      | reading.give t i ↦ with i (readFrom text t ys)
     ]
 
 -- B holds of the items, if all is read
 abbrev Whole : (List Item → Type 0) → Read → Type 0
 Whole B r = r .number ≡ done → B (r .items)
 
--- A q s is: what holds, in node q with progress s, of the items `is` that are still to come
+-- A n s is: what holds, in node n with progress s, of the items `is` that are still to come
 module _ (text : List ℕ) (A : Node → Progress → List Item → Type 0) where
-  abbrev From : Progress → List Item → Type 0
-  From s is = A (nodeAt (s .node)) s is
-
-  -- after a step that leads to node n with progress t
-  abbrev pub At : ℕ → Progress → List Item → Type 0
-  At n t is = A (nodeAt n) (atNode n t) is
+  abbrev From : Standing → List Item → Type 0
+  From s is = A (s .node) (s .kept) is
 
   -- each step by a rule keeps A
   abbrev pub Kept : Type 0
-  Kept = (k : ℕ) (s : Progress) (y : Symbol) (r : Rule) → picked (rules (nodeAt k)) (terminalNumber (terminalOf text y)) ≡ some r
-      → Keeps (At (nodeNumber (r .next))) (A (nodeAt k) s) (acted text s (r .action) (placed text y))
+  Kept = (n : Node) (s : Progress) (y : Symbol) (r : Rule) → picked (rules n) (terminalOf text y) ≡ some r
+      → Keeps (A (r .next)) (A n s) (acted text s (r .action) (spanOf y))
 
   module _ (finished : (s : Progress) → A Finish s []) (kept : Kept) where
-    turn : (n : ℕ) (B : List Item → Type 0) (o : Outcome) (ys : List Symbol) → Keeps (At n) B o
-        → ((t : Progress) → Whole (From t) (readFrom text t ys)) → Whole B (turned text (thenAt n o) ys)
+    turn : (n : Node) (B : List Item → Type 0) (o : Outcome) (ys : List Symbol) → Keeps (A n) B o
+        → ((t : Standing) → Whole (From t) (readFrom text t ys)) → Whole B (turned text (thenAt n o) ys)
     turn n B (Refuse k p) ys (refuses not-done) later e = absurd (not-done e)
-    turn n B (Go t) ys (goes _ f) later e = go (isFinished (atNode n t)) refl e
-      where
-        go : (b : Bool) → eqb n (nodeNumber Finish) ≡ b → Whole B (elim b [ true ↦ readWhole | false ↦ readFrom text (atNode n t) ys ])
-        go true q e = f [] (subst (λ (r : Node). A r (atNode n t) []) (sym (ap nodeAt (eqb-true n (nodeNumber Finish) q))) (finished (atNode n t)))
-        go false q e = f _ (later (atNode n t) e)
-    turn n B (Give t i) ys (gives _ _ f) later e = f _ (later (atNode n t) e)
+    turn n B (Go t) ys (goes _ f) later e = f _ (later (standing n t) e)
+    turn n B (Give t i) ys (gives _ _ f) later e = f _ (later (standing n t) e)
 
     -- a step by a rule, or none
-    by-rule : (s : Progress) (y : Symbol) (ys : List Symbol)
-        → ((r : Rule) → picked (rules (nodeAt (s .node))) (terminalNumber (terminalOf text y)) ≡ some r
-        → Whole (From s) (turned text (thenAt (nodeNumber (r .next)) (acted text s (r .action) (placed text y))) ys))
+    by-rule : (s : Standing) (y : Symbol) (ys : List Symbol)
+        → ((r : Rule) → picked (rules (s .node)) (terminalOf text y) ≡ some r
+        → Whole (From s) (turned text (thenAt (r .next) (acted text (s .kept) (r .action) (spanOf y))) ys))
         → Whole (From s) (readFrom text s (y ∷ ys))
     unfolding readFrom stepped
-    by-rule s y ys h = go (picked (rules (nodeAt (s .node))) (terminalNumber (terminalOf text y))) refl
+    by-rule s y ys h = go (picked (rules (s .node)) (terminalOf text y)) refl
       where
-        refused : (b : Bool)
-            → Whole (From s) (turned text (cond b (Refuse noSymbol (placed text y .start)) (Refuse symbolNotAllowed (placed text y .start))) ys)
+        refused : (b : Bool) → Whole (From s) (refusedAt (cond b noSymbol symbolNotAllowed) (startOf y))
         refused true e = absurd (omega arith)
         refused false e = absurd (omega arith)
 
-        go : (o : Option Rule) → picked (rules (nodeAt (s .node))) (terminalNumber (terminalOf text y)) ≡ o
-            → Whole (From s) (turned text (byRule text s (placed text y) o) ys)
-        go none q = refused (isNothing (placed text y))
+        go : (o : Option Rule) → picked (rules (s .node)) (terminalOf text y) ≡ o → Whole (From s) (turned text (byRule text (s .kept) y o) ys)
+        go none q = refused (isNothing (terminalOf text y))
         go (some r) q = h r q
 
-    onward : (s : Progress) (y : Symbol) (ys : List Symbol) → ((t : Progress) → Whole (From t) (readFrom text t ys))
+    onward : (s : Standing) (y : Symbol) (ys : List Symbol) → ((t : Standing) → Whole (From t) (readFrom text t ys))
         → Whole (From s) (readFrom text s (y ∷ ys))
     onward s y ys later =
-        by-rule s y ys
-        (λ r q. turn (nodeNumber (r .next)) (From s) (acted text s (r .action) (placed text y)) ys (kept (s .node) s y r q) later)
+        by-rule s y ys (λ r q. turn (r .next) (From s) (acted text (s .kept) (r .action) (spanOf y)) ys (kept (s .node) (s .kept) y r q) later)
 
-    at-bad : (s : Progress) (p : ℕ) → Whole (From s) (readFrom text s (symbol.Bad p ∷ []))
+    at-bad : (s : Standing) (p : ℕ) → Whole (From s) (readFrom text s (symbol.Bad p ∷ []))
     unfolding terminalOf
     at-bad s p = by-rule s (symbol.Bad p) [] (λ r q. absurd (Option·none-ne-some r (sym (none-at-nothing (s .node)) ∙ q)))
 
-    at-end : (s : Progress) (p : ℕ) → Whole (From s) (readFrom text s (symbol.End p ∷ []))
-    unfolding terminalOf acted
-    at-end s p = by-rule s (symbol.End p) [] here
+    -- the end leads to the last node, and nothing is done there
+    at-end : (s : Standing) (p : ℕ) → Whole (From s) (readFrom text s (symbol.End p ∷ []))
+    unfolding terminalOf acted readFrom
+    at-end s p = by-rule s (symbol.End p) [] (λ r q.
+        let g = finish-at-end (s .node) q in
+        subst₂
+        (λ (n : Node) (a : Action). Keeps (A n) (From s) (acted text (s .kept) a (spanOf (symbol.End p)))
+        → Whole (From s) (turned text (thenAt n (acted text (s .kept) a (spanOf (symbol.End p)))) []))
+        (sym (g .0)) (sym (g .1)) (λ f e. finishing f) (kept (s .node) (s .kept) (symbol.End p) r q))
       where
-        x : Placed
-        x = placed text (symbol.End p)
+        finishing : Keeps (A Finish) (From s) (Go (s .kept)) → From s []
+        finishing (goes _ f) = f [] (finished (s .kept))
 
-        -- the end leads to the last node, and nothing is done there
-        finishing : Keeps (At (nodeNumber Finish)) (From s) (Go s) → From s []
-        finishing (goes _ f) = f [] (finished (atNode (nodeNumber Finish) s))
-
-        here : (r : Rule) → picked (rules (nodeAt (s .node))) (terminalNumber end) ≡ some r
-            → Whole (From s) (turned text (thenAt (nodeNumber (r .next)) (acted text s (r .action) x)) [])
-        here r q =
-            let g = finish-at-end (s .node) q in
-            subst₂
-            (λ (n : ℕ) (a : Action). Keeps (At n) (From s) (acted text s a x) → Whole (From s) (turned text (thenAt n (acted text s a x)) []))
-            (sym (g .0)) (sym (g .1)) (λ f e. finishing f) (kept (s .node) s (symbol.End p) r q)
-
-    from-place : (m at : ℕ) → length text < m + at → at ≤ length text → (s : Progress) → Whole (From s) (readFrom text s (symbolsFrom text at))
+    from-place : (m at : ℕ) → length text < m + at → at ≤ length text → (s : Standing) → Whole (From s) (readFrom text s (symbolsFrom text at))
     unfolding after
     from-place zero at h w s = absurd (omega arith)
     from-place (suc m) at h w s =
         subst (λ (ys : List Symbol). Whole (From s) (readFrom text s ys)) (sym (symbols-next text at w))
         (go (nextSymbol text at) (λ b e t. let l = after-within text at w e in from-place m b (omega arith) (l .1) t))
       where
-        go : (y : Symbol) → ((b : ℕ) → after y ≡ some b → (t : Progress) → Whole (From t) (readFrom text t (symbolsFrom text b)))
+        go : (y : Symbol) → ((b : ℕ) → after y ≡ some b → (t : Standing) → Whole (From t) (readFrom text t (symbolsFrom text b)))
             → Whole (From s) (readFrom text s (y ∷ goingOn text (after y)))
         go (symbol.Bad p) later = at-bad s p
         go (symbol.End p) later = at-end s p
@@ -131,10 +113,10 @@ module _ (text : List ℕ) (A : Node → Progress → List Item → Type 0) wher
         go (symbol.Number a b) later = onward s (symbol.Number a b) (symbolsFrom text b) (later b refl)
         go (symbol.Mark k a b) later = onward s (symbol.Mark k a b) (symbolsFrom text b) (later b refl)
 
-    pub walk : readItems text .number ≡ done → A Begin begun (readItems text .items)
+    pub walk : readItems text .number ≡ done → A Begin (begun .kept) (readItems text .items)
     unfolding readItems symbols
     walk = go (leb (length text) mostBytes)
       where
-        go : (b : Bool) → Whole (A Begin begun) (cond b (readFrom text begun (symbols text)) (refusedAt textTooLong 0))
+        go : (b : Bool) → Whole (A Begin (begun .kept)) (cond b (readFrom text begun (symbols text)) (refusedAt textTooLong 0))
         go true = from-place (length text + 1) 0 (omega arith) (omega arith) begun
         go false = λ e. absurd (omega arith)

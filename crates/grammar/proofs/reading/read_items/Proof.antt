@@ -1,6 +1,6 @@
 -- A longer text is refused; otherwise the tables that are lent are those of the rules, which antt computes entry by entry.
 -- Assumes nothing.
-use mathlib.Core.Path.{refl}
+use mathlib.Core.Path.{refl, _∙_}
 use borrow.Author.Needs.{needs}
 use Rattle.grammar.specs.Syntax.{rules}
 use Rattle.grammar.specs.Terminals.{picked}
@@ -9,8 +9,11 @@ use Rattle.grammar.proofs.Turns.{too-long}
 use Rattle.grammar.proofs.reading.read_items.Statement.{statement}
 use Rattle.grammar.proofs.reading.read_items.Tie as tie
 
+answer-requires : tie.Need-answer-requires
+answer-requires c κs = search needs
+
 returns : tie.Need-returns
-returns c = too-long _ _ (c .if1 .taken)
+returns c = let a = too-long _ _ (c .before .if1 .taken) in (c .answer .ensures ∙ a .0, a .1)
 
 slice-aggregate-read-symbols : tie.Need-slice-aggregate-read-symbols
 slice-aggregate-read-symbols c = search needs
@@ -32,6 +35,7 @@ pub read-items-spec : {M : Type 1} → statement M
 read-items-spec =
     tie.close
     (tie.spec
+    answer-requires
     returns
     slice-aggregate-read-symbols
     slice-aggregate-read-symbols-2
