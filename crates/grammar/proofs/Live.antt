@@ -15,7 +15,7 @@ use Rattle.grammar.specs.declared.Outcome.the-variants.{Go, Give, Refuse
 use Rattle.grammar.specs.Syntax.{Terminal, nothing, key, letter, number, equals, opening, closing, widthClose, arrow, end, Rule, rules, Node, Begin, Finish, IntervalName, IntervalEquals, IntervalBody, IntervalKind, SecondPart, RootRadicand, IntervalSign, IntervalTerm, IntervalTermName, IntervalNext, ToneName, ToneEquals, ToneBody, ToneSign, ToneTerm, ToneTermName, ToneNext, SystemName, SystemEquals, SystemAnchor, SystemOpen, SystemFirst, SystemPosition, SystemComma, SystemPeriod, SystemSign, SystemTerm, SystemTermName, RetuningName, RetuningEquals, RetuningBody, RetuningInside, RetuningNext, AnchorOperator, AnchorPlusNumber, AnchorMinusNumber, AnchorOpen, AnchorClose, WidthBody, WidthOperator, WidthPlusNumber, WidthMinusNumber, WidthTimesNumber, WidthOverNumber, WidthClose, WidthBracket, PeriodBody, PeriodSign, PeriodTerm, PeriodTermName, TonesSign, TonesTerm, TonesTermName, TonesPosition, LogicName, LogicKey, LogicLetter, LogicEquals, LogicStart, LogicOpen, OrderKey, OrderLetter, OrderArrow, OrderName, LogicNext}
 use Rattle.grammar.specs.Terminals.{isNothing, picked, terminalOf, startOf, spanOf}
 use Rattle.grammar.specs.Moves.{nodeNumber}
-use Rattle.grammar.specs.Reading.{acted, Standing, Step, thenAt, byRule, stepped, begun}
+use Rattle.grammar.specs.Reading.{acted, Standing, Moved, thenAt, byRule, stepped, begun}
 use Rattle.grammar.specs.Reading as reading
 use Rattle.grammar.specs.Live.{walked, NoContinuation, reached, ThreeExactly, Refused, two, three, four, nine, LowerNumber}
 use Rattle.grammar.proofs.Diagrams.{same-node, same-terminal, at-each, none-at-nothing}
@@ -120,7 +120,7 @@ unfolding walked
 walked-off n t ts e = rw (walked, e)
 
 -- where a step goes on to t, the diagrams go on from t's node
-abbrev Follows : List ℕ → Standing → Symbol → List Terminal → Step → Type 0
+abbrev Follows : List ℕ → Standing → Symbol → List Terminal → Moved → Type 0
 Follows text s y ts (reading.refuse k p) = Unit {0}
 Follows text s y ts (reading.go t) = walked (s .node) (terminalOf text y ∷ ts) ≡ walked (t .node) ts
 Follows text s y ts (reading.give t i) = walked (s .node) (terminalOf text y ∷ ts) ≡ walked (t .node) ts
@@ -144,7 +144,7 @@ unfolding reached
 walk-reached text s [] ts e = ap (λ (o : Option Standing). elim o [ none ↦ walked (s .node) ts | some u ↦ walked (u .node) ts ]) e
 walk-reached text s (y ∷ ys) {t} ts e = go (stepped text s y) (follows text s y (map (terminalOf text) ys ++ ts)) (λ u. walk-reached text u ys ts) e
   where
-    go : (o : Step) → Follows text s y (map (terminalOf text) ys ++ ts) o
+    go : (o : Moved) → Follows text s y (map (terminalOf text) ys ++ ts) o
         → ((u : Standing) → reached text u ys ≡ some t → walked (u .node) (map (terminalOf text) ys ++ ts) ≡ walked (t .node) ts)
         → elim o [ reading.refuse n p ↦ none | reading.go u ↦ reached text u ys | reading.give u i ↦ reached text u ys ] ≡ some t
         → walked (s .node) (terminalOf text y ∷ (map (terminalOf text) ys ++ ts)) ≡ walked (t .node) ts

@@ -42,7 +42,7 @@ use Rattle.grammar.specs.declared.reading.Reading.{Reading}
 use Rattle.grammar.specs.Syntax.{Terminal, end, nothing, Node, Begin, Finish, Rule, rules}
 use Rattle.grammar.specs.Terminals.{terminalNumber, picked, ofLetter, terminalOf, startOf, endOf, spanOf}
 use Rattle.grammar.specs.Moves.{nodeNumber, moveBy, moveOf}
-use Rattle.grammar.specs.Reading.{Read, limit, mostTerms, mostPositions, soFar, oneMore, withCounts, withPositions, noTerm, nextTerm, unlessFull, counted, positioned, judged, used, ifAllowed, numbered, acted, standing, Step, thenAt, notAllowed, byRule, stepped, begun, with, refusedAt, readFrom, mostBytes, readItems, answered}
+use Rattle.grammar.specs.Reading.{Read, limit, mostTerms, mostPositions, soFar, oneMore, withCounts, withPositions, noTerm, nextTerm, unlessFull, counted, positioned, judged, used, ifAllowed, numbered, acted, standing, Moved, thenAt, notAllowed, byRule, stepped, begun, with, refusedAt, readFrom, mostBytes, readItems, answered}
 use Rattle.grammar.specs.Reading as reading
 use Rattle.grammar.specs.Items.{row, rowSize, rows, holding, itemSlots}
 use Rattle.grammar.proofs.Numbered.{word-apart, mark-apart}
@@ -196,7 +196,7 @@ end-after (MarkSymbol k a b) q = cc
 -- ---- one symbol further
 
 -- what is read after a step
-abbrev turned : List ℕ → Step → List Symbol → Read
+abbrev turned : List ℕ → Moved → List Symbol → Read
 turned text (reading.refuse n p) ys = refusedAt n p
 turned text (reading.go s) ys = readFrom text s ys
 turned text (reading.give s i) ys = with i (readFrom text s ys)
@@ -206,7 +206,7 @@ module _ (text : List ℕ) (n : Node) (s : Progress) (y : Symbol) (ys : List Sym
   unfolding readFrom
   turned-is = go (stepped text (standing n s) y)
     where
-      go : (o : Step)
+      go : (o : Moved)
           → _≡_ {A = Read}
           (elim o [ reading.refuse m p ↦ refusedAt m p | reading.go t ↦ readFrom text t ys | reading.give t i ↦ with i (readFrom text t ys) ])
           (turned text o ys)

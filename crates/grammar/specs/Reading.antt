@@ -64,12 +64,12 @@ allowed WidthTimes = Whole 0 mostAmount
 allowed WidthOver = Whole leastDivisor mostAmount
 
 -- the value of the number that these bytes write, if it is in a range
-abbrev pub within : NumberRange → List ℕ → WrittenNumber
-within Decimal bytes = decimalOf bytes
-within (Whole low high) bytes = wholeOf low high bytes
+abbrev pub numberIn : NumberRange → List ℕ → WrittenNumber
+numberIn Decimal bytes = decimalOf bytes
+numberIn (Whole low high) bytes = wholeOf low high bytes
 
 abbrev pub judged : NumberUse → List ℕ → WrittenNumber
-judged u bytes = within (allowed u) bytes
+judged u bytes = numberIn (allowed u) bytes
 
 -- "intervals, tones: 256 each; tone systems, logics: 32 each; retunings: 128; orders in all logics together: 512"
 abbrev pub limit : Kind → ℕ
@@ -229,13 +229,13 @@ abbrev pub standing : Node → Progress → Standing
 standing n s = record { node = n; kept = s }
 
 -- what a symbol leads to: a refusal's number and place, or where reading stands after it, perhaps with an item
-pub data Step : Type 0 where
-  refuse : ℕ → ℕ → Step
-  go : Standing → Step
-  give : Standing → Item → Step
+pub data Moved : Type 0 where
+  refuse : ℕ → ℕ → Moved
+  go : Standing → Moved
+  give : Standing → Item → Moved
 
 -- after what is done, the next node
-abbrev pub thenAt : Node → Outcome → Step
+abbrev pub thenAt : Node → Outcome → Moved
 thenAt n (Go s) = go (standing n s)
 thenAt n (Give s i) = give (standing n s) i
 thenAt n (Refuse k p) = refuse k p
@@ -244,11 +244,11 @@ thenAt n (Refuse k p) = refuse k p
 abbrev pub notAllowed : Terminal → ℕ
 notAllowed t = cond (isNothing t) noSymbol symbolNotAllowed
 
-abbrev pub byRule : List ℕ → Progress → Symbol → Option Rule → Step
+abbrev pub byRule : List ℕ → Progress → Symbol → Option Rule → Moved
 byRule text s y none = refuse (notAllowed (terminalOf text y)) (startOf y)
 byRule text s y (some r) = thenAt (r .next) (acted text s (r .action) (spanOf y))
 
-unfoldable pub stepped : List ℕ → Standing → Symbol → Step
+unfoldable pub stepped : List ℕ → Standing → Symbol → Moved
 stepped text s y = byRule text (s .kept) y (picked (rules (s .node)) (terminalOf text y))
 
 -- ---- a whole text

@@ -35,7 +35,7 @@ use Rattle.grammar.specs.declared.Outcome.{Outcome}
 use Rattle.grammar.specs.declared.Outcome.the-variants.{Go, Give, Refuse}
 use Rattle.grammar.specs.Syntax.{Terminal, Node, Rule, rules}
 use Rattle.grammar.specs.Terminals.{picked, terminalOf, startOf, spanOf}
-use Rattle.grammar.specs.Reading.{Read, limit, soFar, oneMore, mostTerms, mostPositions, nextTerm, withCounts, withPositions, noTerm, unlessFull, counted, termItem, termed, positioned, used, judged, ifAllowed, numbered, acted, Standing, Step, thenAt, byRule, stepped, begun, with, refusedAt, readFrom, mostBytes, readItems}
+use Rattle.grammar.specs.Reading.{Read, limit, soFar, oneMore, mostTerms, mostPositions, nextTerm, withCounts, withPositions, noTerm, unlessFull, counted, termItem, termed, positioned, used, judged, ifAllowed, numbered, acted, Standing, Moved, thenAt, byRule, stepped, begun, with, refusedAt, readFrom, mostBytes, readItems}
 use Rattle.grammar.specs.Reading as reading
 use Rattle.grammar.proofs.Table.{each}
 use Rattle.grammar.proofs.Diagrams.{at-each, picked-of}
@@ -200,7 +200,7 @@ unfolding rules-fit rule-fit rules isFit isName
 fit-rule n t e = picked-of rule-fit (rules n) t (at-each rules-fit tt tt n) e .0
 
 -- what a step counts
-abbrev StepCounts : Counts → ℕ → Step → Type 0
+abbrev StepCounts : Counts → ℕ → Moved → Type 0
 StepCounts c p (reading.refuse n q) = Unit {0}
 StepCounts c p (reading.go t) = Counting c (t .kept .counts) p []
 StepCounts c p (reading.give t i) = Counting c (t .kept .counts) p (namedBy (part i) [])
@@ -279,7 +279,7 @@ unfolding readFrom declared
 read-left text [] s h w = none-left (s .kept .counts) w
 read-left text (y ∷ ys) s h w = go (stepped text s y) (step-counts text s y) (λ t. read-left text ys t (h .1))
   where
-    go : (o : Step) → StepCounts (s .kept .counts) (startOf y) o
+    go : (o : Moved) → StepCounts (s .kept .counts) (startOf y) o
         → ((t : Standing) → Limited (t .kept .counts) → Left (t .kept .counts) (declared (readFrom text t ys .items)))
         → Left (s .kept .counts) (declared (itemsOf (elim o [
           | reading.refuse n p ↦ refusedAt n p

@@ -1,5 +1,6 @@
 -- Laws of the second pass over the items: what has become of those in front of an item.
 -- Assumes nothing.
+use mathlib.Core.Option.{Option, some, none}
 use Prim.Native.Nat.{ℕ, suc, _+_, _*_, _≤_, _<_}
 use mathlib.Core.Path.{_≡_, refl, sym, _∙_, ap, subst}
 use mathlib.Core.List.{List, [], _∷_, _++_}
@@ -120,21 +121,21 @@ replaced order a n p = record { code-same = refl; value-same = refl; place-new =
 
 -- ---- the place of the first name that is not declared
 
-pub missingIn : Resolved → Bearer
-missingIn (all is) = Nothing
-missingIn (missing p) = Row p
+pub missingIn : Resolved → Option ℕ
+missingIn (all is) = none
+missingIn (missing p) = some p
 
 missing-after : (i : Item) (r : Resolved) → missingIn (andThen i r) ≡ missingIn r
 unfolding missingIn
 missing-after i (all is) = refl
 missing-after i (missing p) = refl
 
-none-missing : (r : Resolved) → missingIn r ≡ Nothing → (done ≡ unlessMissing r .number) × (0 ≡ unlessMissing r .place)
+none-missing : (r : Resolved) → missingIn r ≡ none → (done ≡ unlessMissing r .number) × (0 ≡ unlessMissing r .place)
 unfolding missingIn
 none-missing (all is) e = (refl, refl)
 none-missing (missing p) e = let z : _≡_ {A = ℕ} 0 1 = cc in absurd (omega arith)
 
-one-missing : (r : Resolved) {p : ℕ} → missingIn r ≡ Row p → (nameNotDeclared ≡ unlessMissing r .number) × (p ≡ unlessMissing r .place)
+one-missing : (r : Resolved) {p : ℕ} → missingIn r ≡ some p → (nameNotDeclared ≡ unlessMissing r .number) × (p ≡ unlessMissing r .place)
 unfolding missingIn
 one-missing (all is) e = let z : _≡_ {A = ℕ} 0 1 = cc in absurd (omega arith)
 one-missing (missing q) e = (refl, cc)
@@ -249,7 +250,7 @@ module _ (text : List ℕ) (ds : List Named) (is : List Item) (items₀ : List �
               p .rest ∙ rewritten-here
               ∙ ap (λ b. ifCalled (the-use .use′) (the-use .amount) b (getD is i none) after (rewritten text ds after)) z
               ∙ sym (here is i none h) in
-              let m : missingIn (resolved text ds (drop i is)) ≡ Row q =
+              let m : missingIn (resolved text ds (drop i is)) ≡ some q =
               ap missingIn (resolved-here ∙ ap (λ b. ifFound (the-use .use′) (the-use .amount) q b (resolved text ds after)) z) in
               let w = one-missing (resolved text ds is) (sym (p .missed) ∙ m) in
               record {

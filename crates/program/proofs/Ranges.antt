@@ -27,7 +27,7 @@ use Rattle.grammar.specs.declared.NumberRange.{NumberRange}
 use Rattle.grammar.specs.declared.NumberRange.the-variants as range
 use Rattle.grammar.specs.Syntax.{letter}
 use Rattle.grammar.specs.Terminals.{terminalNumber, ofLetter, terminalOf, spanOf, capital, letterAt}
-use Rattle.grammar.specs.Reading.{allowed, within, judged}
+use Rattle.grammar.specs.Reading.{allowed, numberIn, judged}
 use Rattle.grammar.proofs.Numbered.{word-apart, mark-apart}
 use Rattle.program.specs.Allowed.{Decimal, Degree, Letter}
 
@@ -86,7 +86,7 @@ whole-fits low high (b ∷ rest) =
 pub judged-fits : (u : NumberUse) (bytes : List ℕ) → Judged (InRange (allowed u)) (judged u bytes)
 judged-fits u bytes = go (allowed u)
   where
-    go : (r : NumberRange) → Judged (InRange r) (within r bytes)
+    go : (r : NumberRange) → Judged (InRange r) (numberIn r bytes)
     go range.Decimal = decimal-fits bytes
     go (range.Whole low high) = whole-fits low high bytes
 

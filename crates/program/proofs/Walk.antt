@@ -20,7 +20,7 @@ use Rattle.grammar.specs.declared.Outcome.{Outcome}
 use Rattle.grammar.specs.declared.Outcome.the-variants.{Go, Give, Refuse}
 use Rattle.grammar.specs.Syntax.{Node, Begin, Finish, Rule, rules}
 use Rattle.grammar.specs.Terminals.{picked, isNothing, terminalOf, startOf, spanOf}
-use Rattle.grammar.specs.Reading.{Read, acted, Standing, standing, Step, thenAt, byRule, stepped, begun, with, refusedAt, readFrom, mostBytes, readItems}
+use Rattle.grammar.specs.Reading.{Read, acted, Standing, standing, Moved, thenAt, byRule, stepped, begun, with, refusedAt, readFrom, mostBytes, readItems}
 use Rattle.grammar.specs.Reading as reading
 use Rattle.grammar.proofs.Diagrams.{none-at-nothing, finish-at-end}
 
@@ -31,7 +31,7 @@ pub data Keeps (X : Progress → List Item → Type 0) (B : List Item → Type 0
   gives : (t : Progress) (i : Item) → ((is : List Item) → X t is → B (i ∷ is)) → Keeps X B (Give t i)
 
 -- what is read after a step
-abbrev turned : List ℕ → Step → List Symbol → Read
+abbrev turned : List ℕ → Moved → List Symbol → Read
 turned text o ys =
     elim o [
       | reading.refuse n p ↦ refusedAt n p
