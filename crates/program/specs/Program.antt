@@ -72,38 +72,66 @@ Program = List Placed
 
 -- ---- the parts of a declaration, in the order of the text
 
+-- a part as the lists of a declaration see it: a term, a position, a start, an order, or none of these
+pub data AsListed : Type 0 where
+  unlisted : AsListed
+  a-term : Term → AsListed
+  muted-position kept-position : AsListed
+  tone-position : ℕ → AsListed
+  a-start : ℕ → AsListed
+  an-order : Order → AsListed
+
+abbrev pub useListed : Use → ℕ → ℕ → AsListed
+useListed parts.add f n = a-term (record { minus = false; factor = f; of = n })
+useListed parts.subtract f n = a-term (record { minus = true; factor = f; of = n })
+useListed parts.base f n = unlisted
+useListed parts.position f n = tone-position n
+useListed parts.start f n = a-start n
+useListed parts.order c n = an-order (record { letter = c; calls = n })
+
+abbrev pub markListed : Said → AsListed
+markListed parts.muted = muted-position
+markListed parts.kept = kept-position
+markListed parts.anchorKept = unlisted
+markListed parts.widthKept = unlisted
+markListed parts.period = unlisted
+markListed parts.onward = unlisted
+
+abbrev pub asListed : Part → AsListed
+asListed (declares k p) = unlisted
+asListed (gives g a b) = unlisted
+asListed (uses u a b) = useListed u a b
+asListed (says m) = markListed m
+
 -- "terms joined by `+` or `-`, each an optional whole factor and an interval name"
+abbrev pub withTerm : AsListed → List Term → List Term
+withTerm (a-term t) ts = t ∷ ts
+withTerm unlisted ts = ts
+withTerm muted-position ts = ts
+withTerm kept-position ts = ts
+withTerm (tone-position n) ts = ts
+withTerm (a-start n) ts = ts
+withTerm (an-order o) ts = ts
+
 abbrev pub termThen : Part → List Term → List Term
-termThen (declares k p) ts = ts
-termThen (gives g a b) ts = ts
-termThen (says m) ts = ts
-termThen (uses parts.add f n) ts = record { minus = false; factor = f; of = n } ∷ ts
-termThen (uses parts.subtract f n) ts = record { minus = true; factor = f; of = n } ∷ ts
-termThen (uses parts.base f n) ts = ts
-termThen (uses parts.position f n) ts = ts
-termThen (uses parts.start f n) ts = ts
-termThen (uses parts.order f n) ts = ts
+termThen p ts = withTerm (asListed p) ts
 
 unfoldable pub termsOf : List Item → List Term
 termsOf [] = []
 termsOf (i ∷ is) = termThen (part i) (termsOf is)
 
 -- the positions of a tone system
+abbrev pub withPlace : AsListed → List (Option ℕ) → List (Option ℕ)
+withPlace muted-position l = none ∷ l
+withPlace (tone-position n) l = some n ∷ l
+withPlace unlisted l = l
+withPlace (a-term t) l = l
+withPlace kept-position l = l
+withPlace (a-start n) l = l
+withPlace (an-order o) l = l
+
 abbrev pub placeThen : Part → List (Option ℕ) → List (Option ℕ)
-placeThen (declares k p) l = l
-placeThen (gives g a b) l = l
-placeThen (says parts.muted) l = none ∷ l
-placeThen (says parts.kept) l = l
-placeThen (says parts.anchorKept) l = l
-placeThen (says parts.widthKept) l = l
-placeThen (says parts.period) l = l
-placeThen (says parts.onward) l = l
-placeThen (uses parts.position f n) l = some n ∷ l
-placeThen (uses parts.add f n) l = l
-placeThen (uses parts.subtract f n) l = l
-placeThen (uses parts.base f n) l = l
-placeThen (uses parts.start f n) l = l
-placeThen (uses parts.order f n) l = l
+placeThen p l = withPlace (asListed p) l
 
 unfoldable pub placesOf : List Item → List (Option ℕ)
 placesOf [] = []
@@ -114,52 +142,50 @@ pub record Grouped : Type 0 where
   pub before : List Term
   pub positions : List Position
 
+abbrev pub withGroup : AsListed → Grouped → Grouped
+withGroup (a-term t) g = record { before = t ∷ g .before; positions = g .positions }
+withGroup muted-position g = record { before = []; positions = mute ∷ g .positions }
+withGroup kept-position g = record { before = []; positions = same (g .before) ∷ g .positions }
+withGroup (tone-position n) g = record { before = []; positions = named n (g .before) ∷ g .positions }
+withGroup unlisted g = g
+withGroup (a-start n) g = g
+withGroup (an-order o) g = g
+
 abbrev pub groupThen : Part → Grouped → Grouped
-groupThen (declares k p) g = g
-groupThen (gives x a b) g = g
-groupThen (says parts.muted) g = record { before = []; positions = mute ∷ g .positions }
-groupThen (says parts.kept) g = record { before = []; positions = same (g .before) ∷ g .positions }
-groupThen (says parts.anchorKept) g = g
-groupThen (says parts.widthKept) g = g
-groupThen (says parts.period) g = g
-groupThen (says parts.onward) g = g
-groupThen (uses parts.position f n) g = record { before = []; positions = named n (g .before) ∷ g .positions }
-groupThen (uses parts.add f n) g = record { before = termThen (uses parts.add f n) (g .before); positions = g .positions }
-groupThen (uses parts.subtract f n) g = record { before = termThen (uses parts.subtract f n) (g .before); positions = g .positions }
-groupThen (uses parts.base f n) g = g
-groupThen (uses parts.start f n) g = g
-groupThen (uses parts.order f n) g = g
+groupThen p g = withGroup (asListed p) g
 
 unfoldable pub grouped : List Item → Grouped
 grouped [] = record { before = []; positions = [] }
 grouped (i ∷ is) = groupThen (part i) (grouped is)
 
+abbrev pub withOrder : AsListed → List Order → List Order
+withOrder (an-order o) l = o ∷ l
+withOrder unlisted l = l
+withOrder (a-term t) l = l
+withOrder muted-position l = l
+withOrder kept-position l = l
+withOrder (tone-position n) l = l
+withOrder (a-start n) l = l
+
 abbrev pub orderThen : Part → List Order → List Order
-orderThen (declares k p) l = l
-orderThen (gives g a b) l = l
-orderThen (says m) l = l
-orderThen (uses parts.add f n) l = l
-orderThen (uses parts.subtract f n) l = l
-orderThen (uses parts.base f n) l = l
-orderThen (uses parts.position f n) l = l
-orderThen (uses parts.start f n) l = l
-orderThen (uses parts.order c n) l = record { letter = c; calls = n } ∷ l
+orderThen p l = withOrder (asListed p) l
 
 unfoldable pub ordersOf : List Item → List Order
 ordersOf [] = []
 ordersOf (i ∷ is) = orderThen (part i) (ordersOf is)
 
 -- what a logic's start calls
+abbrev pub withStart : AsListed → Option ℕ → Option ℕ
+withStart (a-start n) s = some n
+withStart unlisted s = s
+withStart (a-term t) s = s
+withStart muted-position s = s
+withStart kept-position s = s
+withStart (tone-position n) s = s
+withStart (an-order o) s = s
+
 abbrev pub startThen : Part → Option ℕ → Option ℕ
-startThen (declares k p) s = s
-startThen (gives g a b) s = s
-startThen (says m) s = s
-startThen (uses parts.add f n) s = s
-startThen (uses parts.subtract f n) s = s
-startThen (uses parts.base f n) s = s
-startThen (uses parts.position f n) s = s
-startThen (uses parts.start f n) s = some n
-startThen (uses parts.order c n) s = s
+startThen p s = withStart (asListed p) s
 
 unfoldable pub startOf : List Item → Option ℕ
 startOf [] = none
