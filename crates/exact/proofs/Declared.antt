@@ -1,37 +1,34 @@
 -- The entry of each interval and tone of an accepted text follows its value, through the references; and its numbers are in their ranges.
-use mathlib.Core.Path.{_≡_, refl, sym, _∙_, ap, subst}
+use mathlib.Core.Path.{_≡_, refl, sym, _∙_, ap, ap₂, subst}
 use mathlib.Core.Bool.{true, false, _||_, or-false}
-use mathlib.Core.List.{List, [], _∷_}
+use mathlib.Core.List.{List, [], _∷_, map}
 use mathlib.Core.Option.{Option, none}
 use Prim.Native.Nat.{ℕ, zero, suc, _<_}
 use borrow.Author.Tests.{eqb-true}
 use lib.Dec.{eqb}
-use lib.IntN.{ℤ, pos, _+ℤ_, _*ℤ_, +ℤ-idl, +ℤ-idr}
+use lib.IntN.{ℤ, _+ℤ_, *ℤ-comm, +ℤ-idl, +ℤ-idr}
 use lib.ListN.{length, getD, List·getD-map}
-use Rattle.integers.proofs.Difference.{one-mulℤ}
 use Rattle.cents.specs.Measure as measures
 use Rattle.grammar.specs.declared.Kind.{Kind}
 use Rattle.grammar.specs.declared.Kind.the-variants.{Interval, Tone, System, Retuning, Logic, Order as AnOrder}
 use Rattle.grammar.specs.Moves.{kinds, kindNumber}
 use Rattle.names.proofs.Searching.{kind-back}
 use Rattle.values.specs.declared.Outcome.the-variants.{Done}
-use Rattle.values.specs.Values.{Term}
-use Rattle.values.specs.Inner.{Uses, here, there, shallow}
+use Rattle.values.specs.Values.{Term, weight, references}
+use Rattle.values.specs.Inner.{Uses, here, there, refsOf, shallow}
 use Rattle.values.proofs.Cases.{clash}
 use Rattle.values.proofs.Chains.{below, all-shallow}
-use Rattle.values.proofs.Plain.{sumOf as running, done-acyclic}
+use Rattle.values.proofs.Plain.{sumOf, startAt, done-acyclic}
 use Rattle.tuning.specs.Desk.{cents}
 use Rattle.program.specs.Program as text
 use Rattle.program.specs.Program.{Declaration, Placed, Program}
-use Rattle.program.specs.Meaning.{ownOf, usedBy, nothing, declarationAt, own, terms, valueOf, valued}
+use Rattle.program.specs.Meaning.{ownOf, nothing, declarationAt, own, valueOf, valued}
 use Rattle.program.specs.Allowed.{Decimal, kindOf, Refers, Each, Terms, Fits, Allowed}
-use Rattle.filling.specs.Tables.{sumOf}
-use Rattle.program.proofs.AcceptedText.{fits-at, closed, sum-apart, outcome-done, value-is}
+use Rattle.program.proofs.AcceptedText.{fits-at, closed, outcome-done, value-is}
 use Rattle.exact.specs.Book.{Declared, frequency, ratio, root, Powers, entries}
 use Rattle.exact.proofs.Ranges.{Amount, AllInRange, no-more, number-and, passing}
 use Rattle.exact.specs.Actions.{total, numberOf, declaredIn, entryBy, entryWithin, entryOf}
 use Rattle.exact.proofs.Measured.{MeasuredStep, MeasuredTone, measure-follows, plus, own-ratio, own-root, own-frequency}
-use Rattle.exact.proofs.Capped.{sum-total}
 use Rattle.exact.proofs.Worked.{terms-refer, total-follows}
 
 -- ---- the kinds of references
@@ -44,15 +41,19 @@ one-kind j k h =
 refers-kind : (p : Program) (k : Kind) {r : ℕ} → Refers p (k ∷ []) r → kindOf (declarationAt p r) ≡ k
 refers-kind p k {r} w = one-kind (kindOf (declarationAt p r)) k (w .kind)
 
--- ---- the value of an accepted declaration: what it has of its own, and its terms
+-- ---- the value of an accepted declaration: what it starts from, and its terms
+
+sum-is : (value : ℕ → ℤ) (ts : List Term) → sumOf value ts ≡ total cents value value ts
+sum-is value [] = refl
+sum-is value (t ∷ ts) = ap₂ (λ (x y : ℤ). x +ℤ y) (*ℤ-comm (value (t .of)) (weight t)) (sum-is value ts)
 
 module _ (p : Program) (allowed : Allowed p) (done : valued p ≡ Done) where
   pub value-at : (i : ℕ) → i < length p → (d : Declaration) → declarationAt p i ≡ d
-      → valueOf p i ≡ ownOf d .measure +ℤ total cents (valueOf p) (valueOf p) (usedBy d)
+      → valueOf p i ≡ startAt (valueOf p) (ownOf d .origin) +ℤ total cents (valueOf p) (valueOf p) (ownOf d .terms)
   value-at i l d e =
-      value-is p done allowed i l ∙ ap (λ (x : Declaration). running (valueOf p) (ownOf x .measure) (usedBy x)) e
-      ∙ sum-apart (valueOf p) (sumOf (valueOf p)) refl (λ t ts. refl) (ownOf d .measure) (usedBy d)
-      ∙ ap (λ (x : ℤ). ownOf d .measure +ℤ x) (sum-total (valueOf p) (usedBy d))
+      value-is p done allowed i l
+      ∙ ap (λ (x : Declaration). startAt (valueOf p) (ownOf x .origin) +ℤ sumOf (valueOf p) (ownOf x .terms)) e
+      ∙ ap (λ (x : ℤ). startAt (valueOf p) (ownOf d .origin) +ℤ x) (sum-is (valueOf p) (ownOf d .terms))
 
 -- ---- entries
 
@@ -78,14 +79,14 @@ module _ (p : Program) (allowed : Allowed p) (done : valued p ≡ Done) where
   as-kind : (of : ℕ → Powers) (k : Kind) {r : ℕ} → Refers p (k ∷ []) r → EntryAt of r → Entered numbers k (of r) (valueOf p r)
   as-kind of k {r} w h = subst (λ (x : Kind). Entered numbers x (of r) (valueOf p r)) (refers-kind p k w) h
 
-  terms-entered : (of : ℕ → Powers) (ts : List Term) → Terms p ts → ((r : ℕ) → Uses ts r → EntryAt of r)
+  terms-entered : (of : ℕ → Powers) (ts : List Term) → Terms p ts → ((r : ℕ) → Uses (map (λ (t : Term). t .of) ts) r → EntryAt of r)
       → MeasuredStep numbers (total entries of of ts) (total cents (valueOf p) (valueOf p) ts)
   terms-entered of ts w h =
-      total-follows (measure-follows numbers) of of (valueOf p) (valueOf p) ts (λ r u. as-kind of Interval (terms-refer p (w .each) u) (h r u))
+      total-follows (measure-follows numbers) of of (valueOf p) (valueOf p) ts (λ r u. as-kind of Interval (terms-refer p ts (w .each) u) (h r u))
 
   -- a declaration follows where those that it uses do
   one-entered : (of : ℕ → Powers) (i : ℕ) → i < length p → (d : Declaration) → declarationAt p i ≡ d → Fits p d
-      → ((r : ℕ) → Uses (usedBy d) r → EntryAt of r) → Entered numbers (kindOf d) (entryBy of i d) (valueOf p i)
+      → ((r : ℕ) → Uses (references (ownOf d)) r → EntryAt of r) → Entered numbers (kindOf d) (entryBy of i d) (valueOf p i)
   one-entered of i l (text.ratio a b) e w h =
       rw (value-at p allowed done i l (text.ratio a b) e ∙ +ℤ-idr (measures.ratio a b)) (own-ratio numbers i a b (number-at p i (text.ratio a b) e))
   one-entered of i l (text.root a b) e w h =
@@ -96,8 +97,7 @@ module _ (p : Program) (allowed : Allowed p) (done : valued p ≡ Done) where
       rw (value-at p allowed done i l (text.frequency f) e ∙ +ℤ-idr (measures.frequency f))
       (own-frequency numbers i f (number-at p i (text.frequency f) e))
   one-entered of i l (text.from k ts) e w h =
-      let sum = total cents (valueOf p) (valueOf p) ts in
-      rw (value-at p allowed done i l (text.from k ts) e ∙ +ℤ-idl (pos 1 *ℤ valueOf p k +ℤ sum), one-mulℤ (valueOf p k))
+      rw (value-at p allowed done i l (text.from k ts) e)
       (plus numbers (as-kind of Tone (w .0) (h k (here refl))) (terms-entered of ts (w .1) (λ r u. h r (there u))))
   one-entered of i l (text.system a ps ts) e w h = tt
   one-entered of i l (text.anchor m) e w h = tt
@@ -108,17 +108,17 @@ module _ (p : Program) (allowed : Allowed p) (done : valued p ≡ Done) where
   one-entered of i l (text.logic c s os) e w h = tt
 
   -- along the references, no chain of which is as long as there are declarations
-  entered-within : (k i : ℕ) → i < length p → shallow (terms p) k i ≡ true → EntryAt (entryWithin p k) i
+  entered-within : (k i : ℕ) → i < length p → shallow (refsOf (own p)) k i ≡ true → EntryAt (entryWithin p k) i
   unfolding entryWithin shallow
   entered-within zero i l h = absurd (clash h refl)
   entered-within (suc k) i l h =
       one-entered (entryWithin p k) i l (declarationAt p i) refl (fits-at allowed i l)
-      (λ r u. entered-within k r (closed allowed i r u) (below (terms p) k i r h u))
+      (λ r u. entered-within k r (closed allowed i r u) (below (refsOf (own p)) k i r h u))
 
   entered : (i : ℕ) → i < length p → EntryAt (entryOf p) i
   entered i l =
       entered-within (length p) i l
-      (all-shallow (terms p) (length p) (closed allowed) (done-acyclic (own p) (terms p) (length p) (outcome-done p done)) i l)
+      (all-shallow (refsOf (own p)) (length p) (closed allowed) (done-acyclic (own p) (length p) (outcome-done p done)) i l)
 
   pub interval-entered : (r : ℕ) → Refers p (Interval ∷ []) r → MeasuredStep (declaredIn p) (entryOf p r) (valueOf p r)
   interval-entered r w = as-kind (entryOf p) Interval w (entered r (w .within))

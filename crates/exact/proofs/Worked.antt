@@ -23,12 +23,12 @@ pub data CallBoth {A B : Scale} (F : Follows A B) : Option (Action A) → Option
   both-call : {c : Action A} {d : Action B} → ActionBoth F c d → CallBoth F (some c) (some d)
 
 -- the terms of a sequence, tone or expression are intervals
-pub terms-refer : (p : Program) {ts : List Term} → Each (FitTerm p) ts → {r : ℕ} → Uses ts r → Refers p (meant parts.add) r
-terms-refer p w (here e) = subst (Refers p (meant parts.add)) e (w .0 .of)
-terms-refer p w (there u) = terms-refer p (w .1) u
+pub terms-refer : (p : Program) (ts : List Term) → Each (FitTerm p) ts → {r : ℕ} → Uses (map (λ (t : Term). t .of) ts) r → Refers p (meant parts.add) r
+terms-refer p (t ∷ ts) w (here e) = subst (Refers p (meant parts.add)) e (w .0 .of)
+terms-refer p (t ∷ ts) w (there u) = terms-refer p ts (w .1) u
 
 module _ {A B : Scale} (F : Follows A B) (stepA : ℕ → A .Step) (toneA : ℕ → A .Tone) (stepB : ℕ → B .Step) (toneB : ℕ → B .Tone) where
-  pub total-follows : (ts : List Term) → ((r : ℕ) → Uses ts r → F .step (stepA r) (stepB r))
+  pub total-follows : (ts : List Term) → ((r : ℕ) → Uses (map (λ (t : Term). t .of) ts) r → F .step (stepA r) (stepB r))
       → F .step (total A stepA toneA ts) (total B stepB toneB ts)
   total-follows [] h = F .none
   total-follows (t ∷ ts) h = F .add (F .times (weight t) (h (t .of) (here refl))) (total-follows ts (λ r u. h r (there u)))
@@ -36,7 +36,7 @@ module _ {A B : Scale} (F : Follows A B) (stepA : ℕ → A .Step) (toneA : ℕ 
   module _ (p : Program) (steps : (r : ℕ) → Refers p (meant parts.add) r → F .step (stepA r) (stepB r))
       (tones : (r : ℕ) → Refers p (meant parts.position) r → F .tone (toneA r) (toneB r)) where
     terms-follow : (ts : List Term) → Terms p ts → F .step (total A stepA toneA ts) (total B stepB toneB ts)
-    terms-follow ts w = total-follows ts (λ r u. steps r (terms-refer p (w .each) u))
+    terms-follow ts w = total-follows ts (λ r u. steps r (terms-refer p ts (w .each) u))
 
     places-follow : (l : List (Option ℕ)) → Each (FitPlace p) l → AllBoth (F .tone) (map (placeOf A stepA toneA) l) (map (placeOf B stepB toneB) l)
     places-follow [] w = empty

@@ -1,5 +1,6 @@
 // The tables of a program, written row by row from the items of its text.
 mod lists;
+mod readers;
 mod rows;
 mod sums;
 

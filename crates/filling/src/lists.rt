@@ -1,7 +1,7 @@
 // The tones, changes and orders that belong to rows, each list written after what its table has already.
-use crate::sums;
-use cents::Interval;
-use cents::Pitch;
+use crate::readers::pitch_at;
+use crate::sums::Sum;
+use crate::sums::sum_terms;
 use grammar::Item;
 use grammar::items;
 use tables::encode;
@@ -17,7 +17,7 @@ ghost use Rattle.program.specs.Program.{placeThen, placesOf, grouped, termsOf, 
 ghost use Rattle.program.specs.Allowed.{Each};
 ghost use Rattle.valuation.specs.Inner.{between};
 ghost use Rattle.filling.specs.Tables.{sumOf, toneOf, changeOf};
-ghost use Rattle.filling.specs.Inner.{valueIn, begins, positionAt, letterOf, callOf, calledBy, tonesHere, changesHere, FitValue, Summable, FitPlace, FitPosition, FitOrder, Appended};
+ghost use Rattle.filling.specs.Inner.{valueIn, begins, positionAt, letterOf, callOf, calledBy, tonesHere, changesHere, Summable, FitPlace, FitPosition, FitOrder, Appended};
 
 // A tone of a tone system, where an item is one of its positions.
 enum ToneHere {
@@ -31,21 +31,13 @@ enum ChangeHere {
     Change(ToneChange),
 }
 
-// The value of a declaration.
-pub fn read_value(values: &[i64], k: usize) -> i32
-    requires { ⌜ FitValue (now values) k ⌝ }
-    ensures { λ r. ⌜ r ≡ valueIn (now (values .entry)) k ⌝ }
-{
-    values[k] as i32
-}
-
 fn read_tone(item: Item, values: &[i64]) -> ToneHere
     requires { ⌜ Each (FitPlace (now values)) (placeThen (part item) []) ⌝ }
     ensures { λ r. ⌜ tonesHere r ≡ map (toneOf (valueIn (now (values .entry)))) (placeThen (part item) []) ⌝ }
 {
     match item {
         Item::MutedPosition => ToneHere::Tone(Tone::Muted),
-        Item::TonePosition(k) => ToneHere::Tone(Tone::At(Pitch(read_value(values, k as usize)))),
+        Item::TonePosition(k) => ToneHere::Tone(Tone::At(pitch_at(values, k as usize))),
         _ => ToneHere::Nothing,
     }
 }
@@ -101,12 +93,12 @@ fn find_position(items: &[u32], from: usize, to: usize) -> usize
 }
 
 // The sum of the terms up to the next position.
-fn sum_group(items: &[u32], from: usize, to: usize, values: &[i64]) -> i64
+fn sum_group(items: &[u32], from: usize, to: usize, values: &[i64]) -> Sum
     requires { ⌜ from ≤ to ⌝ }
     requires { ⌜ Summable (now values) (grouped (between (now items) from to) .before) ⌝ }
-    ensures { λ r. ⌜ r ≡ sumOf (valueIn (now (values .entry))) (grouped (between (now (items .entry)) from to) .before) ⌝ }
+    ensures { λ r. ⌜ r .0 ≡ sumOf (valueIn (now (values .entry))) (grouped (between (now (items .entry)) from to) .before) ⌝ }
 {
-    sums::sum_terms(items, from, find_position(items, from, to), values)
+    sum_terms(items, from, find_position(items, from, to), values)
 }
 
 fn read_change(items: &[u32], i: usize, to: usize, values: &[i64]) -> ChangeHere
@@ -118,11 +110,11 @@ fn read_change(items: &[u32], i: usize, to: usize, values: &[i64]) -> ChangeHere
         Item::MutedPosition => ChangeHere::Change(ToneChange::Mute),
         Item::KeptPosition => {
             let sum = sum_group(items, i + 1, to, values);
-            ChangeHere::Change(ToneChange::Move(Interval(sums::cap(sum))))
+            ChangeHere::Change(ToneChange::Move(sum.to_interval()))
         }
         Item::TonePosition(k) => {
             let sum = sum_group(items, i + 1, to, values);
-            ChangeHere::Change(ToneChange::Set(Pitch(sums::cap(values[k as usize] + sum))))
+            ChangeHere::Change(ToneChange::Set(sum.shift(pitch_at(values, k as usize))))
         }
         _ => ChangeHere::Nothing,
     }

@@ -1,9 +1,9 @@
 // The row of a declaration, by the item that it begins with, and what belongs to the row.
 use crate::lists;
-use crate::sums;
-use cents::Interval;
+use crate::readers::interval_at;
+use crate::readers::pitch_at;
+use crate::sums::sum_terms;
 use cents::KeyNumber;
-use cents::Pitch;
 use grammar::Item;
 use grammar::items;
 use tables::CHANGES_AT;
@@ -58,8 +58,8 @@ fn make_plain(item: Item, values: &[i64], row: usize) -> Row
     ensures { λ r. ⌜ r ≡ plainRow (valueIn (now (values .entry)) row) (declarationOf (item ∷ [])) ⌝ }
 {
     match item {
-        Item::Frequency(_) => Row::Tone(Pitch(lists::read_value(values, row))),
-        Item::Base(_) => Row::Tone(Pitch(lists::read_value(values, row))),
+        Item::Frequency(_) => Row::Tone(pitch_at(values, row)),
+        Item::Base(_) => Row::Tone(pitch_at(values, row)),
         Item::AnchorKept => make_anchor(Amount::Kept),
         Item::AnchorTo(n) => make_anchor(Amount::Absolute(n as u16)),
         Item::AnchorUp(n) => make_anchor(Amount::Relative(Operator::Plus, n as u16)),
@@ -70,7 +70,7 @@ fn make_plain(item: Item, values: &[i64], row: usize) -> Row
         Item::WidthDown(n) => make_width(Amount::Relative(Operator::Minus, n as u16)),
         Item::WidthTimes(n) => make_width(Amount::Relative(Operator::Times, n as u16)),
         Item::WidthOver(n) => make_width(Amount::Relative(Operator::Divide, n as u16)),
-        _ => Row::Interval(Interval(lists::read_value(values, row))),
+        _ => Row::Interval(interval_at(values, row)),
     }
 }
 
@@ -89,7 +89,7 @@ fn read_period(items: &[u32], from: usize, to: usize, values: &[i64]) -> Row
     requires { ⌜ FitParts (now values) (periodOf (between (now items) from to)) ⌝ }
     ensures { λ r. ⌜ r ≡ rowOf (valueIn (now (values .entry))) 0 0 0 0 (periodOf (between (now (items .entry)) from to)) ⌝ }
 {
-    let sum = Interval(sums::cap(sums::sum_terms(items, from, to, values)));
+    let sum = sum_terms(items, from, to, values).to_interval();
     if to <= from {
         return make_period(PeriodChange::Fresh(sum));
     }
@@ -125,7 +125,7 @@ fn write_system(
     );
     Row::System {
         anchor: KeyNumber(key as u8),
-        period: Interval(lists::read_value(values, used.rows as usize)),
+        period: interval_at(values, used.rows as usize),
         from: used.tones,
         to: end as u32,
     }
@@ -234,7 +234,7 @@ fn write_lists(
 {
     let row = used.rows as usize;
     if to <= from {
-        return Row::Interval(Interval(lists::read_value(values, row)));
+        return Row::Interval(interval_at(values, row));
     }
     let item = items::item_at(items, from);
     if lists::is_position(item) {

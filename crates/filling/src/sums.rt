@@ -1,12 +1,16 @@
 // "Sequences add factor times measure": the sums of terms, over items.
+use crate::readers::interval_at;
+use cents::Interval;
+use cents::Pitch;
 use grammar::Item;
 use grammar::items;
 use limits::FARTHEST_TONE;
 ghost use mathlib.Core.Path.{_≡_};
 ghost use mathlib.Core.List.{[]};
-ghost use Prim.Native.Nat.{_≤_};
-ghost use lib.IntN.{natAbs, _*ℤ_};
-ghost use Rattle.values.specs.Inner.{greatestFactor};
+ghost use Prim.Native.Nat.{_*_, _≤_};
+ghost use lib.IntN.{natAbs, _+ℤ_, _*ℤ_};
+ghost use Rattle.grammar.specs.Reading.{mostTerms};
+ghost use Rattle.values.specs.Inner.{greatestFactor, largestTerm};
 ghost use Rattle.names.specs.Parts.{part};
 ghost use Rattle.program.specs.Program.{termThen, termsOf};
 ghost use Rattle.program.specs.Allowed.{Each};
@@ -19,13 +23,33 @@ const LOWEST: i64 = -HIGHEST;
 
 const HIGHEST: i64 = 2 * FARTHEST_TONE as i64 + 1;
 
-// The value of a declaration, so many times.
+// A sum of terms, in thousandths of a cent: it may be wider than an interval of the tables.
+pub struct Sum(pub i64);
+
+impl Sum {
+    // The interval, as the tables have it.
+    pub fn to_interval(self) -> Interval
+        ensures { λ r. ⌜ r .0 ≡ capped (self .0) ⌝ }
+    {
+        Interval(cap(self.0))
+    }
+
+    // A pitch shifted by the sum, as the tables have it.
+    pub fn shift(self, from: Pitch) -> Pitch
+        requires { ⌜ natAbs (self .0) ≤ mostTerms * largestTerm ⌝ }
+        ensures { λ r. ⌜ r .0 ≡ capped (from .0 +ℤ self .0) ⌝ }
+    {
+        Pitch(cap(from.0 as i64 + self.0))
+    }
+}
+
+// The interval of a declaration, so many times.
 fn multiply(values: &[i64], k: usize, times: i64) -> i64
     requires { ⌜ FitValue (now values) k ⌝ }
     requires { ⌜ natAbs times ≤ greatestFactor ⌝ }
     ensures { λ r. ⌜ r ≡ valueIn (now (values .entry)) k *ℤ times ⌝ }
 {
-    values[k] * times
+    interval_at(values, k).0 as i64 * times
 }
 
 // What an item adds to a sum: a factor times a value, if it is a term.
@@ -41,19 +65,19 @@ fn weigh(item: Item, values: &[i64]) -> i64
 }
 
 // The sum of the terms that stand from one place to another.
-pub fn sum_terms(items: &[u32], from: usize, to: usize, values: &[i64]) -> i64
+pub fn sum_terms(items: &[u32], from: usize, to: usize, values: &[i64]) -> Sum
     requires { ⌜ Summable (now values) (termsOf (between (now items) from to)) ⌝ }
-    ensures { λ r. ⌜ r ≡ sumOf (valueIn (now (values .entry))) (termsOf (between (now (items .entry)) from to)) ⌝ }
+    ensures { λ r. ⌜ r .0 ≡ sumOf (valueIn (now (values .entry))) (termsOf (between (now (items .entry)) from to)) ⌝ }
 {
     let mut sum = 0;
     for i in from..to {
         sum += weigh(items::item_at(items, i), values);
     }
-    sum
+    Sum(sum)
 }
 
-// A sum as the tables have it.
-pub fn cap(z: i64) -> i32
+// A number of thousandths of a cent, as the tables have it.
+fn cap(z: i64) -> i32
     ensures { λ r. ⌜ r ≡ capped z ⌝ }
 {
     if z <= LOWEST {

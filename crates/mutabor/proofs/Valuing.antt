@@ -18,7 +18,7 @@ use Rattle.values.specs.declared.Outcome.the-variants.{Done, Circular, OutOfRan
 use Rattle.tables.specs.Layout.{Tables}
 use Rattle.grammar.specs.declared.Item.{Item}
 use Rattle.program.specs.Program.{Program, programOf}
-use Rattle.program.specs.Meaning.{own, terms, exactly, valueOf, valued}
+use Rattle.program.specs.Meaning.{own, exactly, valueOf, valued}
 use Rattle.program.specs.Text.{Verdict, placeOf, byValue}
 use Rattle.valuation.specs.Inner.{Ready}
 use Rattle.filling.specs.Tables.{tablesOf}
@@ -50,17 +50,17 @@ at-fault Done n = Unit
 at-fault (Circular d) n = d < n
 at-fault (OutOfRange d) n = d < n
 
-fault-within : (p : Program) (n : ℕ) → at-fault (outcome (own p) (terms p) n) n
+fault-within : (p : Program) (n : ℕ) → at-fault (outcome (own p) n) n
 unfolding outcome verdict at-fault
-fault-within p n = go (firstFrom (circular (terms p) n) 0 n) refl (firstFrom (λ i. isBeyond (valueAt (own p) (terms p) n i)) 0 n) refl
+fault-within p n = go (firstFrom (circular (own p) n) 0 n) refl (firstFrom (λ i. isBeyond (valueAt (own p) n i)) 0 n) refl
   where
-    go : (f : Fault) → firstFrom (circular (terms p) n) 0 n ≡ f → (g : Fault) → firstFrom (λ i. isBeyond (valueAt (own p) (terms p) n i)) 0 n ≡ g → at-fault (verdict f g) n
-    go (At i) e g q = omega (arith, first-within (circular (terms p) n) 0 n i e)
-    go Nothing e (At i) q = omega (arith, first-within (λ i. isBeyond (valueAt (own p) (terms p) n i)) 0 n i q)
+    go : (f : Fault) → firstFrom (circular (own p) n) 0 n ≡ f → (g : Fault) → firstFrom (λ i. isBeyond (valueAt (own p) n i)) 0 n ≡ g → at-fault (verdict f g) n
+    go (At i) e g q = omega (arith, first-within (circular (own p) n) 0 n i e)
+    go Nothing e (At i) q = omega (arith, first-within (λ i. isBeyond (valueAt (own p) n i)) 0 n i q)
     go Nothing e Nothing q = tt
 
 module _ {is : List Item} {items starts : List ℕ} {count n : ℕ} {o : Outcome} {values : List ℤ} (d : Ready is items count starts n)
-    (w : Resolved (own (programOf is)) (terms (programOf is)) n o values) where
+    (w : Resolved (own (programOf is)) n o values) where
   abbrev p : Program
   p = programOf is
 
@@ -69,7 +69,7 @@ module _ {is : List Item} {items starts : List ℕ} {count n : ℕ} {o : Outcome
 
   is-valued : valued p ≡ o
   unfolding valued
-  is-valued = ap (outcome (own p) (terms p)) (sym e) ∙ sym (w .answer)
+  is-valued = ap (outcome (own p)) (sym e) ∙ sym (w .answer)
 
   found : at-fault o n
   found = subst (λ (x : Outcome). at-fault x n) (sym (w .answer)) (fault-within p n)
@@ -86,7 +86,7 @@ module _ {is : List Item} {items starts : List ℕ} {count n : ℕ} {o : Outcome
   unfolding valueOf
   values-known h s = record {
     size = s;
-    exact = λ i l. let x = w .exact h i (omega arith) in ap exactly (sym x) ∙ ap (λ (k : ℕ). exactly (valueAt (own p) (terms p) k i)) e;
+    exact = λ i l. let x = w .exact h i (omega arith) in ap exactly (sym x) ∙ ap (λ (k : ℕ). exactly (valueAt (own p) k i)) e;
     small = λ i l. w .small h i (omega arith);
   }
 

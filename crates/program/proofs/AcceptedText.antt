@@ -1,23 +1,23 @@
 -- For users of an accepted text: what its being accepted says, step by step, and the laws of its program, by the number of a declaration.
 use mathlib.Core.Path.{_≡_, refl, sym, _∙_, ap, subst}
 use mathlib.Core.Bool.{Bool, true, false}
-use mathlib.Core.List.{List, [], _∷_}
+use mathlib.Core.List.{List, [], _∷_, map}
 use mathlib.Core.Option.{Option}
 use Prim.Native.Nat.{ℕ, zero, suc, _+_, _-_, _≤_, _<_}
 use native.Mathlib.Omega.{arith}
 use borrow.Author.Tests.{ltb-true, ltb-false, le-leb}
 use lib.Dec.{ltb, eqb}
-use lib.IntN.{ℤ, pos, negsuc, natAbs, _+ℤ_, _*ℤ_, +ℤ-idr, +ℤ-assoc}
+use lib.IntN.{ℤ, pos, negsuc, natAbs, _+ℤ_}
 use lib.ListN.{length, getD, List·getD-eq-default}
 use Rattle.status.specs.Status.{done}
 use Rattle.tuning.specs.Desk.{isPeriod, isTone}
 use Rattle.values.specs.declared.Value.the-variants.{Exactly}
 use Rattle.values.specs.declared.Outcome.{Outcome}
 use Rattle.values.specs.declared.Outcome.the-variants.{Done, Circular, OutOfRange}
-use Rattle.values.specs.Values.{Term, farthestTone, within, weight, valueAt, outcome}
+use Rattle.values.specs.Values.{Term, farthestTone, within, valueAt, references, outcome}
 use Rattle.values.specs.Inner.{Uses, here, there}
 use Rattle.values.proofs.Cases.{impossible}
-use Rattle.values.proofs.Plain.{sumOf, done-exact, done-small, done-sums}
+use Rattle.values.proofs.Plain.{sumOf, startAt, done-exact, done-small, done-sums}
 use Rattle.grammar.specs.declared.Kind.{Kind}
 use Rattle.grammar.specs.declared.Kind.the-variants.{Interval, Tone, System, Retuning, Logic}
 use Rattle.grammar.specs.Moves.{kindNumber}
@@ -26,7 +26,7 @@ use Rattle.names.specs.Names.{meanings}
 use Rattle.names.specs.Inner.{mostDeclarations}
 use Rattle.program.specs.Program.{Placed, Program, programOf, Declaration, ratio, root, sequence, frequency, from, system}
 use Rattle.program.specs.Program.{anchor, width, freshPeriod, onwardPeriod, tones, logic}
-use Rattle.program.specs.Meaning.{usedBy, nothing, declarationAt, own, ownOf, terms, exactly, valueOf, valued}
+use Rattle.program.specs.Meaning.{nothing, declarationAt, own, ownOf, exactly, valueOf, valued}
 use Rattle.program.specs.Allowed.{kindOf, Each, FitTerm, Fits, ifKind, countOf, Allowed}
 use Rattle.program.specs.Text.{Verdict, accepted, byValue, ifZero, readText}
 
@@ -66,35 +66,35 @@ each-at P (x ∷ xs) w (suc i) d h = each-at P xs (w .1) i d (omega arith)
 pub fits-at : {p : Program} → Allowed p → (i : ℕ) → i < length p → Fits p (declarationAt p i)
 fits-at {p} w i h = each-at (λ (d : Placed). Fits p (d .is)) p (w .each) i nothing h
 
--- ---- the terms of a value are of declarations of the program
+-- ---- the references of a value are to declarations of the program
 
-used-within : (p : Program) {ts : List Term} {r : ℕ} → Uses ts r → Each (FitTerm p) ts → r < length p
-used-within p (here e) w = rw e at (w .0 .of .within)
-used-within p (there u) w = used-within p u (w .1)
+terms-within : (p : Program) (ts : List Term) {r : ℕ} → Uses (map (λ (t : Term). t .of) ts) r → Each (FitTerm p) ts → r < length p
+terms-within p (t ∷ ts) (here e) w = rw e at (w .0 .of .within)
+terms-within p (t ∷ ts) (there u) w = terms-within p ts u (w .1)
 
-uses-within : (p : Program) (d : Declaration) {r : ℕ} → Fits p d → Uses (usedBy d) r → r < length p
-uses-within p (ratio a b) w u = elim u [ ]
-uses-within p (root a b) w u = elim u [ ]
-uses-within p (sequence ts) w u = used-within p u (w .each)
-uses-within p (frequency f) w u = elim u [ ]
-uses-within p (from k ts) w (here e) = rw e at (w .0 .within)
-uses-within p (from k ts) w (there u) = used-within p u (w .1 .each)
-uses-within p (system a l ts) w u = used-within p u (w .period .each)
-uses-within p (anchor m) w u = elim u [ ]
-uses-within p (width m) w u = elim u [ ]
-uses-within p (freshPeriod ts) w u = elim u [ ]
-uses-within p (onwardPeriod ts) w u = elim u [ ]
-uses-within p (tones l) w u = elim u [ ]
-uses-within p (logic c s os) w u = elim u [ ]
+refers-within : (p : Program) (d : Declaration) {r : ℕ} → Fits p d → Uses (references (ownOf d)) r → r < length p
+refers-within p (ratio a b) w u = elim u [ ]
+refers-within p (root a b) w u = elim u [ ]
+refers-within p (sequence ts) w u = terms-within p ts u (w .each)
+refers-within p (frequency f) w u = elim u [ ]
+refers-within p (from k ts) w (here e) = rw e at (w .0 .within)
+refers-within p (from k ts) w (there u) = terms-within p ts u (w .1 .each)
+refers-within p (system a l ts) w u = terms-within p ts u (w .period .each)
+refers-within p (anchor m) w u = elim u [ ]
+refers-within p (width m) w u = elim u [ ]
+refers-within p (freshPeriod ts) w u = elim u [ ]
+refers-within p (onwardPeriod ts) w u = elim u [ ]
+refers-within p (tones l) w u = elim u [ ]
+refers-within p (logic c s os) w u = elim u [ ]
 
 -- as values/proofs/Plain.antt takes it
-pub closed : {p : Program} → Allowed p → (i r : ℕ) → Uses (terms p i) r → r < length p
+pub closed : {p : Program} → Allowed p → (i r : ℕ) → Uses (references (own p i)) r → r < length p
 closed {p} w i r u = go (ltb i (length p)) refl
   where
     go : (b : Bool) → ltb i (length p) ≡ b → r < length p
-    go true e = uses-within p (declarationAt p i) (fits-at w i (ltb-true i (length p) e)) u
+    go true e = refers-within p (declarationAt p i) (fits-at w i (ltb-true i (length p) e)) u
     go false e =
-        let v = subst (λ (d : Placed). Uses (usedBy (d .is)) r) (List·getD-eq-default p nothing (ltb-false i (length p) e)) u in
+        let v = subst (λ (d : Placed). Uses (references (ownOf (d .is))) r) (List·getD-eq-default p nothing (ltb-false i (length p) e)) u in
         elim v [ ]
 
 -- ---- how many declarations there are: each is of one of five kinds
@@ -131,34 +131,25 @@ tone-in : (z : ℤ) → natAbs z ≤ farthestTone → isTone z ≡ true
 tone-in (pos n) h = le-leb n farthestTone h
 tone-in (negsuc n) h = rw (le-leb n (farthestTone - 1) (omega arith))
 
--- a sum with a start value is that plus the plain sum, which any g is that adds value times weight term by term
-pub sum-apart : (f : ℕ → ℤ) (g : List Term → ℤ) → g [] ≡ pos 0 → ((t : Term) (ts : List Term) → g (t ∷ ts) ≡ f (t .of) *ℤ weight t +ℤ g ts)
-    → (s : ℤ) (ts : List Term) → sumOf f s ts ≡ s +ℤ g ts
-unfolding sumOf
-sum-apart f g none more s [] = rw none (sym (+ℤ-idr s))
-sum-apart f g none more s (t ∷ ts) =
-    let x = f (t .of) *ℤ weight t in
-    rw (more t ts) (sum-apart f g none more (s +ℤ x) ts ∙ +ℤ-assoc s x (g ts))
-
 module _ (p : Program) (e : valued p ≡ Done) where
   -- as values/proofs/Plain.antt takes it
-  pub outcome-done : outcome (own p) (terms p) (length p) ≡ Done
+  pub outcome-done : outcome (own p) (length p) ≡ Done
   unfolding valued
   outcome-done = e
 
   value-within : (i : ℕ) → i < length p
-      → (valueAt (own p) (terms p) (length p) i ≡ Exactly (valueOf p i)) × (within (own p i .range) (valueOf p i) ≡ true)
+      → (valueAt (own p) (length p) i ≡ Exactly (valueOf p i)) × (within (own p i .range) (valueOf p i) ≡ true)
   unfolding valueOf
   value-within i h =
-      let x = done-exact (own p) (terms p) (length p) outcome-done i h in
+      let x = done-exact (own p) (length p) outcome-done i h in
       let z : valueOf p i ≡ x .0 = ap exactly (x .1) in
       (x .1 ∙ ap Exactly (sym z), rw z (x .2))
 
-  pub value-exact : (i : ℕ) → i < length p → valueAt (own p) (terms p) (length p) i ≡ Exactly (valueOf p i)
+  pub value-exact : (i : ℕ) → i < length p → valueAt (own p) (length p) i ≡ Exactly (valueOf p i)
   value-exact i h = value-within i h .0
 
   pub value-small : (i : ℕ) → i < length p → natAbs (valueOf p i) ≤ farthestTone
-  value-small i h = done-small (own p) (terms p) (length p) outcome-done i h (value-exact i h)
+  value-small i h = done-small (own p) (length p) outcome-done i h (value-exact i h)
 
   pub value-tone : (i : ℕ) → i < length p → isTone (valueOf p i) ≡ true
   value-tone i h = tone-in (valueOf p i) (value-small i h)
@@ -167,6 +158,6 @@ module _ (p : Program) (e : valued p ≡ Done) where
       → isPeriod (valueOf p i) ≡ true
   value-period i h d = subst (λ c. within (ownOf c .range) (valueOf p i) ≡ true) d (value-within i h .1)
 
-  -- what it has of its own plus the sum of its terms
-  pub value-is : Allowed p → (i : ℕ) → i < length p → valueOf p i ≡ sumOf (valueOf p) (own p i .measure) (terms p i)
-  value-is w = done-sums (own p) (terms p) (length p) outcome-done (closed w) (valueOf p) value-exact
+  -- what it starts from and the sum of its terms
+  pub value-is : Allowed p → (i : ℕ) → i < length p → valueOf p i ≡ startAt (valueOf p) (own p i .origin) +ℤ sumOf (valueOf p) (own p i .terms)
+  value-is w = done-sums (own p) (length p) outcome-done (closed w) (valueOf p) value-exact

@@ -1,51 +1,37 @@
 -- The values of a text's intervals, tones and periods: "Measure", and the numbers 7 and 8.
-use mathlib.Core.Bool.{false}
-use mathlib.Core.List.{List, [], _∷_, map}
+use mathlib.Core.List.{List, []}
 use Prim.Native.Nat.{ℕ}
 use lib.IntN.{ℤ, pos}
 use lib.ListN.{getD, length}
 use Rattle.cents.specs.Measure as measures
-use Rattle.values.specs.Values.{Term, Own, Range, tone, period, valueAt, outcome}
+use Rattle.values.specs.Values.{Term, Range, tone, period, Origin, interval, pitch, base, Own, valueAt, outcome}
 use Rattle.values.specs.declared.Value.{Value}
 use Rattle.values.specs.declared.Value.the-variants.{Beyond, Exactly}
 use Rattle.values.specs.declared.Outcome.{Outcome}
 use Rattle.program.specs.Program.{Declaration, ratio, root, sequence, frequency, from, system, anchor, width, freshPeriod, onwardPeriod, tones, logic, Placed, Program}
 
-abbrev pub measured : ℤ → Own
-measured z = record { range = tone; measure = z }
+-- a value that is what it starts from
+abbrev pub measured : Origin → Own
+measured o = record { range = tone; origin = o; terms = [] }
 
--- what a declaration has of its own, and the range of its value: intervals and tones, and a tone system's period; the others have no value
+-- a sequence, which starts from the interval 0
+abbrev pub sequenced : Range → List Term → Own
+sequenced g ts = record { range = g; origin = interval (pos 0); terms = ts }
+
+-- what a declaration has for its value: intervals, tones, and tone systems for their period; the others have no value, and stand at 0
 abbrev pub ownOf : Declaration → Own
-ownOf (ratio p q) = measured (measures.ratio p q)
-ownOf (root a b) = measured (measures.root a b)
-ownOf (sequence ts) = measured (pos 0)
-ownOf (frequency f) = measured (measures.frequency f)
-ownOf (from k ts) = measured (pos 0)
-ownOf (system a l ts) = record { range = period; measure = pos 0 }
-ownOf (anchor m) = measured (pos 0)
-ownOf (width m) = measured (pos 0)
-ownOf (freshPeriod ts) = measured (pos 0)
-ownOf (onwardPeriod ts) = measured (pos 0)
-ownOf (tones l) = measured (pos 0)
-ownOf (logic c s os) = measured (pos 0)
-
--- the terms that its value uses: "a tone name followed by any number of signed terms" uses that tone once
-abbrev pub once : ℕ → Term
-once k = record { minus = false; factor = 1; of = k }
-
-abbrev pub usedBy : Declaration → List Term
-usedBy (ratio p q) = []
-usedBy (root a b) = []
-usedBy (sequence ts) = ts
-usedBy (frequency f) = []
-usedBy (from k ts) = once k ∷ ts
-usedBy (system a l ts) = ts
-usedBy (anchor m) = []
-usedBy (width m) = []
-usedBy (freshPeriod ts) = []
-usedBy (onwardPeriod ts) = []
-usedBy (tones l) = []
-usedBy (logic c s os) = []
+ownOf (ratio p q) = measured (interval (measures.ratio p q))
+ownOf (root a b) = measured (interval (measures.root a b))
+ownOf (sequence ts) = sequenced tone ts
+ownOf (frequency f) = measured (pitch (measures.frequency f))
+ownOf (from k ts) = record { range = tone; origin = base k; terms = ts }
+ownOf (system a l ts) = sequenced period ts
+ownOf (anchor m) = sequenced tone []
+ownOf (width m) = sequenced tone []
+ownOf (freshPeriod ts) = sequenced tone []
+ownOf (onwardPeriod ts) = sequenced tone []
+ownOf (tones l) = sequenced tone []
+ownOf (logic c s os) = sequenced tone []
 
 abbrev pub nothing : Placed
 nothing = record { place = 0; is = sequence [] }
@@ -56,17 +42,14 @@ declarationAt p i = getD p i nothing .is
 abbrev pub own : Program → ℕ → Own
 own p i = ownOf (declarationAt p i)
 
-abbrev pub terms : Program → ℕ → List Term
-terms p i = usedBy (declarationAt p i)
-
 -- the value of declaration i; of a text that is accepted every one is in its range
 abbrev pub exactly : Value → ℤ
 exactly Beyond = pos 0
 exactly (Exactly z) = z
 
 unfoldable pub valueOf : Program → ℕ → ℤ
-valueOf p i = exactly (valueAt (own p) (terms p) (length p) i)
+valueOf p i = exactly (valueAt (own p) (length p) i)
 
 -- 7, 8, or done
 unfoldable pub valued : Program → Outcome
-valued p = outcome (own p) (terms p) (length p)
+valued p = outcome (own p) (length p)

@@ -1,6 +1,6 @@
 -- What the contracts cite: how the items of a text lie in slices, where each declaration's own stand, and what they have for its value.
 use mathlib.Core.Path.{_≡_}
-use mathlib.Core.Bool.{true, false}
+use mathlib.Core.Bool.{Bool, true, false, cond}
 use mathlib.Core.List.{List, [], _∷_, map}
 use Prim.Native.Nat.{ℕ, suc, _+_, _*_, _≤_, _<_}
 use lib.IntN.{ℤ, pos}
@@ -12,11 +12,12 @@ use Rattle.names.specs.Parts.{Part, declares, gives, uses, says, part}
 use Rattle.names.specs.Inner.{Held, itemsIn, beginnings}
 use Rattle.cents.specs.Measure as measures
 use Rattle.values.specs.Values as values
-use Rattle.values.specs.Values.{Own, Range, tone, period}
-use Rattle.values.specs.Rows.{rows, termsPerRow, factors, codeOf, periodRange, ownIn, termsIn, Declared}
+use Rattle.values.specs.Values.{Own, Range, tone, period, Origin, interval, pitch, base}
+use Rattle.values.specs.Rows.{rows, termsPerRow, factors, codeOf, intervalForm, periodForm, pitchForm, baseForm, ownIn, Declared}
 use Rattle.program.specs.Program.{Declaration, declarationOf, Program, programOf}
-use Rattle.program.specs.Meaning.{measured, ownOf, once, usedBy, own, terms}
+use Rattle.program.specs.Meaning.{ownOf, own}
 use Rattle.program.specs.Allowed.{Allowed, Each, Decimal, Degree}
+use Rattle.valuation.specs.declared.OriginCode.{OriginCode}
 use Rattle.valuation.specs.declared.Content.{Content}
 use Rattle.valuation.specs.declared.Content.the-variants.{Ratio, Root, Frequency, Period, Tone, Term, Nothing}
 
@@ -65,24 +66,37 @@ abbrev pub contentAt : List Item → Content
 contentAt [] = Nothing
 contentAt (i ∷ is) = contentOf (part i)
 
-abbrev pub ownBy : Content → Own
-ownBy (Ratio p q) = measured (measures.ratio p q)
-ownBy (Root a b) = measured (measures.root a b)
-ownBy (Frequency f) = measured (measures.frequency f)
-ownBy Period = record { range = period; measure = pos 0 }
-ownBy (Tone k) = measured (pos 0)
-ownBy (Term m f k) = measured (pos 0)
-ownBy Nothing = measured (pos 0)
+abbrev pub rangeBy : Content → Range
+rangeBy (Ratio p q) = tone
+rangeBy (Root a b) = tone
+rangeBy (Frequency f) = tone
+rangeBy Period = period
+rangeBy (Tone k) = tone
+rangeBy (Term m f k) = tone
+rangeBy Nothing = tone
+
+abbrev pub originBy : Content → Origin
+originBy (Ratio p q) = interval (measures.ratio p q)
+originBy (Root a b) = interval (measures.root a b)
+originBy (Frequency f) = pitch (measures.frequency f)
+originBy Period = interval (pos 0)
+originBy (Tone k) = base k
+originBy (Term m f k) = interval (pos 0)
+originBy Nothing = interval (pos 0)
+
+-- whether the terms among its items are those of its value
+abbrev pub hasTerms : Content → Bool
+hasTerms (Ratio p q) = false
+hasTerms (Root a b) = false
+hasTerms (Frequency f) = false
+hasTerms Period = true
+hasTerms (Tone k) = true
+hasTerms (Term m f k) = true
+hasTerms Nothing = false
 
 -- ts are the terms among its items
-abbrev pub usedIn : Content → List values.Term → List values.Term
-usedIn (Ratio p q) ts = []
-usedIn (Root a b) ts = []
-usedIn (Frequency f) ts = []
-usedIn Period ts = ts
-usedIn (Tone k) ts = once k ∷ ts
-usedIn (Term m f k) ts = ts
-usedIn Nothing ts = []
+abbrev pub ownBy : Content → List values.Term → Own
+ownBy x ts = record { range = rangeBy x; origin = originBy x; terms = cond (hasTerms x) ts [] }
 
 -- the term that an item is, if it is one
 abbrev pub termIn : Content → List values.Term
@@ -101,13 +115,13 @@ codeIn (t ∷ ts) = codeOf t
 
 -- ---- what can be put into the tables of the values
 
--- its numbers have a measure
+-- its numbers have a measure, and its base a number
 abbrev pub Measurable : Content → Type 0
 Measurable (Ratio p q) = Decimal p × Decimal q
 Measurable (Root a b) = Degree a × Decimal b
 Measurable (Frequency f) = Decimal f
 Measurable Period = Unit
-Measurable (Tone k) = Unit
+Measurable (Tone k) = k < rows
 Measurable (Term m f k) = Unit
 Measurable Nothing = Unit
 
@@ -123,20 +137,37 @@ pub record Writable (ts : List values.Term) (at : ℕ) (table : List ℕ) : Type
 
 -- ---- the tables
 
-abbrev pub rangeNumber : Range → ℕ
-rangeNumber tone = 0
-rangeNumber period = periodRange
+-- what a row has of what a value starts from: the form, and the number of the interval, the pitch or the base
+abbrev pub formBy : Range → Origin → ℕ
+formBy period o = periodForm
+formBy tone (interval d) = intervalForm
+formBy tone (pitch p) = pitchForm
+formBy tone (base k) = baseForm
+
+abbrev pub numberBy : Origin → ℤ
+numberBy (interval d) = d
+numberBy (pitch p) = p
+numberBy (base k) = pos k
+
+abbrev pub codedAs : ℕ → ℤ → OriginCode
+codedAs form number = record { form = form; number = number }
+
+-- a base is one of the rows
+abbrev pub Holdable : Origin → Type 0
+Holdable (interval d) = Unit
+Holdable (pitch p) = Unit
+Holdable (base k) = k < rows
 
 -- tables of full size
-pub record Full (ranges : List ℕ) (measures : List ℤ) (table : List ℕ) : Type 0 where
-  pub all-ranges : length ranges ≡ rows
-  pub all-measures : length measures ≡ rows
+pub record Full (forms : List ℕ) (origins : List ℤ) (table : List ℕ) : Type 0 where
+  pub all-forms : length forms ≡ rows
+  pub all-origins : length origins ≡ rows
   pub all-terms : length table ≡ rows * termsPerRow
 
 -- and these with nothing in them
-pub record Blank (ranges : List ℕ) (measures : List ℤ) (table : List ℕ) : Type 0 where
-  pub no-range : ranges ≡ replicate rows 0
-  pub no-measure : measures ≡ replicate rows (pos 0)
+pub record Blank (forms : List ℕ) (origins : List ℤ) (table : List ℕ) : Type 0 where
+  pub no-form : forms ≡ replicate rows 0
+  pub no-origin : origins ≡ replicate rows (pos 0)
   pub no-term : table ≡ replicate (rows * termsPerRow) 0
 
 -- the items from one place to another
@@ -146,18 +177,17 @@ between items from to = drop from (itemsIn to items)
 -- the declaration of these items goes into the tables
 pub record Gatherable (is : List Item) : Type 0 where
   pub measurable : Measurable (contentAt is)
-  pub few : length (usedBy (declarationOf is)) ≤ termsPerRow
-  pub small : Each (Small rows) (usedBy (declarationOf is))
+  pub few : length (ownOf (declarationOf is) .terms) ≤ termsPerRow
+  pub small : Each (Small rows) (ownOf (declarationOf is) .terms)
 
 -- the tables before declaration c went into row d, and after
-module _ (c : Declaration) (d : ℕ) (ranges : List ℕ) (measures : List ℤ) (table : List ℕ) where
-  pub record Entered (ranges′ : List ℕ) (measures′ : List ℤ) (table′ : List ℕ) : Type 0 where
-    pub range : ranges′ ≡ set ranges d (rangeNumber (ownOf c .range))
-    pub measure : measures′ ≡ set measures d (ownOf c .measure)
-    pub used : table′ ≡ sets table (d * termsPerRow) (map codeOf (usedBy c))
+module _ (c : Declaration) (d : ℕ) (forms : List ℕ) (origins : List ℤ) (table : List ℕ) where
+  pub record Entered (forms′ : List ℕ) (origins′ : List ℤ) (table′ : List ℕ) : Type 0 where
+    pub form : forms′ ≡ set forms d (formBy (ownOf c .range) (ownOf c .origin))
+    pub origin : origins′ ≡ set origins d (numberBy (ownOf c .origin))
+    pub terms : table′ ≡ sets table (d * termsPerRow) (map codeOf (ownOf c .terms))
 
 -- the tables hold all n declarations of a program
-pub record Gathered (p : Program) (n : ℕ) (ranges : List ℕ) (measures : List ℤ) (table : List ℕ) : Type 0 where
-  pub declared : Declared n ranges measures table
-  pub own-all : (i : ℕ) → ownIn ranges measures i ≡ own p i
-  pub terms-all : (i : ℕ) → termsIn table i ≡ terms p i
+pub record Gathered (p : Program) (n : ℕ) (forms : List ℕ) (origins : List ℤ) (table : List ℕ) : Type 0 where
+  pub declared : Declared n forms origins table
+  pub own-all : (i : ℕ) → ownIn forms origins table i ≡ own p i

@@ -1,13 +1,18 @@
-// The values of a text's declarations: each declaration's own measure and terms are gathered from the items, then resolved.
+// The values of a text's declarations: what each value starts from and its terms are gathered from the items, then resolved.
+use cents::Interval;
 use cents::measure::measure_frequency;
 use cents::measure::measure_ratio;
 use cents::measure::measure_root;
 use grammar::Item;
 use grammar::items;
+use values::BASE_FORM;
 use values::FACTORS;
+use values::INTERVAL_FORM;
+use values::Origin;
 use values::Outcome;
 use values::PER_DECLARATION;
-use values::PERIOD_RANGE;
+use values::PERIOD_FORM;
+use values::PITCH_FORM;
 use values::ROWS;
 use values::TERMS_PER_ROW;
 ghost use mathlib.Core.Path.{_≡_};
@@ -17,14 +22,13 @@ ghost use lib.ListN.{length, getD, take};
 ghost use lib.Seq.{sets};
 ghost use Rattle.names.specs.Parts.{part};
 ghost use Rattle.names.specs.Inner.{itemsIn};
+ghost use Rattle.values.specs.Values.{tone};
 ghost use Rattle.values.specs.Rows.{rows, codeOf, Resolved};
+ghost use Rattle.values.specs.Inner.{meant};
 ghost use Rattle.program.specs.Program.{termsOf, declarationOf, programOf};
-ghost use Rattle.program.specs.Meaning.{own, terms};
+ghost use Rattle.program.specs.Meaning.{own};
 ghost use Rattle.program.specs.Allowed.{Each};
-ghost use Rattle.valuation.specs.Inner.{Ready, between, contentOf, contentAt, ownBy, usedIn, termIn, codeIn, Measurable, Small, Writable, rangeNumber, Full, Blank, Gatherable, Entered, Gathered};
-
-// A row's range, where it is no tone system.
-const TONE_RANGE: u8 = 0;
+ghost use Rattle.valuation.specs.Inner.{Ready, between, contentOf, contentAt, rangeBy, originBy, hasTerms, termIn, codeIn, Measurable, Small, Writable, formBy, numberBy, codedAs, Holdable, Full, Blank, Gatherable, Entered, Gathered};
 
 // What an item has for the value of its declaration.
 enum Content {
@@ -35,6 +39,12 @@ enum Content {
     Tone(u32),
     Term(bool, u32, u32),
     Nothing,
+}
+
+// How a row has what a value starts from.
+struct OriginCode {
+    form: u8,
+    number: i32,
 }
 
 fn content_of(item: Item) -> Content
@@ -62,27 +72,64 @@ fn content_at(items: &[u32], from: usize, to: usize) -> Content
     content_of(items::item_at(items, from))
 }
 
-// The range of the value of a declaration that begins with this content.
-fn range_of(content: Content) -> u8
-    ensures { λ r. ⌜ r ≡ rangeNumber (ownBy content .range) ⌝ }
+// What the value of a declaration that begins with this content starts from.
+fn origin_of(content: Content) -> Origin
+    requires { ⌜ Measurable content ⌝ }
+    ensures { λ r. ⌜ meant r ≡ originBy content ⌝ }
 {
-    if let Content::Period = content {
-        PERIOD_RANGE
-    } else {
-        TONE_RANGE
+    match content {
+        Content::Ratio(p, q) => Origin::Interval(measure_ratio(p, q)),
+        Content::Root(a, b) => Origin::Interval(measure_root(a, b)),
+        Content::Frequency(f) => Origin::Pitch(measure_frequency(f)),
+        Content::Tone(of) => Origin::Base(of as usize),
+        _ => Origin::Interval(Interval(0)),
     }
 }
 
-// Its measure, 0 where it has none of its own.
-fn measure_of(content: Content) -> i32
+// The form and the number of what a value starts from. From here on an interval's number and a pitch's go the same way, told apart by the form.
+fn encode(origin: Origin) -> OriginCode
+    requires { ⌜ Holdable (meant origin) ⌝ }
+    ensures { λ r. ⌜ r ≡ codedAs (formBy tone (meant origin)) (numberBy (meant origin)) ⌝ }
+{
+    match origin {
+        Origin::Interval(d) => OriginCode {
+            form: INTERVAL_FORM,
+            number: d.0,
+        },
+        Origin::Pitch(p) => OriginCode {
+            form: PITCH_FORM,
+            number: p.0,
+        },
+        Origin::Base(k) => OriginCode {
+            form: BASE_FORM,
+            number: k as i32,
+        },
+    }
+}
+
+// The form and the number of a row whose declaration begins with this content.
+fn encode_content(content: Content) -> OriginCode
     requires { ⌜ Measurable content ⌝ }
-    ensures { λ r. ⌜ r ≡ ownBy content .measure ⌝ }
+    ensures { λ r. ⌜ r ≡ codedAs (formBy (rangeBy content) (originBy content)) (numberBy (originBy content)) ⌝ }
+{
+    if let Content::Period = content {
+        return OriginCode {
+            form: PERIOD_FORM,
+            number: 0,
+        };
+    }
+    encode(origin_of(content))
+}
+
+// Whether the terms among the items are those of the value.
+fn has_terms(content: Content) -> bool
+    ensures { λ r. ⌜ r ≡ hasTerms content ⌝ }
 {
     match content {
-        Content::Ratio(p, q) => measure_ratio(p, q).0,
-        Content::Root(a, b) => measure_root(a, b).0,
-        Content::Frequency(f) => measure_frequency(f).0,
-        _ => 0,
+        Content::Period => true,
+        Content::Tone(_) => true,
+        Content::Term(_, _, _) => true,
+        _ => false,
     }
 }
 
@@ -122,48 +169,30 @@ fn gather_terms(items: &[u32], from: usize, to: usize, terms: &mut [u32], at: us
     }
 }
 
-// Puts the terms that the value of a declaration uses into a table: a tone uses the one that it starts from, once.
-fn gather_used(
-    items: &[u32],
-    from: usize,
-    to: usize,
-    content: Content,
-    terms: &mut [u32],
-    at: usize,
-)
-    requires { ⌜ Writable (usedIn content (termsOf (between (now items) from to))) at (now terms) ⌝ }
-    ensures { λ _. ⌜ now (terms .exit) ≡ sets (now (terms .entry)) at (map codeOf (usedIn content (termsOf (between (now (items .entry)) from to)))) ⌝ }
-{
-    match content {
-        Content::Tone(of) => {
-            terms[at] = encode_term(false, 1, of);
-            gather_terms(items, from, to, terms, at + 1);
-        }
-        Content::Period => gather_terms(items, from, to, terms, at),
-        Content::Term(_, _, _) => gather_terms(items, from, to, terms, at),
-        _ => {}
-    }
-}
-
 // Puts the declaration whose items stand from `from` to `to` into row `d` of the tables.
 fn gather_declaration(
     items: &[u32],
     from: usize,
     to: usize,
     d: usize,
-    ranges: &mut [u8],
-    measures: &mut [i32],
+    forms: &mut [u8],
+    origins: &mut [i32],
     terms: &mut [u32],
 )
     requires { ⌜ d < rows ⌝ }
-    requires { ⌜ Full (now ranges) (now measures) (now terms) ⌝ }
+    requires { ⌜ Full (now forms) (now origins) (now terms) ⌝ }
     requires { ⌜ Gatherable (between (now items) from to) ⌝ }
-    ensures { λ _. ⌜ Entered (declarationOf (between (now (items .entry)) from to)) d (now (ranges .entry)) (now (measures .entry)) (now (terms .entry)) (now (ranges .exit)) (now (measures .exit)) (now (terms .exit)) ⌝ }
+    ensures { λ _. ⌜ Entered (declarationOf (between (now (items .entry)) from to)) d (now (forms .entry)) (now (origins .entry)) (now (terms .entry)) (now (forms .exit)) (now (origins .exit)) (now (terms .exit)) ⌝ }
 {
     let content = content_at(items, from, to);
-    ranges[d] = range_of(content);
-    measures[d] = measure_of(content);
-    gather_used(items, from, to, content, terms, d * TERMS_PER_ROW);
+    let code = encode_content(content);
+    let number = code.number;
+    forms[d] = code.form;
+    origins[d] = number;
+    if !has_terms(content) {
+        return;
+    }
+    gather_terms(items, from, to, terms, d * TERMS_PER_ROW);
 }
 
 // Where the items of declaration `d` end.
@@ -187,20 +216,20 @@ fn gather_all(
     count: usize,
     starts: &[u32],
     n: usize,
-    ranges: &mut [u8],
-    measures: &mut [i32],
+    forms: &mut [u8],
+    origins: &mut [i32],
     terms: &mut [u32],
 )
     ghost { List Item }
     requires { λ is. ⌜ itemsIn count (now items) ≡ is ⌝ }
     requires { λ is. ⌜ Ready is (now items) count (now starts) n ⌝ }
-    requires { λ is. ⌜ Blank (now ranges) (now measures) (now terms) ⌝ }
-    ensures { λ is _. ⌜ Gathered (programOf is) n (now (ranges .exit)) (now (measures .exit)) (now (terms .exit)) ⌝ }
+    requires { λ is. ⌜ Blank (now forms) (now origins) (now terms) ⌝ }
+    ensures { λ is _. ⌜ Gathered (programOf is) n (now (forms .exit)) (now (origins .exit)) (now (terms .exit)) ⌝ }
 {
     for d in 0..n {
         let from = starts[d] as usize + 1;
         let to = end_of(starts, n, count, d);
-        gather_declaration(items, from, to, d, ranges, measures, terms);
+        gather_declaration(items, from, to, d, forms, origins, terms);
     }
 }
 
@@ -216,19 +245,19 @@ pub fn value_declarations(
     requires { λ is. ⌜ itemsIn count (now items) ≡ is ⌝ }
     requires { λ is. ⌜ Ready is (now items) count (now starts) n ⌝ }
     requires { λ is. ⌜ length (now values) ≡ rows ⌝ }
-    ensures { λ is r. ⌜ Resolved (own (programOf is)) (terms (programOf is)) n r (now (values .exit)) ⌝ }
+    ensures { λ is r. ⌜ Resolved (own (programOf is)) n r (now (values .exit)) ⌝ }
 {
-    let mut ranges = [0u8; ROWS];
-    let mut measures = [0i32; ROWS];
+    let mut forms = [0u8; ROWS];
+    let mut origins = [0i32; ROWS];
     let mut terms = [0u32; ROWS * TERMS_PER_ROW];
     gather_all(
         items,
         count,
         starts,
         n,
-        &mut ranges,
-        &mut measures,
+        &mut forms,
+        &mut origins,
         &mut terms,
     );
-    values::resolve(&ranges, &measures, &terms, n, values)
+    values::resolve(&forms, &origins, &terms, n, values)
 }

@@ -14,11 +14,11 @@ use Rattle.valuation.proofs.gather_all.Statement.{statement}
 use Rattle.valuation.proofs.gather_all.Tie as tie
 
 abbrev Inv-loop : tie.InvT-loop
-Inv-loop items count starts n ranges₀ measures₀ terms₀ d₀ ranges measures terms d =
-    Filled (programOf (itemsIn count items)) d ranges measures terms
+Inv-loop items count starts n forms₀ origins₀ terms₀ d₀ forms origins terms d =
+    Filled (programOf (itemsIn count items)) d forms origins terms
 
 abbrev μ-loop : tie.MeasureT-loop
-μ-loop items count starts n ranges₀ measures₀ terms₀ d₀ ranges measures terms d = n - d
+μ-loop items count starts n forms₀ origins₀ terms₀ d₀ forms origins terms d = n - d
 
 loop-holds : tie.Need-loop-holds Inv-loop μ-loop
 loop-holds c = filled-none _ (c .before .before .before .before .pre .1)
@@ -66,14 +66,14 @@ loop-again c =
     (ready-body r _ h (end .end-of .ensures)) (put .gather-declaration .ensures)
 
 full-before : (c : tie.After-loop Inv-loop μ-loop)
-    → let a = c .before .before .before .before .before .before .args in Full (a .ranges .now) (a .measures .now) (a .terms .now)
+    → let a = c .before .before .before .before .before .before .args in Full (a .forms .now) (a .origins .now) (a .terms .now)
 full-before c = blank-full (c .before .before .before .before .before .before .pre .1)
 
 same-length : tie.Need-same-length Inv-loop μ-loop
-same-length c = c .before .loop .inv .full .all-ranges ∙ sym (full-before c .all-ranges)
+same-length c = c .before .loop .inv .full .all-forms ∙ sym (full-before c .all-forms)
 
 same-length-2 : tie.Need-same-length-2 Inv-loop μ-loop
-same-length-2 c = c .before .loop .inv .full .all-measures ∙ sym (full-before c .all-measures)
+same-length-2 c = c .before .loop .inv .full .all-origins ∙ sym (full-before c .all-origins)
 
 same-length-3 : tie.Need-same-length-3 Inv-loop μ-loop
 same-length-3 c = c .before .loop .inv .full .all-terms ∙ sym (full-before c .all-terms)

@@ -1,40 +1,33 @@
--- The row gets what the items have, which is what the declaration has (`entered`).
+-- The row gets what the items have, which is what the declaration has (`entered-none`, `entered-terms`).
 -- Assumes nothing.
-use mathlib.Core.Path.{sym, _∙_, subst}
-use borrow.Author.Needs.{needs}
+use mathlib.Core.Path.{sym, subst}
+use borrow.Author.Tests.{not-true, not-false}
 use mir.Facts.{toZ-ofZ}
 use mir.Syntax.{w32}
 use mir.Val.{SFits}
-use Rattle.valuation.proofs.Contents.{writable-used, entered}
-use Rattle.valuation.specs.Inner.{Measurable}
+use Rattle.valuation.specs.Inner.{between, Measurable}
+use Rattle.valuation.proofs.Contents.{terms-writable, entered-none, entered-terms}
+use borrow.Author.Needs.{needs}
 use Rattle.valuation.proofs.gather_declaration.Statement.{statement}
 use Rattle.valuation.proofs.gather_declaration.Tie as tie
 
 content-at-requires : tie.Need-content-at-requires
 content-at-requires c κs = search needs
 
-range-of-requires : tie.Need-range-of-requires
-range-of-requires c κs = search needs
+encode-content-requires : tie.Need-encode-content-requires
+encode-content-requires c κs = subst Measurable (sym (c .content-at .ensures)) (c .before .before .before .before .pre .1 .1 .measurable)
 
-slice-write-ranges : tie.Need-slice-write-ranges
-slice-write-ranges c = search needs
+slice-write-forms : tie.Need-slice-write-forms
+slice-write-forms c = search needs
 
-measure-of-requires : tie.Need-measure-of-requires
-measure-of-requires c κs = subst Measurable (sym (c .before .content-at .ensures)) (c .before .before .before .before .before .pre .1 .1 .measurable)
+mul-number : tie.Need-mul-number
+mul-number c = search needs
 
-mul-t12 : tie.Need-mul-t12
-mul-t12 c = search needs
+slice-set-from-number : tie.Need-slice-set-from-number
+slice-set-from-number c = search needs
 
-slice-set-from-measures : tie.Need-slice-set-from-measures
-slice-set-from-measures c = search needs
-
-mul-gather-used : tie.Need-mul-gather-used
-mul-gather-used c = search needs
-
-gather-used-requires : tie.Need-gather-used-requires
-gather-used-requires c κs =
-    let start = c .before .before .before .before .before .before .before in
-    writable-used _ _ _ (c .before .before .before .content-at .ensures) (start .pre .0) (start .pre .1 .0 .all-terms) (start .pre .1 .1)
+has-terms-requires : tie.Need-has-terms-requires
+has-terms-requires c κs = search needs
 
 same-length : tie.Need-same-length
 same-length c = search needs
@@ -42,29 +35,49 @@ same-length c = search needs
 same-length-2 : tie.Need-same-length-2
 same-length-2 c = search needs
 
+returns : tie.Need-returns
+returns c =
+    let a = c .before .before .before .before .before .before .before .before .args in
+    let f : SFits w32 (c .before .before .before .encode-content .result .number) = search needs in
+    rw (toZ-ofZ f) (entered-none (between (a .items .now) (a .from) (a .to)) _ _ (c .before .before .before .before .content-at .ensures) (c .before .has-terms .ensures) _ _ (c .before .before .before .encode-content .ensures) (not-true _ (c .if1 .taken)))
+
+mul-gather-terms : tie.Need-mul-gather-terms
+mul-gather-terms c = search needs
+
+gather-terms-requires : tie.Need-gather-terms-requires
+gather-terms-requires c κs =
+    terms-writable _ _ _ (c .before .before .before .before .before .content-at .ensures) (c .before .before .has-terms .ensures) (not-false _ (c .before .if1 .left)) (c .before .before .before .before .before .before .before .before .before .pre .0) (c .before .before .before .before .before .before .before .before .before .pre .1 .0 .all-terms) (c .before .before .before .before .before .before .before .before .before .pre .1 .1)
+
 same-length-3 : tie.Need-same-length-3
 same-length-3 c = search needs
 
-returns : tie.Need-returns
-returns c =
-    let m = c .before .before .before .before in
-    let f : SFits w32 (m .measure-of .result) = record { sfits = m .measure-of .ok } in
-    entered _ _ _ (m .before .before .content-at .ensures) _ _ (m .before .range-of .ensures) (toZ-ofZ f ∙ m .measure-of .ensures)
-    (c .before .before .gather-used .ensures)
+same-length-4 : tie.Need-same-length-4
+same-length-4 c = search needs
+
+same-length-5 : tie.Need-same-length-5
+same-length-5 c = search needs
+
+returns-2 : tie.Need-returns-2
+returns-2 c =
+    let f : SFits w32 (c .before .before .before .before .before .before .before .encode-content .result .number) = search needs in
+    rw (toZ-ofZ f) (entered-terms _ _ _ (c .before .before .before .before .before .before .before .before .content-at .ensures) (c .before .before .before .before .before .has-terms .ensures) _ _ (c .before .before .before .before .before .before .before .encode-content .ensures) (not-false _ (c .before .before .before .before .if1 .left)) (c .before .before .gather-terms .ensures))
 
 pub gather-declaration-spec : {M : Type 1} → statement M
 gather-declaration-spec =
     tie.close
     (tie.spec
     content-at-requires
-    range-of-requires
-    slice-write-ranges
-    measure-of-requires
-    mul-t12
-    slice-set-from-measures
-    mul-gather-used
-    gather-used-requires
+    encode-content-requires
+    slice-write-forms
+    mul-number
+    slice-set-from-number
+    has-terms-requires
     same-length
     same-length-2
+    returns
+    mul-gather-terms
+    gather-terms-requires
     same-length-3
-    returns)
+    same-length-4
+    same-length-5
+    returns-2)

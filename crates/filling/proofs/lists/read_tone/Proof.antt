@@ -1,11 +1,8 @@
 -- By the item; one that is no position gives no tone.
-use mathlib.Core.Path.{sym, _∙_, ap}
+use mathlib.Core.Path.{sym, ap}
 use mathlib.Core.List.{[], _∷_, map}
 use borrow.Author.Needs.{needs}
 use lib.IntN.{ℤ}
-use mir.Facts.{toZ-ofZ}
-use mir.Syntax.{w32}
-use mir.Val.{SFits}
 use Rattle.tuning.specs.declared.Tone.the-variants.{At}
 use Rattle.filling.specs.Tables.{toneOf}
 use Rattle.filling.specs.Inner.{valueIn}
@@ -19,19 +16,17 @@ enum-told c = search needs
 enum-known-item : tie.Need-enum-known-item
 enum-known-item c = search needs
 
-cast-read-value : tie.Need-cast-read-value
-cast-read-value c = search needs
+cast-pitch-at : tie.Need-cast-pitch-at
+cast-pitch-at c = search needs
 
-read-value-requires : tie.Need-read-value-requires
-read-value-requires c κs = (rw (c .before .item .given .1) at (c .before .before .before .pre)) .0
+pitch-at-requires : tie.Need-pitch-at-requires
+pitch-at-requires c κs = (rw (c .before .item .given .1) at (c .before .before .before .pre)) .0
 
 returns : tie.Need-returns
 returns c = rw (c .enum-told .given .1)
 
 returns-2 : tie.Need-returns-2
-returns-2 c =
-    let f : SFits w32 (c .read-value .result) = search needs in
-    rw (c .before .before .item .given .1) (ap (λ (z : ℤ). At (record { 0 = z }) ∷ []) (toZ-ofZ f ∙ c .read-value .ensures))
+returns-2 c = rw (c .before .before .item .given .1) (ap (λ (z : ℤ). At (record { 0 = z }) ∷ []) (c .pitch-at .ensures))
 
 returns-3 : tie.Need-returns-3
 returns-3 c = ap (map (toneOf (valueIn (c .before .args .values .now)))) (sym (no-place (inside (c .before .args .item)) (c .match .keys3)))
@@ -42,8 +37,8 @@ read-tone-spec =
     (tie.spec
     enum-told
     enum-known-item
-    cast-read-value
-    read-value-requires
+    cast-pitch-at
+    pitch-at-requires
     returns
     returns-2
     returns-3)

@@ -2,9 +2,6 @@
 use mathlib.Core.Path.{sym, _∙_, ap, subst}
 use mathlib.Core.List.{List}
 use borrow.Author.Needs.{needs}
-use mir.Facts.{toZ-ofZ}
-use mir.Syntax.{w64}
-use mir.Val.{SFits}
 use Rattle.values.specs.Values.{Term}
 use Rattle.filling.specs.Tables.{sumOf}
 use Rattle.filling.specs.Inner.{valueIn, Summable}
@@ -18,9 +15,7 @@ sum-terms-requires : tie.Need-sum-terms-requires
 sum-terms-requires c κs = subst (λ (ts : List Term). Summable (c .before .before .args .values .now) ts) (c .find-position .ensures) (c .before .before .pre .1)
 
 returns : tie.Need-returns
-returns c =
-    let f : SFits w64 (c .sum-terms .result) = search needs in
-    toZ-ofZ f ∙ c .sum-terms .ensures ∙ ap (sumOf (valueIn (c .before .before .before .args .values .now))) (sym (c .before .find-position .ensures))
+returns c = c .sum-terms .ensures ∙ ap (sumOf (valueIn (c .before .before .before .args .values .now))) (sym (c .before .find-position .ensures))
 
 pub sum-group-spec : {M : Type 1} → statement M
 sum-group-spec = tie.close (tie.spec find-position-requires sum-terms-requires returns)

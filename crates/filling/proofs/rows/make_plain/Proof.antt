@@ -2,9 +2,6 @@
 use mathlib.Core.Path.{_∙_, ap}
 use borrow.Author.Needs.{needs}
 use lib.IntN.{ℤ}
-use mir.Facts.{toZ-ofZ}
-use mir.Syntax.{w32}
-use mir.Val.{SFits}
 use Rattle.tables.specs.declared.Row.the-variants.{Interval, Tone}
 use Rattle.filling.proofs.Forms.{as-interval}
 use Rattle.filling.proofs.rows.make_plain.Statement.{statement}
@@ -13,14 +10,14 @@ use Rattle.filling.proofs.rows.make_plain.Tie as tie
 enum-told : tie.Need-enum-told
 enum-told c = search needs
 
-read-value-requires : tie.Need-read-value-requires
-read-value-requires c κs = search needs
+pitch-at-requires : tie.Need-pitch-at-requires
+pitch-at-requires c κs = search needs
 
 enum-told-2 : tie.Need-enum-told-2
 enum-told-2 c = search needs
 
-read-value-requires-2 : tie.Need-read-value-requires-2
-read-value-requires-2 c κs = search needs
+pitch-at-requires-2 : tie.Need-pitch-at-requires-2
+pitch-at-requires-2 c κs = search needs
 
 enum-told-3 : tie.Need-enum-told-3
 enum-told-3 c = search needs
@@ -31,8 +28,8 @@ make-anchor-requires c κs = search needs
 enum-known-item : tie.Need-enum-known-item
 enum-known-item c = search needs
 
-cast-t18 : tie.Need-cast-t18
-cast-t18 c = record { fits = rw (c .before .item .given .1) at (c .before .before .before .pre .1) }
+cast-t16 : tie.Need-cast-t16
+cast-t16 c = record { fits = rw (c .before .item .given .1) at (c .before .before .before .pre .1) }
 
 make-anchor-requires-2 : tie.Need-make-anchor-requires-2
 make-anchor-requires-2 c κs = search needs
@@ -40,8 +37,8 @@ make-anchor-requires-2 c κs = search needs
 enum-known-item-2 : tie.Need-enum-known-item-2
 enum-known-item-2 c = search needs
 
-cast-t21 : tie.Need-cast-t21
-cast-t21 c = record { fits = rw (c .before .item2 .given .1) at (c .before .before .before .pre .1) }
+cast-t19 : tie.Need-cast-t19
+cast-t19 c = record { fits = rw (c .before .item2 .given .1) at (c .before .before .before .pre .1) }
 
 make-anchor-requires-3 : tie.Need-make-anchor-requires-3
 make-anchor-requires-3 c κs = search needs
@@ -49,8 +46,8 @@ make-anchor-requires-3 c κs = search needs
 enum-known-item-3 : tie.Need-enum-known-item-3
 enum-known-item-3 c = search needs
 
-cast-t24 : tie.Need-cast-t24
-cast-t24 c = record { fits = rw (c .before .item3 .given .1) at (c .before .before .before .pre .1) }
+cast-t22 : tie.Need-cast-t22
+cast-t22 c = record { fits = rw (c .before .item3 .given .1) at (c .before .before .before .pre .1) }
 
 make-anchor-requires-4 : tie.Need-make-anchor-requires-4
 make-anchor-requires-4 c κs = search needs
@@ -64,8 +61,8 @@ make-width-requires c κs = search needs
 enum-known-item-4 : tie.Need-enum-known-item-4
 enum-known-item-4 c = search needs
 
-cast-t27 : tie.Need-cast-t27
-cast-t27 c = record { fits = rw (c .before .item4 .given .1) at (c .before .before .before .pre .1) }
+cast-t25 : tie.Need-cast-t25
+cast-t25 c = record { fits = rw (c .before .item4 .given .1) at (c .before .before .before .pre .1) }
 
 make-width-requires-2 : tie.Need-make-width-requires-2
 make-width-requires-2 c κs = search needs
@@ -73,8 +70,8 @@ make-width-requires-2 c κs = search needs
 enum-known-item-5 : tie.Need-enum-known-item-5
 enum-known-item-5 c = search needs
 
-cast-t30 : tie.Need-cast-t30
-cast-t30 c = record { fits = rw (c .before .item5 .given .1) at (c .before .before .before .pre .1) }
+cast-t28 : tie.Need-cast-t28
+cast-t28 c = record { fits = rw (c .before .item5 .given .1) at (c .before .before .before .pre .1) }
 
 make-width-requires-3 : tie.Need-make-width-requires-3
 make-width-requires-3 c κs = search needs
@@ -82,8 +79,8 @@ make-width-requires-3 c κs = search needs
 enum-known-item-6 : tie.Need-enum-known-item-6
 enum-known-item-6 c = search needs
 
-cast-t33 : tie.Need-cast-t33
-cast-t33 c = record { fits = rw (c .before .item6 .given .1) at (c .before .before .before .pre .1) }
+cast-t31 : tie.Need-cast-t31
+cast-t31 c = record { fits = rw (c .before .item6 .given .1) at (c .before .before .before .pre .1) }
 
 make-width-requires-4 : tie.Need-make-width-requires-4
 make-width-requires-4 c κs = search needs
@@ -91,8 +88,8 @@ make-width-requires-4 c κs = search needs
 enum-known-item-7 : tie.Need-enum-known-item-7
 enum-known-item-7 c = search needs
 
-cast-t36 : tie.Need-cast-t36
-cast-t36 c = record { fits = rw (c .before .item7 .given .1) at (c .before .before .before .pre .1) }
+cast-t34 : tie.Need-cast-t34
+cast-t34 c = record { fits = rw (c .before .item7 .given .1) at (c .before .before .before .pre .1) }
 
 make-width-requires-5 : tie.Need-make-width-requires-5
 make-width-requires-5 c κs = search needs
@@ -100,24 +97,22 @@ make-width-requires-5 c κs = search needs
 enum-known-item-8 : tie.Need-enum-known-item-8
 enum-known-item-8 c = search needs
 
-cast-t39 : tie.Need-cast-t39
-cast-t39 c = record { fits = rw (c .before .item8 .given .1) at (c .before .before .before .pre .1) }
+cast-t37 : tie.Need-cast-t37
+cast-t37 c = record { fits = rw (c .before .item8 .given .1) at (c .before .before .before .pre .1) }
 
 make-width-requires-6 : tie.Need-make-width-requires-6
 make-width-requires-6 c κs = search needs
 
-read-value-requires-3 : tie.Need-read-value-requires-3
-read-value-requires-3 c κs = search needs
+interval-at-requires : tie.Need-interval-at-requires
+interval-at-requires c κs = search needs
 
 returns : tie.Need-returns
 returns c =
-    let f : SFits w32 (c .read-value .result) = search needs in
-    rw (c .before .enum-told .given .1) (ap (λ (z : ℤ). Tone (record { 0 = z })) (toZ-ofZ f ∙ c .read-value .ensures))
+    rw (c .before .enum-told .given .1) (ap (λ (z : ℤ). Tone (record { 0 = z })) (c .pitch-at .ensures))
 
 returns-2 : tie.Need-returns-2
 returns-2 c =
-    let f : SFits w32 (c .read-value2 .result) = search needs in
-    rw (c .before .enum-told2 .given .1) (ap (λ (z : ℤ). Tone (record { 0 = z })) (toZ-ofZ f ∙ c .read-value2 .ensures))
+    rw (c .before .enum-told2 .given .1) (ap (λ (z : ℤ). Tone (record { 0 = z })) (c .pitch-at2 .ensures))
 
 returns-3 : tie.Need-returns-3
 returns-3 c = rw (c .before .enum-told3 .given .1) (c .make-anchor .ensures)
@@ -151,46 +146,45 @@ returns-12 c = rw (c .before .before .item8 .given .1) (c .make-width6 .ensures)
 
 returns-13 : tie.Need-returns-13
 returns-13 c =
-    let f : SFits w32 (c .read-value3 .result) = search needs in
-    ap (λ (z : ℤ). Interval (record { 0 = z })) (toZ-ofZ f ∙ c .read-value3 .ensures) ∙ as-interval _ (c .before .before .args .item) (c .before .match .keys13)
+    ap (λ (z : ℤ). Interval (record { 0 = z })) (c .interval-at .ensures) ∙ as-interval _ (c .before .before .args .item) (c .before .match .keys13)
 
 pub make-plain-spec : {M : Type 1} → statement M
 make-plain-spec =
     tie.close
     (tie.spec
     enum-told
-    read-value-requires
+    pitch-at-requires
     enum-told-2
-    read-value-requires-2
+    pitch-at-requires-2
     enum-told-3
     make-anchor-requires
     enum-known-item
-    cast-t18
+    cast-t16
     make-anchor-requires-2
     enum-known-item-2
-    cast-t21
+    cast-t19
     make-anchor-requires-3
     enum-known-item-3
-    cast-t24
+    cast-t22
     make-anchor-requires-4
     enum-told-4
     make-width-requires
     enum-known-item-4
-    cast-t27
+    cast-t25
     make-width-requires-2
     enum-known-item-5
-    cast-t30
+    cast-t28
     make-width-requires-3
     enum-known-item-6
-    cast-t33
+    cast-t31
     make-width-requires-4
     enum-known-item-7
-    cast-t36
+    cast-t34
     make-width-requires-5
     enum-known-item-8
-    cast-t39
+    cast-t37
     make-width-requires-6
-    read-value-requires-3
+    interval-at-requires
     returns
     returns-2
     returns-3

@@ -2,9 +2,6 @@
 use mathlib.Core.Path.{_≡_, sym, _∙_, ap}
 use borrow.Author.Needs.{needs}
 use lib.IntN.{ℤ}
-use mir.Facts.{toZ-ofZ}
-use mir.Syntax.{w32, w64}
-use mir.Val.{SFits, toZ, ofZ}
 use Rattle.tuning.specs.declared.PeriodChange.the-variants.{Fresh, Onward}
 use Rattle.tuning.specs.declared.Retuning.the-variants.{Period}
 use Rattle.tables.specs.declared.Row.the-variants.{Retuning}
@@ -19,16 +16,13 @@ use Rattle.filling.proofs.rows.read_period.Tie as tie
 sum-terms-requires : tie.Need-sum-terms-requires
 sum-terms-requires c κs = period-fit _ (period-form _) (c .before .pre)
 
-cap-requires : tie.Need-cap-requires
-cap-requires c κs = search needs
+to-interval-requires : tie.Need-to-interval-requires
+to-interval-requires c κs = search needs
 
 -- the sum as the row has it
-summed : (c : tie.After-cap) → let args = c .before .before .before .args in
-    toZ w32 (ofZ w32 (c .cap .result)) ≡ sum (valueIn (args .values .now)) (termsOf (between (args .items .now) (args .from) (args .to)))
-summed c =
-    let f : SFits w32 (c .cap .result) = search needs in
-    let g : SFits w64 (c .before .sum-terms .result) = search needs in
-    toZ-ofZ f ∙ c .cap .ensures ∙ ap capped (toZ-ofZ g ∙ c .before .sum-terms .ensures)
+summed : (c : tie.After-to-interval) → let args = c .before .before .before .args in
+    c .to-interval .result .0 ≡ sum (valueIn (args .values .now)) (termsOf (between (args .items .now) (args .from) (args .to)))
+summed c = c .to-interval .ensures ∙ ap capped (c .before .sum-terms .ensures)
 
 make-period-requires : tie.Need-make-period-requires
 make-period-requires c κs = search needs
@@ -74,7 +68,7 @@ read-period-spec =
     tie.close
     (tie.spec
     sum-terms-requires
-    cap-requires
+    to-interval-requires
     make-period-requires
     returns
     item-at-requires

@@ -4,9 +4,6 @@ use mathlib.Core.Bool.{true}
 use mathlib.Core.List.{List, _∷_}
 use Prim.Native.Nat.{_+_}
 use lib.IntN.{ℤ}
-use mir.Facts.{toZ-ofZ}
-use mir.Syntax.{w32}
-use mir.Val.{SFits}
 use Rattle.grammar.specs.declared.Item.{Item}
 use Rattle.grammar.specs.declared.Item.the-variants as item
 use Rattle.names.specs.Parts.{part}
@@ -60,12 +57,12 @@ plain c =
 cast-row : tie.Need-cast-row
 cast-row c = search needs
 
-read-value-requires : tie.Need-read-value-requires
-read-value-requires c κs = search needs
+interval-at-requires : tie.Need-interval-at-requires
+interval-at-requires c κs = search needs
 
 returns : tie.Need-returns
-returns c = let f : SFits w32 (c .read-value .result) = search needs in
-    let e = ap (λ (z : ℤ). Interval (record { 0 = z })) (toZ-ofZ f ∙ c .read-value .ensures) in
+returns c =
+    let e = ap (λ (z : ℤ). Interval (record { 0 = z })) (c .interval-at .ensures) in
     rowed-in-as (ap declarationOf (between-none _ _ _ (c .before .if1 .taken))) (record { rowed = record { row = e; lists = refl }; rows = refl })
 
 item-at-requires : tie.Need-item-at-requires
@@ -93,7 +90,7 @@ part-changes-end : tie.Need-part-changes-end
 part-changes-end c = search needs
 
 write-tones-requires : tie.Need-write-tones-requires
-write-tones-requires c κs = let here = (c .before .before .before .before) in
+write-tones-requires c κs = let here = c .before .before .before .before in
     writable here (positions here (sym (c .before .before .before .is-position .ensures) ∙ c .before .before .if2 .taken))
 
 same-length : tie.Need-same-length
@@ -132,20 +129,20 @@ part-tones-end : tie.Need-part-tones-end
 part-tones-end c = search needs
 
 write-system-requires : tie.Need-write-system-requires
-write-system-requires c κs = let here = (c .before .before .before .before .before .before .before) in
+write-system-requires c κs = let here = c .before .before .before .before .before .before .before in
     writable here (first here (c .before .before .before .item .given .1))
 
 enum-told : tie.Need-enum-told
 enum-told c = search needs
 
 read-period-requires : tie.Need-read-period-requires
-read-period-requires c κs = let here = (c .before .before .before .before) in writable here (first here (c .enum-told .given .1)) .parts
+read-period-requires c κs = let here = c .before .before .before .before in writable here (first here (c .enum-told .given .1)) .parts
 
 enum-told-2 : tie.Need-enum-told-2
 enum-told-2 c = search needs
 
 read-period-requires-2 : tie.Need-read-period-requires-2
-read-period-requires-2 c κs = let here = (c .before .before .before .before) in writable here (onward here (c .enum-told2 .given .1)) .parts
+read-period-requires-2 c κs = let here = c .before .before .before .before in writable here (onward here (c .enum-told2 .given .1)) .parts
 
 enum-known-item-2 : tie.Need-enum-known-item-2
 enum-known-item-2 c = search needs
@@ -160,12 +157,12 @@ part-orders-end : tie.Need-part-orders-end
 part-orders-end c = search needs
 
 write-logic-requires : tie.Need-write-logic-requires
-write-logic-requires c κs = let here = (c .before .before .before .before .before .before) in
+write-logic-requires c κs = let here = c .before .before .before .before .before .before in
     let w = writable here (first here (c .before .before .item2 .given .1)) in
     (w .parts, w .orders)
 
 make-plain-requires : tie.Need-make-plain-requires
-make-plain-requires c κs = let here = (c .before .before .before) in
+make-plain-requires c κs = let here = c .before .before .before in
     (c .before .before .before .before .before .before .before .before .pre .1 .value, plain c .fit (writable here (first here refl) .parts))
 
 same-length-3 : tie.Need-same-length-3
@@ -180,11 +177,11 @@ returns-3 c = let w = c .before .before .before .write-system in
     (system-in (c .before .before .before .before .before .before .before .before .before .before .before .before .before .before .before .before .pre .0) (w .last .1 .1 .1 .1 .1 .1 .0) (w .last .1 .1 .1 .1 .1 .1 .1 .0) (w .kept .1 .1 .1 .1 .1 .1 .0) (w .kept .1 .1 .1 .1 .1 .1 .1 .0) (w .ensures .0) (w .ensures .1))
 
 returns-4 : tie.Need-returns-4
-returns-4 c = let here = (c .before .before .before .before .before) in
+returns-4 c = let here = c .before .before .before .before .before in
     rowed-in-as (first here (c .before .enum-told .given .1)) (record { rowed = period-rowed (period-form (rest here)) (c .read-period .ensures); rows = refl })
 
 returns-5 : tie.Need-returns-5
-returns-5 c = let here = (c .before .before .before .before .before) in
+returns-5 c = let here = c .before .before .before .before .before in
     rowed-in-as (onward here (c .before .enum-told2 .given .1)) (record { rowed = period-rowed (period-form (body here)) (c .read-period2 .ensures); rows = refl })
 
 same-length-5 : tie.Need-same-length-5
@@ -203,7 +200,7 @@ write-lists-spec =
     tie.close
     (tie.spec
     cast-row
-    read-value-requires
+    interval-at-requires
     returns
     item-at-requires
     is-position-requires

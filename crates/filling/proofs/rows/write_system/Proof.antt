@@ -4,9 +4,6 @@ use Prim.Native.Nat.{ℕ}
 use borrow.Author.Needs.{needs}
 use lib.IntN.{ℤ}
 use lib.ListN.{length-map}
-use mir.Facts.{toZ-ofZ}
-use mir.Syntax.{w32}
-use mir.Val.{SFits}
 use Rattle.tables.specs.declared.Row.the-variants.{System}
 use Rattle.filling.specs.Inner.{valueIn}
 use Rattle.filling.proofs.rows.write_system.Statement.{statement}
@@ -23,14 +20,14 @@ write-places-requires c κs =
 cast-t15 : tie.Need-cast-t15
 cast-t15 c = search needs
 
-cast-read-value : tie.Need-cast-read-value
-cast-read-value c = search needs
+cast-interval-at : tie.Need-cast-interval-at
+cast-interval-at c = search needs
 
-read-value-requires : tie.Need-read-value-requires
-read-value-requires c κs = search needs
+interval-at-requires : tie.Need-interval-at-requires
+interval-at-requires c κs = search needs
 
-cast-t19 : tie.Need-cast-t19
-cast-t19 c = search needs
+cast-t18 : tie.Need-cast-t18
+cast-t18 c = search needs
 
 same-length : tie.Need-same-length
 same-length c = search needs
@@ -44,9 +41,8 @@ returns c =
     let args = done .before .before .before .before .before .before .args in
     let used = args .used in
     let key = args .key in
-    let f : SFits w32 (c .read-value .result) = search needs in
     let z = valueIn (args .values .now) (used .rows) in (
-      ap (λ (y : ℤ). System (record { 0 = key }) (record { 0 = y }) (used .tones) (done .write-places .result)) (toZ-ofZ f ∙ c .read-value .ensures)
+      ap (λ (y : ℤ). System (record { 0 = key }) (record { 0 = y }) (used .tones) (done .write-places .result)) (c .interval-at .ensures)
           ∙ ap (λ (n : ℕ). System (record { 0 = key }) (record { 0 = z }) (used .tones) n) (simp length-map at (done .write-places .ensures .count)),
       done .write-places .ensures .stored,
     )
@@ -58,9 +54,9 @@ write-system-spec =
     cast-write-places
     write-places-requires
     cast-t15
-    cast-read-value
-    read-value-requires
-    cast-t19
+    cast-interval-at
+    interval-at-requires
+    cast-t18
     same-length
     same-length-2
     returns)

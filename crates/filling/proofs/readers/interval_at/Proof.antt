@@ -5,14 +5,14 @@ use mir.Syntax.{w32, w64}
 use mir.Val.{SFits}
 use Rattle.integers.proofs.Signed.{signed}
 use Rattle.filling.specs.Inner.{valueIn}
-use Rattle.filling.proofs.lists.read_value.Statement.{statement}
-use Rattle.filling.proofs.lists.read_value.Tie as tie
+use Rattle.filling.proofs.readers.interval_at.Statement.{statement}
+use Rattle.filling.proofs.readers.interval_at.Tie as tie
 
-mul-result : tie.Need-mul-result
-mul-result c = search needs
+mul-t3 : tie.Need-mul-t3
+mul-t3 c = search needs
 
-shared-slice-copy-out-result : tie.Need-shared-slice-copy-out-result
-shared-slice-copy-out-result c = search needs
+shared-slice-copy-out-t5 : tie.Need-shared-slice-copy-out-t5
+shared-slice-copy-out-t5 c = search needs
 
 module _ (c : tie.Start) where
   wide : SFits w64 (valueIn (c .args .values .now) (c .args .k))
@@ -21,11 +21,11 @@ module _ (c : tie.Start) where
   narrow : SFits w32 (valueIn (c .args .values .now) (c .args .k))
   narrow = omega (signed, c .pre .small)
 
-cast-result : tie.Need-cast-result
-cast-result c = let f = wide (c .before) in simp toZ-ofZ (narrow (c .before))
+cast-t6 : tie.Need-cast-t6
+cast-t6 c = let f = wide (c .before) in simp toZ-ofZ (narrow (c .before))
 
 returns : tie.Need-returns
 returns c = let f = wide (c .before) in let g = narrow (c .before) in simp toZ-ofZ
 
-pub read-value-spec : {M : Type 1} → statement M
-read-value-spec = tie.close (tie.spec mul-result shared-slice-copy-out-result cast-result returns)
+pub interval-at-spec : {M : Type 1} → statement M
+interval-at-spec = tie.close (tie.spec mul-t3 shared-slice-copy-out-t5 cast-t6 returns)
