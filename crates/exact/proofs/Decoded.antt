@@ -14,7 +14,8 @@ use Rattle.tables.proofs.Systems.{listed-meant}
 use Rattle.program.specs.Program as text
 use Rattle.program.specs.Program.{Declaration, Position, Program}
 use Rattle.program.specs.Meaning.{declarationAt, valueOf}
-use Rattle.filling.specs.Tables.{sumOf, capped, sum, toneOf, changeOf, rowOf, tablesOf}
+use Rattle.tuning.specs.Capped.{capped}
+use Rattle.filling.specs.Tables.{sumOf, sum, toneOf, changeOf, rowOf, tablesOf}
 use Rattle.mutabor.proofs.Filled.{tonesBefore, changesBefore, ordersBefore}
 use Rattle.mutabor.proofs.Decoded.{row-decoded, system-tones, retuning-changes}
 use Rattle.protocol.specs.Letters.{actionBy, actionAt}

@@ -15,7 +15,7 @@ use Rattle.tables.specs.Values.{NumbersFit}
 use Rattle.program.specs.Program.{Declaration, ratio, root, sequence, frequency, from, system, anchor, width, freshPeriod, onwardPeriod, tones, logic}
 use Rattle.filling.specs.Tables.{sumOf, toneOf, changeOf}
 use Rattle.filling.specs.Inner.{valueIn, Writable, rowAfter, oneMore, countedBy, counted}
-use Rattle.filling.proofs.Caps.{capped-small}
+use Rattle.tuning.proofs.Caps.{capped-small}
 use Rattle.filling.proofs.Forms.{start-any}
 
 -- ---- the numbers of a row

@@ -1,4 +1,3 @@
-pub mod Caps
 pub mod CaseS
 pub mod Each
 pub mod Entries

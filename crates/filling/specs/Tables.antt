@@ -1,10 +1,8 @@
 -- The tables of a program: the row of each declaration, in the order of the text, with its tones, changes and orders after those of the rows before.
-use mathlib.Core.Bool.{cond}
 use mathlib.Core.List.{List, [], _∷_, _++_, map}
 use mathlib.Core.Option.{Option, some, none}
-use Prim.Native.Nat.{ℕ, zero, suc, _+_, _-_, _*_}
-use lib.IntN.{ℤ, pos, negℤ, _+ℤ_, _*ℤ_}
-use lib.Signed.{leZ}
+use Prim.Native.Nat.{ℕ, suc, _+_, _*_}
+use lib.IntN.{ℤ, pos, _+ℤ_, _*ℤ_}
 use lib.ListN.{length}
 use Rattle.values.specs.Values.{Term, weight}
 use Rattle.tuning.specs.declared.ToneChange.{ToneChange}
@@ -13,11 +11,12 @@ use Rattle.tuning.specs.declared.Tone.{Tone}
 use Rattle.tuning.specs.declared.Tone.the-variants.{Muted, At}
 use Rattle.tuning.specs.declared.PeriodChange.the-variants.{Fresh, Onward}
 use Rattle.tuning.specs.declared.Retuning.the-variants.{Anchor, Width, Period, Tones}
+use Rattle.tuning.specs.Capped.{capped}
 use Rattle.tables.specs.declared.Row.{Row}
 use Rattle.tables.specs.declared.Row.the-variants as row
-use Rattle.tables.specs.Layout.{mostRows, rowWidth, mostTones, mostChanges, mostOrders, farthestSum, writtenAll, full, soundingOf, pitchOf, changeCode, changeNumber}
+use Rattle.tables.specs.Layout.{mostRows, rowWidth, mostTones, mostChanges, mostOrders, writtenAll, full, soundingOf, pitchOf, changeCode, changeNumber}
 use Rattle.tables.specs.Layout as layout
-use Rattle.program.specs.Program.{Declaration, ratio, root, sequence, frequency, from, system, anchor, width, freshPeriod, onwardPeriod, tones, logic, Placed, Program, Position, mute, same, named, Order}
+use Rattle.program.specs.Program.{Declaration, ratio, root, sequence, frequency, from, system, anchor, width, freshPeriod, onwardPeriod, tones, logic, Program, Position, mute, same, named, Order}
 use Rattle.program.specs.Meaning.{valueOf}
 
 -- "Sequences add factor times measure"
@@ -25,16 +24,13 @@ abbrev pub sumOf : (ℕ → ℤ) → List Term → ℤ
 sumOf value [] = pos 0
 sumOf value (t ∷ ts) = value (t .of) *ℤ weight t +ℤ sumOf value ts
 
--- in a table a sum that is farther than `farthestSum` is held as that: no result can be in range either way (`capped-same` of the crate exact)
-abbrev pub capped : ℤ → ℤ
-capped z = cond (leZ z (negℤ (pos farthestSum))) (negℤ (pos farthestSum)) (cond (leZ (pos farthestSum) z) (pos farthestSum) z)
-
 -- a logic's start: 0 for none, else one more than the number of what it calls
 abbrev pub startCode : Option ℕ → ℕ
 startCode none = 0
 startCode (some k) = suc k
 
 module _ (value : ℕ → ℤ) where
+  -- a table holds a sum capped: no answer changes by that (`CallsOfText` of the crate exact)
   abbrev pub sum : List Term → ℤ
   sum ts = capped (sumOf value ts)
 

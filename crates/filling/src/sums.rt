@@ -4,7 +4,7 @@ use cents::Interval;
 use cents::Pitch;
 use grammar::Item;
 use grammar::items;
-use limits::FARTHEST_TONE;
+use tuning::FARTHEST_SUM;
 ghost use mathlib.Core.Path.{_≡_};
 ghost use mathlib.Core.List.{[]};
 ghost use Prim.Native.Nat.{_*_, _≤_};
@@ -15,13 +15,13 @@ ghost use Rattle.names.specs.Parts.{part};
 ghost use Rattle.program.specs.Program.{termThen, termsOf};
 ghost use Rattle.program.specs.Allowed.{Each};
 ghost use Rattle.valuation.specs.Inner.{between};
-ghost use Rattle.filling.specs.Tables.{sumOf, capped};
+ghost use Rattle.tuning.specs.Capped.{capped};
+ghost use Rattle.filling.specs.Tables.{sumOf};
 ghost use Rattle.filling.specs.Inner.{valueIn, FitValue, FitTerm, Summable};
 
-// Twice the range of tones, and 1 more.
 const LOWEST: i64 = -HIGHEST;
 
-const HIGHEST: i64 = 2 * FARTHEST_TONE as i64 + 1;
+const HIGHEST: i64 = FARTHEST_SUM as i64;
 
 // A sum of terms, in thousandths of a cent: it may be wider than an interval of the tables.
 pub struct Sum(pub i64);

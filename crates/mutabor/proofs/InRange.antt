@@ -14,7 +14,7 @@ use Rattle.tuning.specs.declared.Amount.the-variants.{Kept, Absolute, Relative}
 use Rattle.tables.specs.Layout.{farthestSum}
 use Rattle.validity.specs.Valid.{isSum, isAnchorAmount, isWidthAmount, isCapital, isPart}
 use Rattle.program.specs.Allowed.{AnchorAmount, WidthAmount, Letter}
-use Rattle.filling.specs.Tables.{capped}
+use Rattle.tuning.specs.Capped.{capped}
 
 -- a sum as the tables hold it
 pub sum-right : (z : ℤ) → isSum (capped z) ≡ true

@@ -7,6 +7,7 @@ pub mod Steps
 pub mod Held
 pub mod Changed
 pub mod Outcomes
+pub mod Caps
 pub mod Capped
 pub mod Laws
 pub mod Sums

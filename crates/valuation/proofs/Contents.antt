@@ -47,7 +47,12 @@ terms-by (uses parts.base f n) ts = refl
 terms-by (uses parts.position f n) ts = refl
 terms-by (uses parts.start f n) ts = refl
 terms-by (uses parts.order f n) ts = refl
-terms-by (says m) ts = refl
+terms-by (says parts.muted) ts = refl
+terms-by (says parts.kept) ts = refl
+terms-by (says parts.anchorKept) ts = refl
+terms-by (says parts.widthKept) ts = refl
+terms-by (says parts.period) ts = refl
+terms-by (says parts.onward) ts = refl
 
 pub terms-cons : (i : Item) (is : List Item) → termsOf (i ∷ is) ≡ termIn (contentOf (part i)) ++ termsOf is
 unfolding termsOf

@@ -9,7 +9,8 @@ use Rattle.tuning.specs.declared.ToneChange.the-variants.{Move, Set}
 use Rattle.program.specs.Program.{Position, same, named, grouped}
 use Rattle.program.specs.Allowed.{Each}
 use Rattle.valuation.specs.Inner.{between}
-use Rattle.filling.specs.Tables.{changeOf, capped}
+use Rattle.tuning.specs.Capped.{capped}
+use Rattle.filling.specs.Tables.{changeOf}
 use Rattle.filling.specs.Inner.{valueIn, positionAt, FitValue, Summable, FitPosition}
 use Rattle.filling.proofs.Inside.{inside, no-position}
 use Rattle.filling.proofs.Groups.{position-by}

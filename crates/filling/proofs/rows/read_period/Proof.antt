@@ -7,7 +7,8 @@ use Rattle.tuning.specs.declared.Retuning.the-variants.{Period}
 use Rattle.tables.specs.declared.Row.the-variants.{Retuning}
 use Rattle.program.specs.Program.{Declaration, termsOf}
 use Rattle.valuation.specs.Inner.{between}
-use Rattle.filling.specs.Tables.{sum, capped, rowOf}
+use Rattle.tuning.specs.Capped.{capped}
+use Rattle.filling.specs.Tables.{sum, rowOf}
 use Rattle.filling.specs.Inner.{valueIn}
 use Rattle.filling.proofs.Forms.{period-form, period-fit, period-none, period-fresh, period-onward}
 use Rattle.filling.proofs.rows.read_period.Statement.{statement}

@@ -4,7 +4,7 @@ use mir.Facts.{toZ-ofZ}
 use mir.Syntax.{w32}
 use mir.Val.{SFits}
 use Rattle.integers.proofs.Signed.{signed}
-use Rattle.filling.proofs.Caps.{capped-low, capped-high, capped-same, between-caps}
+use Rattle.tuning.proofs.Caps.{capped-low, capped-high, capped-plain, between-caps}
 use Rattle.filling.proofs.sums.cap.Statement.{statement}
 use Rattle.filling.proofs.sums.cap.Tie as tie
 
@@ -37,7 +37,7 @@ returns-3 : tie.Need-returns-3
 returns-3 c =
     let f = c .before .before .fits .z in
     let g = narrow c in
-    simp toZ-ofZ (capped-same (c .before .before .args .z) (simp toZ-ofZ at (c .before .if1 .left)) (simp toZ-ofZ at (c .if2 .left)))
+    simp toZ-ofZ (capped-plain (c .before .before .args .z) (simp toZ-ofZ at (c .before .if1 .left)) (simp toZ-ofZ at (c .if2 .left)))
 
 pub cap-spec : {M : Type 1} → statement M
 cap-spec = tie.close (tie.spec cast-result returns cast-result-2 returns-2 cast-result-3 returns-3)

@@ -6,7 +6,7 @@ use mir.Facts.{toZ-ofZ}
 use mir.Syntax.{w32, w64}
 use mir.Val.{SFits, toZ, ofZ}
 use Rattle.integers.proofs.Signed.{signed, sum}
-use Rattle.filling.specs.Tables.{capped}
+use Rattle.tuning.specs.Capped.{capped}
 use Rattle.filling.proofs.sums.Sum.shift.Statement.{statement}
 use Rattle.filling.proofs.sums.Sum.shift.Tie as tie
 

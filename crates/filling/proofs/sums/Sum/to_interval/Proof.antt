@@ -4,7 +4,7 @@ use borrow.Author.Needs.{needs}
 use mir.Facts.{toZ-ofZ}
 use mir.Syntax.{w32, w64}
 use mir.Val.{SFits}
-use Rattle.filling.specs.Tables.{capped}
+use Rattle.tuning.specs.Capped.{capped}
 use Rattle.filling.proofs.sums.Sum.to_interval.Statement.{statement}
 use Rattle.filling.proofs.sums.Sum.to_interval.Tie as tie
 

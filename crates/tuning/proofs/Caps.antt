@@ -6,7 +6,7 @@ use lib.IntN.{ℤ, pos, negsuc, natAbs}
 use lib.Signed.{leZ}
 use native.Mathlib.Omega.{arith}
 use Rattle.integers.proofs.Signed.{signed, abs}
-use Rattle.filling.specs.Tables.{capped}
+use Rattle.tuning.specs.Capped.{capped}
 
 module _ (z : ℤ) where
   pub capped-low : leZ z (negsuc 200_000_000) ≡ true → negsuc 200_000_000 ≡ capped z
@@ -15,9 +15,10 @@ module _ (z : ℤ) where
   pub capped-high : leZ z (negsuc 200_000_000) ≡ false → leZ (pos 200_000_001) z ≡ true → pos 200_000_001 ≡ capped z
   capped-high e f = rw (e, f)
 
-  pub capped-same : leZ z (negsuc 200_000_000) ≡ false → leZ (pos 200_000_001) z ≡ false → z ≡ capped z
-  capped-same e f = rw (e, f)
+  pub capped-plain : leZ z (negsuc 200_000_000) ≡ false → leZ (pos 200_000_001) z ≡ false → z ≡ capped z
+  capped-plain e f = rw (e, f)
 
+  -- what is between the caps
   pub between-caps : leZ z (negsuc 200_000_000) ≡ false → leZ (pos 200_000_001) z ≡ false → natAbs z ≤ 200_000_000
   between-caps e f = omega (signed, abs z)
 
