@@ -1,14 +1,14 @@
 // L(n) of document 01: 2^30 times the binary logarithm of n, by thirty squarings.
 ghost use mathlib.Core.Path.{_≡_};
 ghost use Prim.Native.Nat.{ℕ, _+_, _*_, _^_, _<_, _≤_};
-ghost use Rattle.cents.specs.Log.{place, L};
+ghost use Rattle.cents.specs.Log.{highestBit, L};
 
 const TURNS: u32 = 30;
 
 // The place of the highest one bit of n, place 0 for n = 1.
 pub fn highest_bit(n: u32) -> u32
     requires { ⌜ 0 < n ⌝ }
-    ensures { λ r. ⌜ (r ≡ place n) × (2 ^ r ≤ n) × (n < 2 ^ (r + 1)) ⌝ }
+    ensures { λ r. ⌜ (r ≡ highestBit n) × (2 ^ r ≤ n) × (n < 2 ^ (r + 1)) ⌝ }
 {
     31 - u32::leading_zeros(n)
 }

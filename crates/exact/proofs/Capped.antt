@@ -14,7 +14,7 @@ use Rattle.program.specs.Program as text
 use Rattle.program.specs.Program.{Declaration, Position}
 use Rattle.tuning.specs.Capped.{capped}
 use Rattle.filling.specs.Tables.{sumOf, sum}
-use Rattle.exact.specs.Actions.{total, placeOf, positionOf, actionOf}
+use Rattle.exact.specs.Actions.{total, systemPositionOf, positionOf, actionOf}
 use Rattle.exact.proofs.Decoded.{cappedPosition, cappedOf}
 
 -- ---- the actions of declarations
@@ -33,7 +33,7 @@ module _ (value : ℕ → ℤ) where
 
   position-alike : (x : Position) → PositionAlike (cappedPosition value x) (positionOf cents value value x)
   position-alike text.mute = both-mute
-  position-alike (text.same ts) = both-move (sum-alike ts)
+  position-alike (text.kept ts) = both-move (sum-alike ts)
   position-alike (text.named k ts) = both-set (set-alike k ts)
 
   positions-alike : (l : List Position) → PositionsAlike (map (cappedPosition value) l) (map (positionOf cents value value) l)
@@ -57,7 +57,7 @@ capped-same value s v i (text.sequence ts) e = no-call
 capped-same value s v i (text.frequency f) e = no-call
 capped-same value s v i (text.from k ts) e = no-call
 capped-same value s v i (text.system a l ts) e =
-    same-call (ap (λ (P : ℤ). called s (system (record { anchor = a; tones = map (placeOf cents value value) l; period = P }))) (e a l ts refl))
+    same-call (ap (λ (P : ℤ). called s (system (record { anchor = a; tones = map (systemPositionOf cents value value) l; period = P }))) (e a l ts refl))
 capped-same value s v i (text.anchor m) e = same-call refl
 capped-same value s v i (text.width m) e = same-call refl
 capped-same value s v i (text.freshPeriod ts) e = same-call (fresh-alike s v (sum-alike value ts))

@@ -6,7 +6,7 @@ use mathlib.Core.Option.{Option·elim}
 use Prim.Native.Nat.{ℕ, _*_, _^_}
 use lib.Count.{leadingZeros}
 use lib.IntN.{ℤ, pos, _-ℤ_}
-use Rattle.cents.specs.Log.{place, bits, L}
+use Rattle.cents.specs.Log.{highestBit, bits, L}
 use Rattle.cents.specs.Measure.{measure, nearest, pitch440}
 use Rattle.cents.specs.Distance.{Compared}
 use Rattle.values.proofs.Cases.{impossible}
@@ -38,7 +38,7 @@ use Rattle.exact.specs.CaseS.{Whole, frames, entryIn, entry71}
 use Rattle.exact.proofs.Claim.{stream-agrees}
 
 pub case-s : Whole
-unfolding Option·elim leadingZeros place bits L measure nearest plus total shifted ranged valueAt valueOf writtenAll joined rowOf filledFrom tablesOf
+unfolding Option·elim leadingZeros highestBit bits L measure nearest plus total shifted ranged valueAt valueOf writtenAll joined rowOf filledFrom tablesOf
     validTables declarationRight isOwn rowsRight declarations kindsFrom partsFollow ordersRight eachRight allZero allNought called firstFailing anyBeyond validState allMuted digitOf byteOf bytesOf
     framed frameOf firstLogic firstOrder pressed callOn tuningFrom madeFrom letterOutcome keyOutcome frameOutcome answerOf linesOf hexOf hexes twos
     fourOf tonesBytes
@@ -54,7 +54,7 @@ calls = record { called = 4; number = 0 } ∷ record { called = 5; number = 0 } 
 -- the calls that the frames make; and "020247 .. 02024700007EB526": the pitch of key 71 after them, less 6,900,000 the d of the comparison
 pub desk-71 : (madeIn (tablesOf program) startDesk frames ≡ calls)
     × (soundOf cents (held (deskAfter (tablesOf program) startDesk frames .tuning)) 71 ≡ sounds (pos 0x7eb526))
-unfolding Option·elim leadingZeros place bits L measure nearest plus total shifted ranged valueAt valueOf writtenAll joined rowOf filledFrom tablesOf
+unfolding Option·elim leadingZeros highestBit bits L measure nearest plus total shifted ranged valueAt valueOf writtenAll joined rowOf filledFrom tablesOf
     validTables declarationRight isOwn rowsRight declarations kindsFrom partsFollow ordersRight eachRight allZero allNought called firstFailing anyBeyond validState allMuted digitOf byteOf bytesOf
     framed frameOf firstLogic firstOrder pressed callOn tuningFrom madeFrom letterOutcome keyOutcome frameOutcome answerOf deskAfter madeIn
 desk-71 = (refl, refl)

@@ -27,7 +27,7 @@ use Rattle.program.specs.Allowed.{Decimal, kindOf, Refers, Each, Terms, Fits, A
 use Rattle.program.proofs.AcceptedText.{fits-at, closed, outcome-done, value-is}
 use Rattle.exact.specs.Book.{Declared, frequency, ratio, root, Powers, entries}
 use Rattle.exact.proofs.Ranges.{Amount, AllInRange, no-more, number-and, passing}
-use Rattle.exact.specs.Actions.{total, numberOf, declaredIn, entryBy, entryWithin, entryOf}
+use Rattle.exact.specs.Actions.{total, declaredBy, declaredIn, entryBy, entryWithin, entryOf}
 use Rattle.exact.proofs.Measured.{MeasuredStep, MeasuredTone, measure-follows, plus, own-ratio, own-root, own-frequency}
 use Rattle.exact.proofs.Worked.{terms-refer, total-follows}
 
@@ -66,8 +66,8 @@ Entered ds Retuning e z = Unit
 Entered ds Logic e z = Unit
 Entered ds AnOrder e z = Unit
 
-number-at : (p : Program) (i : ℕ) (d : Declaration) → declarationAt p i ≡ d → getD (declaredIn p) i none ≡ numberOf d
-number-at p i d e = List·getD-map (λ (x : Placed). numberOf (x .is)) p i nothing ∙ ap numberOf e
+number-at : (p : Program) (i : ℕ) (d : Declaration) → declarationAt p i ≡ d → getD (declaredIn p) i none ≡ declaredBy d
+number-at p i d e = List·getD-map (λ (x : Placed). declaredBy (x .is)) p i nothing ∙ ap declaredBy e
 
 module _ (p : Program) (allowed : Allowed p) (done : valued p ≡ Done) where
   abbrev numbers : List (Option Declared)
@@ -131,7 +131,7 @@ module _ (p : Program) (allowed : Allowed p) (done : valued p ≡ Done) where
 amount : {n : ℕ} → Decimal n → Amount n
 amount w = record { least = w .least; most = w .most }
 
-number-in-range : (p : Program) (d : Declaration) → Fits p d → (l : List (Option Declared)) → AllInRange l → AllInRange (numberOf d ∷ l)
+number-in-range : (p : Program) (d : Declaration) → Fits p d → (l : List (Option Declared)) → AllInRange l → AllInRange (declaredBy d ∷ l)
 number-in-range p (text.ratio a b) w l h = number-and {d = ratio a b} (amount (w .0), amount (w .1)) h
 number-in-range p (text.root a b) w l h = number-and {d = root a b} (w .0 .least, amount (w .1)) h
 number-in-range p (text.sequence ts) w l h = passing h

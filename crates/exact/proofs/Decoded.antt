@@ -19,14 +19,14 @@ use Rattle.filling.specs.Tables.{sumOf, sum, toneOf, changeOf, rowOf, tablesOf}
 use Rattle.mutabor.proofs.Filled.{tonesBefore, changesBefore, ordersBefore}
 use Rattle.mutabor.proofs.Decoded.{row-decoded, system-tones, retuning-changes}
 use Rattle.protocol.specs.Letters.{actionBy, actionAt}
-use Rattle.exact.specs.Actions.{placeOf}
+use Rattle.exact.specs.Actions.{systemPositionOf}
 
 -- ---- the actions that the tables hold
 
 module _ (value : ℕ → ℤ) where
   abbrev pub cappedPosition : Position → PositionTo cents
   cappedPosition text.mute = mute
-  cappedPosition (text.same ts) = move (sum value ts)
+  cappedPosition (text.kept ts) = move (sum value ts)
   cappedPosition (text.named k ts) = setTo (capped (value k +ℤ sumOf value ts))
 
   -- the action of declaration i; a tone system's period is its value
@@ -36,7 +36,7 @@ module _ (value : ℕ → ℤ) where
   cappedOf i (text.sequence ts) = none
   cappedOf i (text.frequency f) = none
   cappedOf i (text.from k ts) = none
-  cappedOf i (text.system a l ts) = some (system (record { anchor = a; tones = map (placeOf cents value value) l; period = value i }))
+  cappedOf i (text.system a l ts) = some (system (record { anchor = a; tones = map (systemPositionOf cents value value) l; period = value i }))
   cappedOf i (text.anchor m) = some (anchorTo m)
   cappedOf i (text.width m) = some (widthTo m)
   cappedOf i (text.freshPeriod ts) = some (periodTo (fresh (sum value ts)))
@@ -45,10 +45,10 @@ module _ (value : ℕ → ℤ) where
   cappedOf i (text.logic c s os) = none
 
   -- what is heard of the tones, and what the changes say
-  tones-heard : (l : List (Option ℕ)) → map heard (map (toneOf value) l) ≡ map (placeOf cents value value) l
+  tones-heard : (l : List (Option ℕ)) → map heard (map (toneOf value) l) ≡ map (systemPositionOf cents value value) l
   tones-heard l = map-map heard (toneOf value) l ∙ map-congr-left {l = l} (λ x m. one x)
     where
-      one : (x : Option ℕ) → heard (toneOf value x) ≡ placeOf cents value value x
+      one : (x : Option ℕ) → heard (toneOf value x) ≡ systemPositionOf cents value value x
       one none = refl
       one (some k) = refl
 
@@ -57,7 +57,7 @@ module _ (value : ℕ → ℤ) where
     where
       one : (x : Position) → toneMeant (changeOf value x) ≡ cappedPosition x
       one text.mute = refl
-      one (text.same ts) = refl
+      one (text.kept ts) = refl
       one (text.named k ts) = refl
 
 abbrev pub cappedAction : Program → ℕ → Option (Action cents)

@@ -14,7 +14,7 @@ pub record Follows (A B : Scale) : Type 1 where
   pub tone : A .Tone → B .Tone → Type 0
   pub step : A .Step → B .Step → Type 0
   pub shift : {t d : _} {t' d' : _} → tone t t' → step d d' → tone (A .shift t d) (B .shift t' d')
-  pub between : {t u : _} {t' u' : _} → tone t t' → tone u u' → step (A .between t u) (B .between t' u')
+  pub distance : {t u : _} {t' u' : _} → tone t t' → tone u u' → step (A .distance t u) (B .distance t' u')
   pub none : step (A .none) (B .none)
   pub add : {d e : _} {d' e' : _} → step d d' → step e e' → step (A .add d e) (B .add d' e')
   pub times : (k : ℤ) {d : _} {d' : _} → step d d' → step (A .times k d) (B .times k d')
@@ -85,7 +85,7 @@ module _ (A B : Scale) (F : Follows A B) where
   apart-follows : {x y : Sound (A .Tone)} {x' y' : Sound (B .Tone)} → Both (F .tone) x x' → Both (F .tone) y y' → Both (F .step) (apart A x y) (apart B x' y')
   apart-follows silent k = silent
   apart-follows (heard h) silent = silent
-  apart-follows (heard h) (heard k) = heard (F .between h k)
+  apart-follows (heard h) (heard k) = heard (F .distance k h)
 
   reach-follows : (s : Tuning A) (t : Tuning B) → Agree F s t → (x : ℕ) → Both (F .step) (reach A s x) (reach B t x)
   reach-follows s t h x = apart-follows (at-both (F .tone) (h .tones) 0) (sound-follows s t h x)

@@ -17,13 +17,13 @@ use Rattle.tuning.proofs.Laws.{ValidAction}
 use Rattle.program.specs.Program as text
 use Rattle.program.specs.Program.{Declaration, Placed, Program}
 use Rattle.program.specs.Meaning.{nothing, declarationAt, valueOf, valued}
-use Rattle.program.specs.Allowed.{Each, FitPlace, Fits, Allowed}
+use Rattle.program.specs.Allowed.{Each, FitSystemPosition, Fits, Allowed}
 use Rattle.program.proofs.AcceptedText.{fits-at, value-tone, value-period}
 use Rattle.filling.specs.Tables.{tablesOf}
 use Rattle.mutabor.proofs.Decoded.{past-decoded}
 use Rattle.protocol.specs.Letters.{actionAt}
 use Rattle.exact.specs.Book.{Declared, entries}
-use Rattle.exact.specs.Actions.{total, placeOf, actionOf, declaredIn, bookAction, entryOf}
+use Rattle.exact.specs.Actions.{total, systemPositionOf, actionOf, declaredIn, bookAction, entryOf}
 use Rattle.exact.specs.TextCalls.{deskAction}
 use Rattle.exact.proofs.Measured.{measure-follows}
 use Rattle.exact.proofs.Decoded.{action-decoded}
@@ -45,7 +45,7 @@ matched Capped.no-call v Worked.no-call = no-call
 matched (Capped.same-call e) v (Worked.both-call k) = one-call e v k
 
 module _ (p : Program) (allowed : Allowed p) (done : valued p ≡ Done) where
-  places-in-range : (l : List (Option ℕ)) → Each (FitPlace p) l → anyBeyond (map (placeOf cents (valueOf p) (valueOf p)) l) ≡ false
+  places-in-range : (l : List (Option ℕ)) → Each (FitSystemPosition p) l → anyBeyond (map (systemPositionOf cents (valueOf p) (valueOf p)) l) ≡ false
   unfolding anyBeyond
   places-in-range [] w = refl
   places-in-range (none ∷ l) w = places-in-range l (w .1)
@@ -62,7 +62,7 @@ module _ (p : Program) (allowed : Allowed p) (done : valued p ≡ Done) where
   safe i h (text.frequency f) e w = tt
   safe i h (text.from k ts) e w = tt
   safe i h (text.system a l ts) e w =
-      let n = length-map l (placeOf cents (valueOf p) (valueOf p)) in
+      let n = length-map l (systemPositionOf cents (valueOf p) (valueOf p)) in
       record {
         anchor = w .anchor;
         least = omega (arith, w .positions .some);

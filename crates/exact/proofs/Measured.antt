@@ -58,8 +58,8 @@ module _ (p : List (Option Declared)) where
       })
 
   -- the step between two tones
-  pub minus : {b h : ℕ} {d e : Powers} {y z : ℤ} → Measured p b h d y → Measured p b h e z → Measured p 0 0 (λ n. e n -ℤ d n) (z -ℤ y)
-  minus {b} {h} {d} {e} {y} {z} j k =
+  pub minus : {b h : ℕ} {d e : Powers} {y z : ℤ} → Measured p b h e z → Measured p b h d y → Measured p 0 0 (λ n. e n -ℤ d n) (z -ℤ y)
+  minus {b} {h} {d} {e} {y} {z} k j =
       let s = sums j in
       let t = sums k in
       let x : ℤ = along sizeOf (numbersOf p) d in
@@ -121,7 +121,7 @@ module _ (p : List (Option Declared)) where
     tone = MeasuredTone p;
     step = MeasuredStep p;
     shift = plus;
-    between = minus;
+    distance = minus;
     none = nothing;
     add = plus;
     times = many;

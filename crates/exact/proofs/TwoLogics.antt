@@ -3,7 +3,7 @@ use mathlib.Core.Path.{_≡_, refl, ap}
 use mathlib.Core.List.{List}
 use mathlib.Core.Option.{Option·elim}
 use lib.Count.{leadingZeros}
-use Rattle.cents.specs.Log.{place, bits, L}
+use Rattle.cents.specs.Log.{highestBit, bits, L}
 use Rattle.cents.specs.Measure.{measure, nearest}
 use Rattle.values.specs.Values.{plus, total, shifted, ranged, valueAt}
 use Rattle.tables.specs.Layout.{writtenAll, joined, rowOf}
@@ -30,7 +30,7 @@ use Rattle.exact.specs.TwoLogics.{frames, lines, calls, Whole}
 
 -- the lines, and the calls
 answers : (linesOf (tablesOf program) startDesk frames ≡ lines) × (madeIn (tablesOf program) startDesk frames ≡ calls)
-unfolding Option·elim leadingZeros place bits L measure nearest plus total shifted ranged valueAt valueOf writtenAll joined rowOf filledFrom tablesOf validTables
+unfolding Option·elim leadingZeros highestBit bits L measure nearest plus total shifted ranged valueAt valueOf writtenAll joined rowOf filledFrom tablesOf validTables
     declarationRight isOwn rowsRight declarations kindsFrom partsFollow ordersRight eachRight allZero allNought called firstFailing anyBeyond validState
     allMuted digitOf byteOf bytesOf framed frameOf firstLogic firstOrder pressed callOn tuningFrom madeFrom letterOutcome keyOutcome frameOutcome answerOf
     linesOf hexOf hexes twos fourOf tonesBytes deskAfter madeIn

@@ -11,8 +11,8 @@ use Rattle.tuning.specs.Scale.{Scale}
 use Rattle.tuning.specs.Tuning.{Action}
 use Rattle.program.specs.Program as text
 use Rattle.program.specs.Program.{Declaration, Program, Position}
-use Rattle.program.specs.Allowed.{Refers, Each, FitTerm, Terms, FitPlace, FitPosition, Fits}
-use Rattle.exact.specs.Actions.{total, placeOf, positionOf, actionOf}
+use Rattle.program.specs.Allowed.{Refers, Each, FitTerm, Terms, FitSystemPosition, FitPosition, Fits}
+use Rattle.exact.specs.Actions.{total, systemPositionOf, positionOf, actionOf}
 use Rattle.exact.proofs.Follows.{Follows, silent, heard, AllBoth, empty, with}
 use Rattle.exact.proofs.Follows.{PositionBoth, both-mute, both-move, both-set, PositionsBoth, no-positions, position}
 use Rattle.exact.proofs.Follows.{ActionBoth, both-anchor, both-width, both-period, both-fresh, both-onward, both-tones, both-system}
@@ -38,14 +38,14 @@ module _ {A B : Scale} (F : Follows A B) (stepA : ℕ → A .Step) (toneA : ℕ 
     terms-follow : (ts : List Term) → Terms p ts → F .step (total A stepA toneA ts) (total B stepB toneB ts)
     terms-follow ts w = total-follows ts (λ r u. steps r (terms-refer p ts (w .each) u))
 
-    places-follow : (l : List (Option ℕ)) → Each (FitPlace p) l → AllBoth (F .tone) (map (placeOf A stepA toneA) l) (map (placeOf B stepB toneB) l)
+    places-follow : (l : List (Option ℕ)) → Each (FitSystemPosition p) l → AllBoth (F .tone) (map (systemPositionOf A stepA toneA) l) (map (systemPositionOf B stepB toneB) l)
     places-follow [] w = empty
     places-follow (none ∷ l) w = with silent (places-follow l (w .1))
     places-follow (some k ∷ l) w = with (heard (tones k (w .0))) (places-follow l (w .1))
 
     position-follows : (x : Position) → FitPosition p x → PositionBoth F (positionOf A stepA toneA x) (positionOf B stepB toneB x)
     position-follows text.mute w = both-mute
-    position-follows (text.same ts) w = both-move (terms-follow ts w)
+    position-follows (text.kept ts) w = both-move (terms-follow ts w)
     position-follows (text.named k ts) w = both-set (F .shift (tones k (w .0)) (terms-follow ts (w .1)))
 
     positions-follow : (l : List Position) → Each (FitPosition p) l

@@ -21,14 +21,14 @@ module _ (S : Scale) (step : ℕ → S .Step) (tone : ℕ → S .Tone) where
   total (t ∷ ts) = S .add (S .times (weight t) (step (t .of))) (total ts)
 
   -- the positions of a tone system
-  abbrev pub placeOf : Option ℕ → Sound (S .Tone)
-  placeOf none = muted
-  placeOf (some k) = sounds (tone k)
+  abbrev pub systemPositionOf : Option ℕ → Sound (S .Tone)
+  systemPositionOf none = muted
+  systemPositionOf (some k) = sounds (tone k)
 
   -- the positions of a tones retuning
   abbrev pub positionOf : Position → PositionTo S
   positionOf text.mute = mute
-  positionOf (text.same ts) = move (total ts)
+  positionOf (text.kept ts) = move (total ts)
   positionOf (text.named k ts) = setTo (S .shift (tone k) (total ts))
 
   -- the call of a tone system or retuning; the other declarations are not called so
@@ -38,7 +38,7 @@ module _ (S : Scale) (step : ℕ → S .Step) (tone : ℕ → S .Tone) where
   actionOf (text.sequence ts) = none
   actionOf (text.frequency f) = none
   actionOf (text.from k ts) = none
-  actionOf (text.system a l ts) = some (system (record { anchor = a; tones = map placeOf l; period = total ts }))
+  actionOf (text.system a l ts) = some (system (record { anchor = a; tones = map systemPositionOf l; period = total ts }))
   actionOf (text.anchor m) = some (anchorTo m)
   actionOf (text.width m) = some (widthTo m)
   actionOf (text.freshPeriod ts) = some (periodTo (fresh (total ts)))
@@ -49,22 +49,22 @@ module _ (S : Scale) (step : ℕ → S .Step) (tone : ℕ → S .Tone) where
 -- ---- the book's: with the entries of the declarations
 
 -- "A declared number is one declaration's frequency, `p : q` or `A ROOT B`."
-abbrev pub numberOf : Declaration → Option Declared
-numberOf (text.ratio p q) = some (ratio p q)
-numberOf (text.root a b) = some (root a b)
-numberOf (text.sequence ts) = none
-numberOf (text.frequency f) = some (frequency f)
-numberOf (text.from k ts) = none
-numberOf (text.system a l ts) = none
-numberOf (text.anchor m) = none
-numberOf (text.width m) = none
-numberOf (text.freshPeriod ts) = none
-numberOf (text.onwardPeriod ts) = none
-numberOf (text.tones l) = none
-numberOf (text.logic c s os) = none
+abbrev pub declaredBy : Declaration → Option Declared
+declaredBy (text.ratio p q) = some (ratio p q)
+declaredBy (text.root a b) = some (root a b)
+declaredBy (text.sequence ts) = none
+declaredBy (text.frequency f) = some (frequency f)
+declaredBy (text.from k ts) = none
+declaredBy (text.system a l ts) = none
+declaredBy (text.anchor m) = none
+declaredBy (text.width m) = none
+declaredBy (text.freshPeriod ts) = none
+declaredBy (text.onwardPeriod ts) = none
+declaredBy (text.tones l) = none
+declaredBy (text.logic c s os) = none
 
 abbrev pub declaredIn : Program → List (Option Declared)
-declaredIn p = map (λ (d : Placed). numberOf (d .is)) p
+declaredIn p = map (λ (d : Placed). declaredBy (d .is)) p
 
 -- the entry of declaration i, from those that it uses: a declared number once, or the sum of its terms
 abbrev pub entryBy : (ℕ → Powers) → ℕ → Declaration → Powers

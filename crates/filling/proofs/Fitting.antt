@@ -13,11 +13,11 @@ use Rattle.values.specs.Values.{Term}
 use Rattle.values.specs.Rows.{rows}
 use Rattle.tables.specs.declared.Row.the-variants as row
 use Rattle.tables.specs.Layout.{amountNumber}
-use Rattle.program.specs.Program.{Declaration, ratio, root, sequence, frequency, from, system, anchor, width, freshPeriod, onwardPeriod, tones, logic, Placed, Program, Position, mute, same, named, Order}
+use Rattle.program.specs.Program.{Declaration, ratio, root, sequence, frequency, from, system, anchor, width, freshPeriod, onwardPeriod, tones, logic, Placed, Program, Position, mute, kept, named, Order}
 use Rattle.program.specs.Allowed as allowed
 use Rattle.program.specs.Allowed.{Each, Terms, AnchorAmount, WidthAmount, FitStart, Fits}
 use Rattle.filling.specs.Tables.{sumOf, toneOf, tonesOf, changeOf, changesOf, ordersOf, rowOf, filledFrom}
-use Rattle.filling.specs.Inner.{Valued, calledBy, FitValue, FitTerm, Summable, FitPlace, FitPosition, FitOrder, FitParts}
+use Rattle.filling.specs.Inner.{Valued, calledBy, FitValue, FitTerm, Summable, FitSystemPosition, FitPosition, FitOrder, FitParts}
 use Rattle.filling.proofs.Each.{each-map}
 use Rattle.filling.proofs.Forms.{start-any}
 
@@ -49,13 +49,13 @@ module _ {p : Program} {values : List ℤ} (v : Valued p values) (few : length p
   terms-fit : {ts : List Term} → Terms p ts → Summable values ts
   terms-fit {ts} h = record { few = h .few; each = each-map term-fit ts (h .each) }
 
-  place-fit : (x : Option ℕ) → allowed.FitPlace p x → FitPlace values x
+  place-fit : (x : Option ℕ) → allowed.FitSystemPosition p x → FitSystemPosition values x
   place-fit none h = tt
   place-fit (some k) h = value-fit (h .within)
 
   position-fit : (x : Position) → allowed.FitPosition p x → FitPosition values x
   position-fit mute h = tt
-  position-fit (same ts) h = terms-fit h
+  position-fit (kept ts) h = terms-fit h
   position-fit (named k ts) h = (value-fit (h .0 .within), terms-fit (h .1))
 
   start-fit : (s : Option ℕ) → FitStart p s → calledBy s < 2 ^ 31
@@ -86,14 +86,14 @@ module _ (p : Program) (v w : ℕ → ℤ) (agree : (k : ℕ) → k < length p �
   sum-same [] h = refl
   sum-same (t ∷ ts) h = rw (agree (t .of) (h .0 .of .within), sum-same ts (h .1))
 
-  tone-same : (l : List (Option ℕ)) → Each (allowed.FitPlace p) l → map (toneOf v) l ≡ map (toneOf w) l
+  tone-same : (l : List (Option ℕ)) → Each (allowed.FitSystemPosition p) l → map (toneOf v) l ≡ map (toneOf w) l
   tone-same [] h = refl
   tone-same (none ∷ l) h = rw (tone-same l (h .1))
   tone-same (some k ∷ l) h = rw (agree k (h .0 .within), tone-same l (h .1))
 
   change-same : (x : Position) → allowed.FitPosition p x → changeOf v x ≡ changeOf w x
   change-same mute h = refl
-  change-same (same ts) h = rw (sum-same ts (h .each))
+  change-same (kept ts) h = rw (sum-same ts (h .each))
   change-same (named k ts) h = rw (agree k (h .0 .within), sum-same ts (h .1 .each))
 
   all-same : (l : List Position) → Each (allowed.FitPosition p) l → map (changeOf v) l ≡ map (changeOf w) l

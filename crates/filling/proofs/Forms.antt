@@ -19,7 +19,7 @@ use Rattle.tables.specs.declared.Counts.{Counts}
 use Rattle.tables.specs.declared.Row.{Row}
 use Rattle.tables.specs.declared.Row.the-variants as row
 use Rattle.program.specs.Program.{Declaration, declarationOf, periodBy, periodOf, termThen, freshPeriod, onwardPeriod, termsOf, system, tones, logic, Position, Order, grouped}
-use Rattle.valuation.specs.Inner.{between}
+use Rattle.valuation.specs.Inner.{itemsBetween}
 use Rattle.filling.specs.Tables.{tonesOf, changesOf, startCode, rowOf}
 use Rattle.filling.specs.Inner.{valueIn, letterOf, callOf, calledBy, begins, Summable, FitParts, Stored, rowAfter, plainRow, Lists, listed, Rowed}
 use Rattle.filling.proofs.Inside.{tag, Inside, add, subtract, muted, kept, tone, start, order, outside, no-begin}
@@ -172,15 +172,15 @@ period-fit values (fresh e) h = rw e at h
 period-fit values (onto e) h = rw e at h
 
 module _ (l : List ℕ) (i to : ℕ) where
-  pub period-none : to ≤ i → periodOf (between l i to) ≡ freshPeriod (termsOf (between l i to))
+  pub period-none : to ≤ i → periodOf (itemsBetween l i to) ≡ freshPeriod (termsOf (itemsBetween l i to))
   unfolding termsOf
   period-none h = rw (between-none l i to h)
 
   module _ {x : Item} (e : x ≡ itemAt l i) (k : i < to) where
-    pub period-fresh : OneOf noOnward (tag x) → periodOf (between l i to) ≡ freshPeriod (termsOf (between l i to))
-    period-fresh h = rw (item-next l i to e k) (as-fresh x h (between l (i + 1) to))
+    pub period-fresh : OneOf noOnward (tag x) → periodOf (itemsBetween l i to) ≡ freshPeriod (termsOf (itemsBetween l i to))
+    period-fresh h = rw (item-next l i to e k) (as-fresh x h (itemsBetween l (i + 1) to))
 
-    pub period-onward : x ≡ item.Onward → periodOf (between l i to) ≡ onwardPeriod (termsOf (between l i to))
+    pub period-onward : x ≡ item.Onward → periodOf (itemsBetween l i to) ≡ onwardPeriod (termsOf (itemsBetween l i to))
     unfolding termsOf
     period-onward h = rw (item-next l i to e k, h)
 

@@ -10,7 +10,7 @@ use Rattle.names.specs.Parts.{part}
 use Rattle.values.specs.Values.{Term}
 use Rattle.values.proofs.Cases.{clash}
 use Rattle.program.specs.Program.{Grouped, termThen, groupThen, grouped}
-use Rattle.valuation.specs.Inner.{between}
+use Rattle.valuation.specs.Inner.{itemsBetween}
 use Rattle.filling.specs.Inner.{begins, positionBy, positionAt}
 use Rattle.filling.proofs.Inside.{Inside, add, subtract, muted, kept, tone, start, order, outside, inside, no-begin}
 use Rattle.filling.proofs.Items.{termsFrom, terms-end, terms-next, groups-end, groups-next}
@@ -37,7 +37,7 @@ before-first (outside o) g e =
     ap (λ (h : Grouped). h .before) (o .group g) ∙ ap (λ (ts : List Term). ts ++ g .before) (sym (o .term []))
 
 abbrev beforeIn : List ℕ → ℕ → ℕ → List Term
-beforeIn l i to = grouped (between l i to) .before
+beforeIn l i to = grouped (itemsBetween l i to) .before
 
 -- no position from one place on to the i-th: wherever the terms end from there, they end from the first place
 pub record Passing (l : List ℕ) (from to i : ℕ) : Type 0 where
@@ -52,12 +52,12 @@ module _ {l : List ℕ} {from to i : ℕ} (h : Passing l from to i) where
   passing-all k = h .end to (h .upto) (ap (λ (g : Grouped). g .before) (groups-end l i to k) ∙ sym (terms-end l i to k))
 
   module _ {x : Item} (e : x ≡ itemAt l i) (k : i < to) where
-    at-item : beforeIn l i to ≡ groupThen (part x) (grouped (between l (i + 1) to)) .before
+    at-item : beforeIn l i to ≡ groupThen (part x) (grouped (itemsBetween l (i + 1) to)) .before
     at-item = ap (λ (g : Grouped). g .before) (groups-next l i to e k)
 
     pub passing-stop : begins (part x) ≡ true → beforeIn l from to ≡ termsFrom l from i
     passing-stop b =
-        h .end i (omega arith) (at-item ∙ before-none (inside x) (grouped (between l (i + 1) to)) b ∙ sym (terms-end l i i (omega arith)))
+        h .end i (omega arith) (at-item ∙ before-none (inside x) (grouped (itemsBetween l (i + 1) to)) b ∙ sym (terms-end l i i (omega arith)))
 
     pub passing-on : begins (part x) ≡ false → Passing l from to (i + 1)
     passing-on b = record {
@@ -65,12 +65,12 @@ module _ {l : List ℕ} {from to i : ℕ} (h : Passing l from to i) where
       end = λ r m q.
           h .end r (omega arith)
           (at-item
-          ∙ before-first (inside x) (grouped (between l (i + 1) to)) b
+          ∙ before-first (inside x) (grouped (itemsBetween l (i + 1) to)) b
           ∙ ap (λ (ts : List Term). termThen (part x) [] ++ ts) q
           ∙ sym (terms-next l i r e (omega arith)));
     }
 
 -- ---- the position that begins with an item
 
-pub position-by : (l : List ℕ) (i to : ℕ) {x : Item} → x ≡ itemAt l i → positionAt l i to ≡ positionBy (part x) (grouped (between l (i + 1) to) .before)
+pub position-by : (l : List ℕ) (i to : ℕ) {x : Item} → x ≡ itemAt l i → positionAt l i to ≡ positionBy (part x) (grouped (itemsBetween l (i + 1) to) .before)
 position-by l i to e = rw e

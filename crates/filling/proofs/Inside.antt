@@ -13,13 +13,13 @@ use Rattle.grammar.specs.declared.Item.the-variants as item
 use Rattle.grammar.proofs.Item as variants
 use Rattle.names.specs.Parts.{part}
 use Rattle.values.specs.Values.{Term}
-use Rattle.program.specs.Program.{Grouped, Order, termThen, placeThen, groupThen, orderThen, startThen}
+use Rattle.program.specs.Program.{Grouped, Order, termThen, systemPositionThen, groupThen, orderThen, startThen}
 use Rattle.filling.specs.Inner.{begins, positionBy}
 
 -- an item that gives nothing to any list
 pub record Outside (i : Item) : Type 0 where
   pub term : (ts : List Term) → termThen (part i) ts ≡ ts
-  pub place : (l : List (Option ℕ)) → placeThen (part i) l ≡ l
+  pub place : (l : List (Option ℕ)) → systemPositionThen (part i) l ≡ l
   pub group : (g : Grouped) → groupThen (part i) g ≡ g
   pub order : (l : List Order) → orderThen (part i) l ≡ l
   pub start : (s : Option ℕ) → startThen (part i) s ≡ s
@@ -86,7 +86,7 @@ no-term (outside o) h = o .term []
 abbrev pub noPlaces : List ℕ
 noPlaces = 0 ∷ 1 ∷ 2 ∷ 3 ∷ 4 ∷ 5 ∷ 6 ∷ 7 ∷ 9 ∷ 11 ∷ 12 ∷ 13 ∷ 14 ∷ 15 ∷ 16 ∷ 17 ∷ 18 ∷ 19 ∷ 20 ∷ 21 ∷ 22 ∷ 23 ∷ 24 ∷ 25 ∷ []
 
-pub no-place : {i : Item} → Inside i → OneOf noPlaces (tag i) → placeThen (part i) [] ≡ []
+pub no-place : {i : Item} → Inside i → OneOf noPlaces (tag i) → systemPositionThen (part i) [] ≡ []
 no-place add h = refl
 no-place subtract h = refl
 no-place muted h = absurd (miss noPlaces 8 tt h)

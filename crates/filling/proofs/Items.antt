@@ -7,8 +7,8 @@ use Rattle.grammar.specs.declared.Item.{Item}
 use Rattle.grammar.specs.Items.{itemAt}
 use Rattle.names.specs.Parts.{part}
 use Rattle.values.specs.Values.{Term}
-use Rattle.program.specs.Program.{Order, Grouped, termThen, termsOf, placeThen, placesOf, groupThen, grouped, orderThen, ordersOf, startThen, startOf}
-use Rattle.valuation.specs.Inner.{between}
+use Rattle.program.specs.Program.{Order, Grouped, termThen, termsOf, systemPositionThen, systemPositionsOf, groupThen, grouped, orderThen, ordersOf, startThen, startOf}
+use Rattle.valuation.specs.Inner.{itemsBetween}
 use Rattle.filling.specs.Inner.{positionBy}
 use Rattle.valuation.proofs.Between.{between-none, between-here}
 use Rattle.filling.proofs.Inside.{Inside, add, subtract, muted, kept, tone, start, order, outside, inside}
@@ -25,7 +25,7 @@ term-first start ts = refl
 term-first order ts = refl
 term-first (outside o) ts = o .term ts ∙ ap (λ (us : List Term). us ++ ts) (sym (o .term []))
 
-place-first : {i : Item} → Inside i → (l : List (Option ℕ)) → placeThen (part i) l ≡ placeThen (part i) [] ++ l
+place-first : {i : Item} → Inside i → (l : List (Option ℕ)) → systemPositionThen (part i) l ≡ systemPositionThen (part i) [] ++ l
 place-first add l = refl
 place-first subtract l = refl
 place-first muted l = refl
@@ -60,7 +60,7 @@ position-first (outside o) g =
 -- ---- the same from one place of a slice to another
 
 abbrev pub termsFrom : List ℕ → ℕ → ℕ → List Term
-termsFrom l i to = termsOf (between l i to)
+termsFrom l i to = termsOf (itemsBetween l i to)
 
 module _ (l : List ℕ) (i to : ℕ) where
   module _ (k : to ≤ i) where
@@ -68,46 +68,46 @@ module _ (l : List ℕ) (i to : ℕ) where
     unfolding termsOf
     terms-end = ap termsOf (between-none l i to k)
 
-    pub places-end : placesOf (between l i to) ≡ []
-    unfolding placesOf
-    places-end = ap placesOf (between-none l i to k)
+    pub places-end : systemPositionsOf (itemsBetween l i to) ≡ []
+    unfolding systemPositionsOf
+    places-end = ap systemPositionsOf (between-none l i to k)
 
-    pub orders-end : ordersOf (between l i to) ≡ []
+    pub orders-end : ordersOf (itemsBetween l i to) ≡ []
     unfolding ordersOf
     orders-end = ap ordersOf (between-none l i to k)
 
-    pub groups-end : grouped (between l i to) ≡ record { before = []; positions = [] }
+    pub groups-end : grouped (itemsBetween l i to) ≡ record { before = []; positions = [] }
     unfolding grouped
     groups-end = ap grouped (between-none l i to k)
 
-    pub start-end : startOf (between l i to) ≡ none
+    pub start-end : startOf (itemsBetween l i to) ≡ none
     unfolding startOf
     start-end = ap startOf (between-none l i to k)
 
   module _ {x : Item} (e : x ≡ itemAt l i) (k : i < to) where
-    pub item-next : between l i to ≡ x ∷ between l (i + 1) to
+    pub item-next : itemsBetween l i to ≡ x ∷ itemsBetween l (i + 1) to
     item-next = rw e (between-here l i to k)
 
     pub terms-next : termsFrom l i to ≡ termThen (part x) [] ++ termsFrom l (i + 1) to
     unfolding termsOf
     terms-next = ap termsOf item-next ∙ term-first (inside x) (termsFrom l (i + 1) to)
 
-    pub places-next : placesOf (between l i to) ≡ placeThen (part x) [] ++ placesOf (between l (i + 1) to)
-    unfolding placesOf
-    places-next = ap placesOf item-next ∙ place-first (inside x) (placesOf (between l (i + 1) to))
+    pub places-next : systemPositionsOf (itemsBetween l i to) ≡ systemPositionThen (part x) [] ++ systemPositionsOf (itemsBetween l (i + 1) to)
+    unfolding systemPositionsOf
+    places-next = ap systemPositionsOf item-next ∙ place-first (inside x) (systemPositionsOf (itemsBetween l (i + 1) to))
 
-    pub orders-next : ordersOf (between l i to) ≡ orderThen (part x) [] ++ ordersOf (between l (i + 1) to)
+    pub orders-next : ordersOf (itemsBetween l i to) ≡ orderThen (part x) [] ++ ordersOf (itemsBetween l (i + 1) to)
     unfolding ordersOf
-    orders-next = ap ordersOf item-next ∙ order-first (inside x) (ordersOf (between l (i + 1) to))
+    orders-next = ap ordersOf item-next ∙ order-first (inside x) (ordersOf (itemsBetween l (i + 1) to))
 
-    pub groups-next : grouped (between l i to) ≡ groupThen (part x) (grouped (between l (i + 1) to))
+    pub groups-next : grouped (itemsBetween l i to) ≡ groupThen (part x) (grouped (itemsBetween l (i + 1) to))
     unfolding grouped
     groups-next = ap grouped item-next
 
-    pub positions-next : grouped (between l i to) .positions
-        ≡ positionBy (part x) (grouped (between l (i + 1) to) .before) ++ grouped (between l (i + 1) to) .positions
-    positions-next = ap (λ (g : Grouped). g .positions) groups-next ∙ position-first (inside x) (grouped (between l (i + 1) to))
+    pub positions-next : grouped (itemsBetween l i to) .positions
+        ≡ positionBy (part x) (grouped (itemsBetween l (i + 1) to) .before) ++ grouped (itemsBetween l (i + 1) to) .positions
+    positions-next = ap (λ (g : Grouped). g .positions) groups-next ∙ position-first (inside x) (grouped (itemsBetween l (i + 1) to))
 
-    pub start-next : startOf (between l i to) ≡ startThen (part x) (startOf (between l (i + 1) to))
+    pub start-next : startOf (itemsBetween l i to) ≡ startThen (part x) (startOf (itemsBetween l (i + 1) to))
     unfolding startOf
     start-next = ap startOf item-next

@@ -11,7 +11,7 @@ use Rattle.tables.specs.Layout.{Tables}
 use Rattle.tables.specs.Values.{CountsFit}
 use Rattle.program.specs.Program.{Declaration, Program, declarationOf, programOf}
 use Rattle.program.specs.Meaning.{declarationAt, valueOf}
-use Rattle.valuation.specs.Inner.{Ready, between}
+use Rattle.valuation.specs.Inner.{Ready, itemsBetween}
 use Rattle.valuation.proofs.Ready.{ready-few, ready-fits, ready-body}
 use Rattle.filling.specs.Tables.{filledFrom, laidOut, tablesOf}
 use Rattle.filling.specs.Inner.{Valued, blank, valueIn, FitValue, Writable, Lists, listsOf, Added}
@@ -46,10 +46,10 @@ module _ {is : List Item} {items : List ℕ} {count : ℕ} {starts : List ℕ} {
       inside : d < length (programOf is)
       inside = rw (r .number) at k
 
-      body : declarationOf (between items (getD starts d 0 + 1) to) ≡ declarationAt (programOf is) d
+      body : declarationOf (itemsBetween items (getD starts d 0 + 1) to) ≡ declarationAt (programOf is) d
       body = ready-body r d k e
 
-      pub written-fits : Writable values used (declarationOf (between items (getD starts d 0 + 1) to))
+      pub written-fits : Writable values used (declarationOf (itemsBetween items (getD starts d 0 + 1) to))
       written-fits =
           subst (λ (c : Declaration). Writable values used c) (sym body)
           (record {
@@ -62,7 +62,7 @@ module _ {is : List Item} {items : List ℕ} {count : ℕ} {starts : List ℕ} {
           })
 
       pub written-next : {used′ : Counts} {rows′ : List ℤ} {lists′ : Lists}
-          → Added (valueIn values) used (declarationOf (between items (getD starts d 0 + 1) to)) rows lists used′ rows′ lists′
+          → Added (valueIn values) used (declarationOf (itemsBetween items (getD starts d 0 + 1) to)) rows lists used′ rows′ lists′
           → Filling (valueIn values) (programOf is) (d + 1) used′ rows′ lists′
       written-next {used′} {rows′} {lists′} a =
           filling-next h within inside (subst (λ (c : Declaration). Added (valueIn values) used c rows lists used′ rows′ lists′) body a)

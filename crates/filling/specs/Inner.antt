@@ -21,10 +21,10 @@ use Rattle.tables.specs.declared.Counts.{Counts}
 use Rattle.tables.specs.declared.Row.{Row}
 use Rattle.tables.specs.declared.Row.the-variants as row
 use Rattle.tables.specs.Layout.{Tables, mostRows, rowWidth, mostTones, mostChanges, mostOrders, countsSize, numbersOf, written, amountNumber, soundingOf, pitchOf, changeCode, changeNumber}
-use Rattle.program.specs.Program.{Declaration, ratio, root, sequence, frequency, from, system, anchor, width, freshPeriod, onwardPeriod, tones, logic, Program, Position, mute, same, named, Order, groupThen, grouped}
+use Rattle.program.specs.Program.{Declaration, ratio, root, sequence, frequency, from, system, anchor, width, freshPeriod, onwardPeriod, tones, logic, Program, Position, mute, kept, named, Order, groupThen, grouped}
 use Rattle.program.specs.Meaning.{valueOf}
 use Rattle.program.specs.Allowed.{Each}
-use Rattle.valuation.specs.Inner.{between}
+use Rattle.valuation.specs.Inner.{itemsBetween}
 use Rattle.filling.specs.declared.lists.ToneHere.{ToneHere}
 use Rattle.filling.specs.declared.lists.ToneHere.the-variants as toneHere
 use Rattle.filling.specs.declared.lists.ChangeHere.{ChangeHere}
@@ -64,7 +64,7 @@ abbrev pub begins : Part → Bool
 begins q = ltb 0 (length (positionBy q []))
 
 abbrev pub positionAt : List ℕ → ℕ → ℕ → List Position
-positionAt items i to = positionBy (part (itemAt items i)) (grouped (between items (i + 1) to) .before)
+positionAt items i to = positionBy (part (itemAt items i)) (grouped (itemsBetween items (i + 1) to) .before)
 
 -- what an item gives to the tones, or a position to the changes
 abbrev pub tonesHere : ToneHere → List Tone
@@ -100,13 +100,13 @@ pub record Summable (values : List ℤ) (ts : List Term) : Type 0 where
   pub few : length ts ≤ mostTerms
   pub each : Each (FitTerm values) ts
 
-abbrev pub FitPlace : List ℤ → Option ℕ → Type 0
-FitPlace values none = Unit
-FitPlace values (some k) = FitValue values k
+abbrev pub FitSystemPosition : List ℤ → Option ℕ → Type 0
+FitSystemPosition values none = Unit
+FitSystemPosition values (some k) = FitValue values k
 
 abbrev pub FitPosition : List ℤ → Position → Type 0
 FitPosition values mute = Unit
-FitPosition values (same ts) = Summable values ts
+FitPosition values (kept ts) = Summable values ts
 FitPosition values (named k ts) = FitValue values k × Summable values ts
 
 pub record FitOrder (o : Order) : Type 0 where
@@ -124,7 +124,7 @@ FitParts values (root a b) = Unit
 FitParts values (sequence ts) = Unit
 FitParts values (frequency f) = Unit
 FitParts values (from k ts) = Unit
-FitParts values (system a l ts) = (a < 2 ^ 8) × Each (FitPlace values) l
+FitParts values (system a l ts) = (a < 2 ^ 8) × Each (FitSystemPosition values) l
 FitParts values (anchor m) = amountNumber m < 2 ^ 16
 FitParts values (width m) = amountNumber m < 2 ^ 16
 FitParts values (freshPeriod ts) = Summable values ts

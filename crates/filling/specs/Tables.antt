@@ -16,7 +16,7 @@ use Rattle.tables.specs.declared.Row.{Row}
 use Rattle.tables.specs.declared.Row.the-variants as row
 use Rattle.tables.specs.Layout.{mostRows, rowWidth, mostTones, mostChanges, mostOrders, writtenAll, full, soundingOf, pitchOf, changeCode, changeNumber}
 use Rattle.tables.specs.Layout as layout
-use Rattle.program.specs.Program.{Declaration, ratio, root, sequence, frequency, from, system, anchor, width, freshPeriod, onwardPeriod, tones, logic, Program, Position, mute, same, named, Order}
+use Rattle.program.specs.Program.{Declaration, ratio, root, sequence, frequency, from, system, anchor, width, freshPeriod, onwardPeriod, tones, logic, Program, Position, mute, kept, named, Order}
 use Rattle.program.specs.Meaning.{valueOf}
 
 -- "Sequences add factor times measure"
@@ -56,7 +56,7 @@ module _ (value : ℕ → ℤ) where
   -- the changes of a tones retuning
   abbrev pub changeOf : Position → ToneChange
   changeOf mute = Mute
-  changeOf (same ts) = Move (record { 0 = sum ts })
+  changeOf (kept ts) = Move (record { 0 = sum ts })
   changeOf (named k ts) = Set (record { 0 = capped (value k +ℤ sumOf value ts) })
 
   abbrev pub changesOf : Declaration → List ToneChange

@@ -13,11 +13,11 @@ ghost use Prim.Native.Nat.{_+_, _≤_, _<_, _^_};
 ghost use lib.ListN.{length};
 ghost use Rattle.tables.specs.Layout.{lettersIn, callsIn, mostTones, mostChanges, mostOrders, soundingOf, pitchOf, changeCode, changeNumber};
 ghost use Rattle.names.specs.Parts.{part};
-ghost use Rattle.program.specs.Program.{placeThen, placesOf, grouped, termsOf, ordersOf, startOf};
+ghost use Rattle.program.specs.Program.{systemPositionThen, systemPositionsOf, grouped, termsOf, ordersOf, startOf};
 ghost use Rattle.program.specs.Allowed.{Each};
-ghost use Rattle.valuation.specs.Inner.{between};
+ghost use Rattle.valuation.specs.Inner.{itemsBetween};
 ghost use Rattle.filling.specs.Tables.{sumOf, toneOf, changeOf};
-ghost use Rattle.filling.specs.Inner.{valueIn, begins, positionAt, letterOf, callOf, calledBy, tonesHere, changesHere, Summable, FitPlace, FitPosition, FitOrder, Appended};
+ghost use Rattle.filling.specs.Inner.{valueIn, begins, positionAt, letterOf, callOf, calledBy, tonesHere, changesHere, Summable, FitSystemPosition, FitPosition, FitOrder, Appended};
 
 // A tone of a tone system, where an item is one of its positions.
 enum ToneHere {
@@ -32,8 +32,8 @@ enum ChangeHere {
 }
 
 fn read_tone(item: Item, values: &[i64]) -> ToneHere
-    requires { ⌜ Each (FitPlace (now values)) (placeThen (part item) []) ⌝ }
-    ensures { λ r. ⌜ tonesHere r ≡ map (toneOf (valueIn (now (values .entry)))) (placeThen (part item) []) ⌝ }
+    requires { ⌜ Each (FitSystemPosition (now values)) (systemPositionThen (part item) []) ⌝ }
+    ensures { λ r. ⌜ tonesHere r ≡ map (toneOf (valueIn (now (values .entry)))) (systemPositionThen (part item) []) ⌝ }
 {
     match item {
         Item::MutedPosition => ToneHere::Tone(Tone::Muted),
@@ -43,7 +43,7 @@ fn read_tone(item: Item, values: &[i64]) -> ToneHere
 }
 
 // Writes the positions of a tone system. Answers how many tones there are then.
-pub fn write_places(
+pub fn write_positions(
     items: &[u32],
     from: usize,
     to: usize,
@@ -52,9 +52,9 @@ pub fn write_places(
     tones: &mut [i32],
     at: usize,
 ) -> usize
-    requires { ⌜ Each (FitPlace (now values)) (placesOf (between (now items) from to)) ⌝ }
-    requires { ⌜ at + length (placesOf (between (now items) from to)) ≤ mostTones ⌝ }
-    ensures { λ r. ⌜ Appended soundingOf pitchOf (map (toneOf (valueIn (now (values .entry)))) (placesOf (between (now (items .entry)) from to))) at (now (sounding .entry)) (now (tones .entry)) r (now (sounding .exit)) (now (tones .exit)) ⌝ }
+    requires { ⌜ Each (FitSystemPosition (now values)) (systemPositionsOf (itemsBetween (now items) from to)) ⌝ }
+    requires { ⌜ at + length (systemPositionsOf (itemsBetween (now items) from to)) ≤ mostTones ⌝ }
+    ensures { λ r. ⌜ Appended soundingOf pitchOf (map (toneOf (valueIn (now (values .entry)))) (systemPositionsOf (itemsBetween (now (items .entry)) from to))) at (now (sounding .entry)) (now (tones .entry)) r (now (sounding .exit)) (now (tones .exit)) ⌝ }
 {
     let mut count = at;
     for i in from..to {
@@ -82,7 +82,7 @@ pub fn is_position(item: Item) -> bool
 // Where the next position begins, or the end: the terms before it are those of the present one.
 fn find_position(items: &[u32], from: usize, to: usize) -> usize
     requires { ⌜ from ≤ to ⌝ }
-    ensures { λ r. ⌜ grouped (between (now (items .entry)) from to) .before ≡ termsOf (between (now (items .entry)) from r) ⌝ }
+    ensures { λ r. ⌜ grouped (itemsBetween (now (items .entry)) from to) .before ≡ termsOf (itemsBetween (now (items .entry)) from r) ⌝ }
 {
     for i in from..to {
         if is_position(items::item_at(items, i)) {
@@ -95,8 +95,8 @@ fn find_position(items: &[u32], from: usize, to: usize) -> usize
 // The sum of the terms up to the next position.
 fn sum_group(items: &[u32], from: usize, to: usize, values: &[i64]) -> Sum
     requires { ⌜ from ≤ to ⌝ }
-    requires { ⌜ Summable (now values) (grouped (between (now items) from to) .before) ⌝ }
-    ensures { λ r. ⌜ r .0 ≡ sumOf (valueIn (now (values .entry))) (grouped (between (now (items .entry)) from to) .before) ⌝ }
+    requires { ⌜ Summable (now values) (grouped (itemsBetween (now items) from to) .before) ⌝ }
+    ensures { λ r. ⌜ r .0 ≡ sumOf (valueIn (now (values .entry))) (grouped (itemsBetween (now (items .entry)) from to) .before) ⌝ }
 {
     sum_terms(items, from, find_position(items, from, to), values)
 }
@@ -130,9 +130,9 @@ pub fn write_changes(
     changes: &mut [i32],
     at: usize,
 ) -> usize
-    requires { ⌜ Each (FitPosition (now values)) (grouped (between (now items) from to) .positions) ⌝ }
-    requires { ⌜ at + length (grouped (between (now items) from to) .positions) ≤ mostChanges ⌝ }
-    ensures { λ r. ⌜ Appended changeCode changeNumber (map (changeOf (valueIn (now (values .entry)))) (grouped (between (now (items .entry)) from to) .positions)) at (now (kinds .entry)) (now (changes .entry)) r (now (kinds .exit)) (now (changes .exit)) ⌝ }
+    requires { ⌜ Each (FitPosition (now values)) (grouped (itemsBetween (now items) from to) .positions) ⌝ }
+    requires { ⌜ at + length (grouped (itemsBetween (now items) from to) .positions) ≤ mostChanges ⌝ }
+    ensures { λ r. ⌜ Appended changeCode changeNumber (map (changeOf (valueIn (now (values .entry)))) (grouped (itemsBetween (now (items .entry)) from to) .positions)) at (now (kinds .entry)) (now (changes .entry)) r (now (kinds .exit)) (now (changes .exit)) ⌝ }
 {
     let mut count = at;
     for i in from..to {
@@ -147,9 +147,9 @@ pub fn write_changes(
 
 // Writes the orders of a logic. Answers how many orders there are then.
 pub fn write_orders(items: &[u32], from: usize, to: usize, orders: &mut [u16], at: usize) -> usize
-    requires { ⌜ Each FitOrder (ordersOf (between (now items) from to)) ⌝ }
-    requires { ⌜ at + length (ordersOf (between (now items) from to)) ≤ mostOrders ⌝ }
-    ensures { λ r. ⌜ Appended letterOf callOf (ordersOf (between (now (items .entry)) from to)) at (lettersIn (now (orders .entry))) (callsIn (now (orders .entry))) r (lettersIn (now (orders .exit))) (callsIn (now (orders .exit))) ⌝ }
+    requires { ⌜ Each FitOrder (ordersOf (itemsBetween (now items) from to)) ⌝ }
+    requires { ⌜ at + length (ordersOf (itemsBetween (now items) from to)) ≤ mostOrders ⌝ }
+    ensures { λ r. ⌜ Appended letterOf callOf (ordersOf (itemsBetween (now (items .entry)) from to)) at (lettersIn (now (orders .entry))) (callsIn (now (orders .entry))) r (lettersIn (now (orders .exit))) (callsIn (now (orders .exit))) ⌝ }
 {
     let mut count = at;
     for i in from..to {
@@ -164,8 +164,8 @@ pub fn write_orders(items: &[u32], from: usize, to: usize, orders: &mut [u16], a
 
 // What a logic's start calls, as its row has it.
 pub fn find_start(items: &[u32], from: usize, to: usize) -> u32
-    requires { ⌜ calledBy (startOf (between (now items) from to)) < 2 ^ 31 ⌝ }
-    ensures { λ r. ⌜ r ≡ calledBy (startOf (between (now (items .entry)) from to)) ⌝ }
+    requires { ⌜ calledBy (startOf (itemsBetween (now items) from to)) < 2 ^ 31 ⌝ }
+    ensures { λ r. ⌜ r ≡ calledBy (startOf (itemsBetween (now (items .entry)) from to)) ⌝ }
 {
     for i in from..to {
         if let Item::Start(called) = items::item_at(items, i) {

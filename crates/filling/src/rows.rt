@@ -26,7 +26,7 @@ ghost use Prim.Native.Nat.{_+_, _≤_, _<_};
 ghost use lib.ListN.{length};
 ghost use Rattle.tables.specs.Layout.{tablesIn, lettersIn, callsIn, mostRows, mostOrders, soundingOf, pitchOf, changeCode, changeNumber};
 ghost use Rattle.program.specs.Program.{declarationOf, periodOf, tones, grouped, startOf, ordersOf};
-ghost use Rattle.valuation.specs.Inner.{between};
+ghost use Rattle.valuation.specs.Inner.{itemsBetween};
 ghost use Rattle.tables.specs.Values.{Slices};
 ghost use Rattle.filling.specs.Tables.{tonesOf, changesOf, rowOf};
 ghost use Rattle.filling.specs.Inner.{valueIn, letterOf, callOf, calledBy, FitValue, FitLogic, FitParts, Writable, Stored, rowAfter, plainRow, RowedIn, AddedIn, countedBy};
@@ -86,8 +86,8 @@ fn make_period(change: PeriodChange) -> Row
 
 // The row of a period retuning: its items after `[ ]`.
 fn read_period(items: &[u32], from: usize, to: usize, values: &[i64]) -> Row
-    requires { ⌜ FitParts (now values) (periodOf (between (now items) from to)) ⌝ }
-    ensures { λ r. ⌜ r ≡ rowOf (valueIn (now (values .entry))) 0 0 0 0 (periodOf (between (now (items .entry)) from to)) ⌝ }
+    requires { ⌜ FitParts (now values) (periodOf (itemsBetween (now items) from to)) ⌝ }
+    ensures { λ r. ⌜ r ≡ rowOf (valueIn (now (values .entry))) 0 0 0 0 (periodOf (itemsBetween (now (items .entry)) from to)) ⌝ }
 {
     let sum = sum_terms(items, from, to, values).to_interval();
     if to <= from {
@@ -110,11 +110,11 @@ fn write_system(
     sounding: &mut [u16],
     tones: &mut [i32],
 ) -> Row
-    requires { ⌜ Writable (now values) used (declarationOf (Item.AnchorKey key ∷ between (now items) from to)) ⌝ }
-    ensures { λ r. ⌜ r ≡ rowAfter (valueIn (now (values .entry))) used (declarationOf (Item.AnchorKey key ∷ between (now (items .entry)) from to)) ⌝ }
-    ensures { λ _. ⌜ Stored soundingOf pitchOf (tonesOf (valueIn (now (values .entry))) (declarationOf (Item.AnchorKey key ∷ between (now (items .entry)) from to))) (used .tones) (now (sounding .entry)) (now (tones .entry)) (now (sounding .exit)) (now (tones .exit)) ⌝ }
+    requires { ⌜ Writable (now values) used (declarationOf (Item.AnchorKey key ∷ itemsBetween (now items) from to)) ⌝ }
+    ensures { λ r. ⌜ r ≡ rowAfter (valueIn (now (values .entry))) used (declarationOf (Item.AnchorKey key ∷ itemsBetween (now (items .entry)) from to)) ⌝ }
+    ensures { λ _. ⌜ Stored soundingOf pitchOf (tonesOf (valueIn (now (values .entry))) (declarationOf (Item.AnchorKey key ∷ itemsBetween (now (items .entry)) from to))) (used .tones) (now (sounding .entry)) (now (tones .entry)) (now (sounding .exit)) (now (tones .exit)) ⌝ }
 {
-    let end = lists::write_places(
+    let end = lists::write_positions(
         items,
         from,
         to,
@@ -141,9 +141,9 @@ fn write_tones(
     kinds: &mut [u16],
     changes: &mut [i32],
 ) -> Row
-    requires { ⌜ Writable (now values) used (tones (grouped (between (now items) from to) .positions)) ⌝ }
-    ensures { λ r. ⌜ r ≡ rowAfter (valueIn (now (values .entry))) used (tones (grouped (between (now (items .entry)) from to) .positions)) ⌝ }
-    ensures { λ _. ⌜ Stored changeCode changeNumber (changesOf (valueIn (now (values .entry))) (tones (grouped (between (now (items .entry)) from to) .positions))) (used .changes) (now (kinds .entry)) (now (changes .entry)) (now (kinds .exit)) (now (changes .exit)) ⌝ }
+    requires { ⌜ Writable (now values) used (tones (grouped (itemsBetween (now items) from to) .positions)) ⌝ }
+    ensures { λ r. ⌜ r ≡ rowAfter (valueIn (now (values .entry))) used (tones (grouped (itemsBetween (now (items .entry)) from to) .positions)) ⌝ }
+    ensures { λ _. ⌜ Stored changeCode changeNumber (changesOf (valueIn (now (values .entry))) (tones (grouped (itemsBetween (now (items .entry)) from to) .positions))) (used .changes) (now (kinds .entry)) (now (changes .entry)) (now (kinds .exit)) (now (changes .exit)) ⌝ }
 {
     let end = lists::write_changes(
         items,
@@ -170,10 +170,10 @@ fn write_logic(
     used: Counts,
     orders: &mut [u16],
 ) -> Row
-    requires { ⌜ FitLogic letter (startOf (between (now items) from to)) (ordersOf (between (now items) from to)) ⌝ }
-    requires { ⌜ used .orders + length (ordersOf (between (now items) from to)) ≤ mostOrders ⌝ }
-    ensures { λ r. ⌜ r ≡ Row.Logic letter (calledBy (startOf (between (now (items .entry)) from to))) (used .orders) (used .orders + length (ordersOf (between (now (items .entry)) from to))) ⌝ }
-    ensures { λ _. ⌜ Stored letterOf callOf (ordersOf (between (now (items .entry)) from to)) (used .orders) (lettersIn (now (orders .entry))) (callsIn (now (orders .entry))) (lettersIn (now (orders .exit))) (callsIn (now (orders .exit))) ⌝ }
+    requires { ⌜ FitLogic letter (startOf (itemsBetween (now items) from to)) (ordersOf (itemsBetween (now items) from to)) ⌝ }
+    requires { ⌜ used .orders + length (ordersOf (itemsBetween (now items) from to)) ≤ mostOrders ⌝ }
+    ensures { λ r. ⌜ r ≡ Row.Logic letter (calledBy (startOf (itemsBetween (now (items .entry)) from to))) (used .orders) (used .orders + length (ordersOf (itemsBetween (now (items .entry)) from to))) ⌝ }
+    ensures { λ _. ⌜ Stored letterOf callOf (ordersOf (itemsBetween (now (items .entry)) from to)) (used .orders) (lettersIn (now (orders .entry))) (callsIn (now (orders .entry))) (lettersIn (now (orders .exit))) (callsIn (now (orders .exit))) ⌝ }
 {
     let end = lists::write_orders(items, from, to, orders, used.orders as usize);
     Row::Logic {
@@ -229,8 +229,8 @@ fn write_lists(
     codes: &mut [u16],
 ) -> Row
     requires { ⌜ Slices (now numbers) (now codes) ⌝ }
-    requires { ⌜ Writable (now values) used (declarationOf (between (now items) from to)) ⌝ }
-    ensures { λ r. ⌜ RowedIn (valueIn (now (values .entry))) used (declarationOf (between (now (items .entry)) from to)) (tablesIn (now (numbers .entry)) (now (codes .entry))) r (tablesIn (now (numbers .exit)) (now (codes .exit))) ⌝ }
+    requires { ⌜ Writable (now values) used (declarationOf (itemsBetween (now items) from to)) ⌝ }
+    ensures { λ r. ⌜ RowedIn (valueIn (now (values .entry))) used (declarationOf (itemsBetween (now (items .entry)) from to)) (tablesIn (now (numbers .entry)) (now (codes .entry))) r (tablesIn (now (numbers .exit)) (now (codes .exit))) ⌝ }
 {
     let row = used.rows as usize;
     if to <= from {
@@ -270,8 +270,8 @@ pub fn write_declaration(
     codes: &mut [u16],
 ) -> Counts
     requires { ⌜ Slices (now numbers) (now codes) ⌝ }
-    requires { ⌜ Writable (now values) used (declarationOf (between (now items) from to)) ⌝ }
-    ensures { λ r. ⌜ AddedIn (valueIn (now (values .entry))) used (declarationOf (between (now (items .entry)) from to)) (tablesIn (now (numbers .entry)) (now (codes .entry))) r (tablesIn (now (numbers .exit)) (now (codes .exit))) ⌝ }
+    requires { ⌜ Writable (now values) used (declarationOf (itemsBetween (now items) from to)) ⌝ }
+    ensures { λ r. ⌜ AddedIn (valueIn (now (values .entry))) used (declarationOf (itemsBetween (now (items .entry)) from to)) (tablesIn (now (numbers .entry)) (now (codes .entry))) r (tablesIn (now (numbers .exit)) (now (codes .exit))) ⌝ }
 {
     let row = write_lists(items, from, to, values, used, numbers, codes);
     encode::store_row(&mut numbers[0..TONES_AT], used.rows as usize, row);

@@ -14,7 +14,7 @@ ghost use Rattle.values.specs.Inner.{greatestFactor, largestTerm};
 ghost use Rattle.names.specs.Parts.{part};
 ghost use Rattle.program.specs.Program.{termThen, termsOf};
 ghost use Rattle.program.specs.Allowed.{Each};
-ghost use Rattle.valuation.specs.Inner.{between};
+ghost use Rattle.valuation.specs.Inner.{itemsBetween};
 ghost use Rattle.tuning.specs.Capped.{capped};
 ghost use Rattle.filling.specs.Tables.{sumOf};
 ghost use Rattle.filling.specs.Inner.{valueIn, FitValue, FitTerm, Summable};
@@ -66,8 +66,8 @@ fn weigh(item: Item, values: &[i64]) -> i64
 
 // The sum of the terms that stand from one place to another.
 pub fn sum_terms(items: &[u32], from: usize, to: usize, values: &[i64]) -> Sum
-    requires { ⌜ Summable (now values) (termsOf (between (now items) from to)) ⌝ }
-    ensures { λ r. ⌜ r .0 ≡ sumOf (valueIn (now (values .entry))) (termsOf (between (now (items .entry)) from to)) ⌝ }
+    requires { ⌜ Summable (now values) (termsOf (itemsBetween (now items) from to)) ⌝ }
+    ensures { λ r. ⌜ r .0 ≡ sumOf (valueIn (now (values .entry))) (termsOf (itemsBetween (now (items .entry)) from to)) ⌝ }
 {
     let mut sum = 0;
     for i in from..to {

@@ -26,9 +26,9 @@ use Rattle.tables.proofs.Stored.{written-length}
 use Rattle.validity.specs.Valid.{isSum, isCapital, isSystemOrRetuning, isCalled, refersTo, isStart, declarationRight, validTables}
 use Rattle.validity.proofs.Sizes.{Sizes}
 use Rattle.validity.proofs.Laid.{valid-is, row-laid, rows-laid, declarations-laid, tones-laid, changes-laid, orders-laid, zeros-after, noughts-after}
-use Rattle.program.specs.Program.{Declaration, ratio, root, sequence, frequency, from, system, anchor, width, freshPeriod, onwardPeriod, tones, logic, Placed, Program, Position, mute, same, named, Order}
+use Rattle.program.specs.Program.{Declaration, ratio, root, sequence, frequency, from, system, anchor, width, freshPeriod, onwardPeriod, tones, logic, Placed, Program, Position, mute, kept, named, Order}
 use Rattle.program.specs.Meaning.{declarationAt, valueOf, valued}
-use Rattle.program.specs.Allowed.{kindOf, isKind, Each, FitPlace, FitStart, FitOrder, Fits, Allowed}
+use Rattle.program.specs.Allowed.{kindOf, isKind, Each, FitSystemPosition, FitStart, FitOrder, Fits, Allowed}
 use Rattle.program.specs.Text.{accepted, readText}
 use Rattle.program.proofs.AcceptedText.{steps, fits-at, value-tone, value-period}
 use Rattle.filling.specs.Tables.{sumOf, toneOf, tonesOf, changeOf, changesOf, startCode, rowOf, ordersOf, laidOut, tablesOf}
@@ -126,7 +126,7 @@ module _ (p : Program) (a : Allowed p) (v : valued p ≡ Done) where
   abbrev toneRight : Tone → Bool
   toneRight x = not (beyond (heard x))
 
-  places-right : (l : List (Option ℕ)) → Each (FitPlace p) l → every toneRight (map (toneOf value) l) ≡ true
+  places-right : (l : List (Option ℕ)) → Each (FitSystemPosition p) l → every toneRight (map (toneOf value) l) ≡ true
   unfolding every
   places-right [] fit = refl
   places-right (none ∷ l) fit = places-right l (fit .1)
@@ -146,7 +146,7 @@ module _ (p : Program) (a : Allowed p) (v : valued p ≡ Done) where
   unfolding every
   positions-right [] = refl
   positions-right (mute ∷ l) = positions-right l
-  positions-right (same ts ∷ l) = rw (sum-right (sumOf value ts), positions-right l)
+  positions-right (kept ts ∷ l) = rw (sum-right (sumOf value ts), positions-right l)
   positions-right (named k ts ∷ l) = rw (sum-right (value k +ℤ sumOf value ts), positions-right l)
 
   changes-right : every changeRight (filled p .changes) ≡ true

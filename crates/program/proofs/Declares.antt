@@ -13,8 +13,8 @@ use Rattle.names.specs.Parts as parts
 use Rattle.names.specs.Parts.{Part, declares, gives, uses, says, part}
 use Rattle.names.specs.Names.{Named, namedBy, declared, meant}
 use Rattle.program.specs.Program.{Declaration, sequence, system, freshPeriod, tones, logic, Program}
-use Rattle.program.specs.Program.{termThen, termsOf, placesOf, grouped, ordersOf, startOf, periodOf, declarationOf, upTo, partsOf, programThen, programOf}
-use Rattle.program.specs.Allowed.{kindOf, Refers, Each, FitTerm, Terms, FitPlace, FitPosition, FitStart, FitOrder, Fits, orderCount}
+use Rattle.program.specs.Program.{termThen, termsOf, systemPositionsOf, grouped, ordersOf, startOf, periodOf, declarationOf, upTo, partsOf, programThen, programOf}
+use Rattle.program.specs.Allowed.{kindOf, Refers, Each, FitTerm, Terms, FitSystemPosition, FitPosition, FitStart, FitOrder, Fits, orderCount}
 use Rattle.program.proofs.Formed.{TermItems, no-term, add-term, subtract-term, PlaceItems, no-place, muted-place, tone-place}
 use Rattle.program.proofs.Formed.{PositionItems, no-position, muted-position, kept-position, tone-position}
 use Rattle.program.proofs.Formed.{StartItems, no-start, a-start, OrderItems, no-order, an-order, Some, something}
@@ -127,8 +127,8 @@ period-after ts no-place = refl
 period-after ts (muted-place w) = period-after ts w
 period-after ts (tone-place w) = period-after ts w
 
-no-places : {n : ℕ} {is : List Item} → TermItems n is → placesOf is ≡ []
-unfolding placesOf
+no-places : {n : ℕ} {is : List Item} → TermItems n is → systemPositionsOf is ≡ []
+unfolding systemPositionsOf
 no-places no-term = refl
 no-places (add-term h w) = no-places w
 no-places (subtract-term h w) = no-places w
@@ -186,14 +186,14 @@ module _ (p : Program) where
 
   module _ {m : ℕ} {ts : List Item} (t : TermItems m ts) where
     places-each : {n : ℕ} {is : List Item} → PlaceItems n is → AllRefer is
-        → (length (placesOf (is ++ ts)) ≤ n) × Each (FitPlace p) (placesOf (is ++ ts))
-    unfolding placesOf
+        → (length (systemPositionsOf (is ++ ts)) ≤ n) × Each (FitSystemPosition p) (systemPositionsOf (is ++ ts))
+    unfolding systemPositionsOf
     places-each no-place r = rw (no-places t) (omega arith, tt)
     places-each (muted-place w) r = let l = places-each w (r .1) in (omega arith, (tt, l .1))
     places-each (tone-place w) r = let l = places-each w (r .1) in (omega arith, (r .0, l .1))
 
-    some-place : {n : ℕ} {is : List Item} → PlaceItems n is → Some is → 1 ≤ length (placesOf (is ++ ts))
-    unfolding placesOf
+    some-place : {n : ℕ} {is : List Item} → PlaceItems n is → Some is → 1 ≤ length (systemPositionsOf (is ++ ts))
+    unfolding systemPositionsOf
     some-place (muted-place w) something = omega arith
     some-place (tone-place w) something = omega arith
 
@@ -254,7 +254,7 @@ module _ (p : Program) where
   declares-fit (a-frequency f) = alone refl (plain tt no-item) f
   declares-fit (from-tone w) = record { kind = refl; inside = plain tt (terms-inside w); fits = λ r. (r .0, terms-fit w (r .1)) }
   declares-fit (a-system {a} {ps} {is} h w s t) =
-      known (system a (placesOf (ps ++ is)) (termsOf is)) (ap (system a (placesOf (ps ++ is))) (period-after is w)) refl
+      known (system a (systemPositionsOf (ps ++ is)) (termsOf is)) (ap (system a (systemPositionsOf (ps ++ is))) (period-after is w)) refl
       (plain tt (before (places-inside w) (terms-inside t))) (λ r.
       let v = both ps is (r .1) in
       let l = places-each t w (v .0) in

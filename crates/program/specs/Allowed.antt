@@ -18,7 +18,7 @@ use Rattle.tuning.specs.declared.Amount.{Amount}
 use Rattle.tuning.specs.declared.Amount.the-variants.{Kept, Absolute, Relative}
 use Rattle.limits.specs.Limits.{mostPart, mostDegree, mostFactor, mostAnchor, leastDivisor, mostAmount, firstLetter, lastLetter}
 use Rattle.values.specs.Values.{Term}
-use Rattle.program.specs.Program.{Declaration, ratio, root, sequence, frequency, from, system, anchor, width, freshPeriod, onwardPeriod, tones, logic, Placed, Program, Position, mute, same, named, Order}
+use Rattle.program.specs.Program.{Declaration, ratio, root, sequence, frequency, from, system, anchor, width, freshPeriod, onwardPeriod, tones, logic, Placed, Program, Position, mute, kept, named, Order}
 use Rattle.program.specs.Meaning.{declarationAt}
 
 -- ---- numbers
@@ -102,13 +102,13 @@ pub record Positions (n : ℕ) : Type 0 where
   pub some : 1 ≤ n
   pub few : n ≤ mostPositions
 
-abbrev pub FitPlace : Program → Option ℕ → Type 0
-FitPlace p none = Unit
-FitPlace p (some k) = Refers p (meant parts.position) k
+abbrev pub FitSystemPosition : Program → Option ℕ → Type 0
+FitSystemPosition p none = Unit
+FitSystemPosition p (some k) = Refers p (meant parts.position) k
 
 abbrev pub FitPosition : Program → Position → Type 0
 FitPosition p mute = Unit
-FitPosition p (same ts) = Terms p ts
+FitPosition p (kept ts) = Terms p ts
 FitPosition p (named k ts) = Refers p (meant parts.position) k × Terms p ts
 
 abbrev pub FitStart : Program → Option ℕ → Type 0
@@ -123,7 +123,7 @@ pub record FitOrder (p : Program) (o : Order) : Type 0 where
 pub record FitSystem (p : Program) (a : ℕ) (l : List (Option ℕ)) (ts : List Term) : Type 0 where
   pub anchor : a ≤ mostAnchor
   pub positions : Positions (length l)
-  pub each : Each (FitPlace p) l
+  pub each : Each (FitSystemPosition p) l
   pub period : Terms p ts
 
 pub record FitTones (p : Program) (l : List Position) : Type 0 where

@@ -19,7 +19,7 @@ use Rattle.values.specs.Values.{Term}
 -- a position of a tones retuning: "nothing, or `@` or a tone name, with signed terms"
 pub data Position : Type 0 where
   mute : Position
-  same : List Term → Position
+  kept : List Term → Position
   named : ℕ → List Term → Position
 
 -- "orders, if any, are each `KEY letter -> name`"
@@ -121,21 +121,21 @@ termsOf [] = []
 termsOf (i ∷ is) = termThen (part i) (termsOf is)
 
 -- the positions of a tone system
-abbrev pub withPlace : AsListed → List (Option ℕ) → List (Option ℕ)
-withPlace muted-position l = none ∷ l
-withPlace (tone-position n) l = some n ∷ l
-withPlace unlisted l = l
-withPlace (a-term t) l = l
-withPlace kept-position l = l
-withPlace (a-start n) l = l
-withPlace (an-order o) l = l
+abbrev pub withSystemPosition : AsListed → List (Option ℕ) → List (Option ℕ)
+withSystemPosition muted-position l = none ∷ l
+withSystemPosition (tone-position n) l = some n ∷ l
+withSystemPosition unlisted l = l
+withSystemPosition (a-term t) l = l
+withSystemPosition kept-position l = l
+withSystemPosition (a-start n) l = l
+withSystemPosition (an-order o) l = l
 
-abbrev pub placeThen : Part → List (Option ℕ) → List (Option ℕ)
-placeThen p l = withPlace (asListed p) l
+abbrev pub systemPositionThen : Part → List (Option ℕ) → List (Option ℕ)
+systemPositionThen p l = withSystemPosition (asListed p) l
 
-unfoldable pub placesOf : List Item → List (Option ℕ)
-placesOf [] = []
-placesOf (i ∷ is) = placeThen (part i) (placesOf is)
+unfoldable pub systemPositionsOf : List Item → List (Option ℕ)
+systemPositionsOf [] = []
+systemPositionsOf (i ∷ is) = systemPositionThen (part i) (systemPositionsOf is)
 
 -- the positions of a tones retuning, each with the terms up to the next
 pub record Grouped : Type 0 where
@@ -145,7 +145,7 @@ pub record Grouped : Type 0 where
 abbrev pub withGroup : AsListed → Grouped → Grouped
 withGroup (a-term t) g = record { before = t ∷ g .before; positions = g .positions }
 withGroup muted-position g = record { before = []; positions = mute ∷ g .positions }
-withGroup kept-position g = record { before = []; positions = same (g .before) ∷ g .positions }
+withGroup kept-position g = record { before = []; positions = kept (g .before) ∷ g .positions }
 withGroup (tone-position n) g = record { before = []; positions = named n (g .before) ∷ g .positions }
 withGroup unlisted g = g
 withGroup (a-start n) g = g
@@ -197,7 +197,7 @@ abbrev pub byNumber : Given → ℕ → ℕ → List Item → Declaration
 byNumber parts.ratio a b rest = ratio a b
 byNumber parts.root a b rest = root a b
 byNumber parts.frequency a b rest = frequency a
-byNumber parts.anchorKey a b rest = system a (placesOf rest) (termsOf rest)
+byNumber parts.anchorKey a b rest = system a (systemPositionsOf rest) (termsOf rest)
 byNumber parts.anchorTo a b rest = anchor (Absolute a)
 byNumber parts.anchorUp a b rest = anchor (Relative Plus a)
 byNumber parts.anchorDown a b rest = anchor (Relative Minus a)

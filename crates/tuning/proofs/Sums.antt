@@ -2,7 +2,7 @@
 use mathlib.Core.Path.{refl}
 use mathlib.Core.List.{List, [], _∷_, _++_}
 use lib.Count.{leadingZeros}
-use Rattle.cents.specs.Log.{place, bits, L}
+use Rattle.cents.specs.Log.{highestBit, bits, L}
 use Rattle.cents.specs.Measure.{nearest, measure}
 use Rattle.cents.specs.Sums.{Row, _gives_, Hold, measureSums}
 use Rattle.cents.proofs.Sums.{measure-sums}
@@ -19,7 +19,7 @@ unfolding Hold startSums
 start-sums = (refl, (refl, (refl, (refl, tt))))
 
 tuning-sums : Hold tuningSums
-unfolding Hold tuningSums measure nearest L bits place leadingZeros called firstFailing anyBeyond
+unfolding Hold tuningSums measure nearest L bits highestBit leadingZeros called firstFailing anyBeyond
 tuning-sums = (refl, (refl, (refl, (refl, (refl, (refl, tt))))))
 
 pub small-sums : Hold smallSums
@@ -27,5 +27,5 @@ unfolding smallSums
 small-sums = hold-append measureSums tuningSums measure-sums tuning-sums
 
 pub compared-sums : Hold comparedSums
-unfolding Hold comparedSums measure nearest L bits place leadingZeros called firstFailing anyBeyond
+unfolding Hold comparedSums measure nearest L bits highestBit leadingZeros called firstFailing anyBeyond
 compared-sums = (refl, (refl, (refl, (refl, (refl, (refl, (refl, (refl, (refl, (refl, (refl, (refl, (refl, tt)))))))))))))

@@ -71,7 +71,7 @@ module _ (S : Scale) where
   abbrev pub apart : Sound (S .Tone) → Sound (S .Tone) → Sound (S .Step)
   apart muted y = muted
   apart (sounds t) muted = muted
-  apart (sounds t) (sounds u) = sounds (S .between t u)
+  apart (sounds t) (sounds u) = sounds (S .distance u t)
 
   abbrev pub reach : Tuning S → ℕ → Sound (S .Step)
   reach s x = apart (toneAt s 0) (soundOf s x)

@@ -12,7 +12,7 @@ use Rattle.grammar.specs.declared.Item.the-variants.{MutedPosition}
 use Rattle.grammar.specs.Items.{itemAt, rowSize}
 use Rattle.names.specs.Inner.{itemsIn}
 use Rattle.names.proofs.Held.{length-items-in}
-use Rattle.valuation.specs.Inner.{between}
+use Rattle.valuation.specs.Inner.{itemsBetween}
 
 -- the item after the first row
 later : (l : List ℕ) (i : ℕ) → itemAt (drop rowSize l) i ≡ itemAt l (suc i)
@@ -29,11 +29,11 @@ item-of (suc n) l zero none h = refl
 item-of (suc n) l (suc i) none h = item-of n (drop rowSize l) i none (omega arith) ∙ later l i
 
 -- the item at a place is the first of those from there on
-pub between-here : (l : List ℕ) (i to : ℕ) → i < to → between l i to ≡ itemAt l i ∷ between l (i + 1) to
+pub between-here : (l : List ℕ) (i to : ℕ) → i < to → itemsBetween l i to ≡ itemAt l i ∷ itemsBetween l (i + 1) to
 between-here l i to h =
-    rw add-one (drop-cons (itemsIn to l) i MutedPosition (rw length-items-in h) ∙ ap (λ x. x ∷ between l (suc i) to) (item-of to l i MutedPosition h))
+    rw add-one (drop-cons (itemsIn to l) i MutedPosition (rw length-items-in h) ∙ ap (λ x. x ∷ itemsBetween l (suc i) to) (item-of to l i MutedPosition h))
 
-pub between-none : (l : List ℕ) (i to : ℕ) → to ≤ i → between l i to ≡ []
+pub between-none : (l : List ℕ) (i to : ℕ) → to ≤ i → itemsBetween l i to ≡ []
 between-none l i to h = drop-of-length-le (itemsIn to l) {i = i} (rw length-items-in h)
 
 -- they are part of all that it holds
@@ -43,5 +43,5 @@ fewer zero n l h = refl
 fewer (suc m) zero l h = absurd (omega arith)
 fewer (suc m) (suc n) l h = ap (λ xs. itemAt l 0 ∷ xs) (fewer m n (drop rowSize l) (omega arith))
 
-pub between-part : (l : List ℕ) (from to n : ℕ) → to ≤ n → between l from to ≡ slice from to (itemsIn n l)
+pub between-part : (l : List ℕ) (from to n : ℕ) → to ≤ n → itemsBetween l from to ≡ slice from to (itemsIn n l)
 between-part l from to n h = ap (drop from) (fewer to n l h)

@@ -15,7 +15,7 @@ use Rattle.program.specs.Meaning.{declarationAt}
 use Rattle.program.specs.Allowed.{Fits}
 use Rattle.program.proofs.Bodies.{program-length, body-within, body-at}
 use Rattle.program.proofs.AcceptedText.{fits-at, few-declarations}
-use Rattle.valuation.specs.Inner.{bodyFrom, bodyTo, Ready, between, Gatherable}
+use Rattle.valuation.specs.Inner.{bodyFrom, bodyTo, Ready, itemsBetween, Gatherable}
 use Rattle.valuation.proofs.Lists.{taken-at}
 use Rattle.valuation.proofs.Between.{between-part}
 use Rattle.valuation.proofs.Contents.{gatherable}
@@ -49,7 +49,7 @@ module _ {is : List Item} {items : List ℕ} {count : ℕ} {starts : List ℕ} {
     -- as the code finds them
     module _ {to : ℕ} (e : to ≡ getD (take n starts) (suc d) count) where
       abbrev body : List Item
-      body = between items (getD starts d 0 + 1) to
+      body = itemsBetween items (getD starts d 0 + 1) to
 
       pub ready-body : declarationOf body ≡ declarationAt (programOf is) d
       ready-body =

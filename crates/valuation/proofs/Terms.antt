@@ -16,7 +16,7 @@ use Rattle.program.specs.Program.{termsOf}
 use Rattle.program.specs.Allowed.{Each}
 use Rattle.valuation.specs.declared.Content.{Content}
 use Rattle.valuation.specs.declared.Content.the-variants.{Ratio, Root, Frequency, Period, Tone, Term, Nothing}
-use Rattle.valuation.specs.Inner.{between, contentOf, termIn, codeIn, Small, Writable}
+use Rattle.valuation.specs.Inner.{itemsBetween, contentOf, termIn, codeIn, Small, Writable}
 use Rattle.valuation.proofs.Between.{between-here, between-none}
 use Rattle.valuation.proofs.Contents.{terms-cons}
 
@@ -56,7 +56,7 @@ a-code x n = go (one-or-none x)
 module _ (items : List ℕ) (from to : ℕ) (terms₀ : List ℕ) (at : ℕ) where
   -- the terms that are left before the i-th item
   abbrev left : ℕ → List values.Term
-  left i = termsOf (between items i to)
+  left i = termsOf (itemsBetween items i to)
 
   pub record Gathering (terms : List ℕ) (next i : ℕ) : Type 0 where
     pub whole : sets terms next (map codeOf (left i)) ≡ sets terms₀ at (map codeOf (left from))
@@ -77,7 +77,7 @@ module _ (items : List ℕ) (from to : ℕ) (terms₀ : List ℕ) (at : ℕ) whe
       here = contentOf (part (itemAt items i))
 
       split : left i ≡ termIn here ++ left (i + 1)
-      split = ap termsOf (between-here items i to h) ∙ terms-cons (itemAt items i) (between items (i + 1) to)
+      split = ap termsOf (between-here items i to h) ∙ terms-cons (itemAt items i) (itemsBetween items (i + 1) to)
 
       smalls : AllSmall (termIn here) × AllSmall (left (i + 1))
       smalls = both-small (termIn here) (left (i + 1)) (subst AllSmall split (g .fits .small))

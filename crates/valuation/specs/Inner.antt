@@ -171,8 +171,8 @@ pub record Blank (forms : List ℕ) (origins : List ℤ) (table : List ℕ) : Ty
   pub no-term : table ≡ replicate (rows * termsPerRow) 0
 
 -- the items from one place to another
-abbrev pub between : List ℕ → ℕ → ℕ → List Item
-between items from to = drop from (itemsIn to items)
+abbrev pub itemsBetween : List ℕ → ℕ → ℕ → List Item
+itemsBetween items from to = drop from (itemsIn to items)
 
 -- the declaration of these items goes into the tables
 pub record Gatherable (is : List Item) : Type 0 where

@@ -28,7 +28,7 @@ ghost use Rattle.values.specs.Inner.{meant};
 ghost use Rattle.program.specs.Program.{termsOf, declarationOf, programOf};
 ghost use Rattle.program.specs.Meaning.{own};
 ghost use Rattle.program.specs.Allowed.{Each};
-ghost use Rattle.valuation.specs.Inner.{Ready, between, contentOf, contentAt, rangeBy, originBy, hasTerms, termIn, codeIn, Measurable, Small, Writable, formBy, numberBy, codedAs, Holdable, Full, Blank, Gatherable, Entered, Gathered};
+ghost use Rattle.valuation.specs.Inner.{Ready, itemsBetween, contentOf, contentAt, rangeBy, originBy, hasTerms, termIn, codeIn, Measurable, Small, Writable, formBy, numberBy, codedAs, Holdable, Full, Blank, Gatherable, Entered, Gathered};
 
 // What an item has for the value of its declaration.
 enum Content {
@@ -64,7 +64,7 @@ fn content_of(item: Item) -> Content
 
 // The content of the first of the items from `from` to `to`.
 fn content_at(items: &[u32], from: usize, to: usize) -> Content
-    ensures { λ r. ⌜ r ≡ contentAt (between (now (items .entry)) from to) ⌝ }
+    ensures { λ r. ⌜ r ≡ contentAt (itemsBetween (now (items .entry)) from to) ⌝ }
 {
     if to <= from {
         return Content::Nothing;
@@ -155,8 +155,8 @@ fn encode_item(item: Item) -> u32
 
 // Puts the terms among the items from `from` to `to` into a table, one after the other from `at` on.
 fn gather_terms(items: &[u32], from: usize, to: usize, terms: &mut [u32], at: usize)
-    requires { ⌜ Writable (termsOf (between (now items) from to)) at (now terms) ⌝ }
-    ensures { λ _. ⌜ now (terms .exit) ≡ sets (now (terms .entry)) at (map codeOf (termsOf (between (now (items .entry)) from to))) ⌝ }
+    requires { ⌜ Writable (termsOf (itemsBetween (now items) from to)) at (now terms) ⌝ }
+    ensures { λ _. ⌜ now (terms .exit) ≡ sets (now (terms .entry)) at (map codeOf (termsOf (itemsBetween (now (items .entry)) from to))) ⌝ }
 {
     let mut next = at;
     for i in from..to {
@@ -181,8 +181,8 @@ fn gather_declaration(
 )
     requires { ⌜ d < rows ⌝ }
     requires { ⌜ Full (now forms) (now origins) (now terms) ⌝ }
-    requires { ⌜ Gatherable (between (now items) from to) ⌝ }
-    ensures { λ _. ⌜ Entered (declarationOf (between (now (items .entry)) from to)) d (now (forms .entry)) (now (origins .entry)) (now (terms .entry)) (now (forms .exit)) (now (origins .exit)) (now (terms .exit)) ⌝ }
+    requires { ⌜ Gatherable (itemsBetween (now items) from to) ⌝ }
+    ensures { λ _. ⌜ Entered (declarationOf (itemsBetween (now (items .entry)) from to)) d (now (forms .entry)) (now (origins .entry)) (now (terms .entry)) (now (forms .exit)) (now (origins .exit)) (now (terms .exit)) ⌝ }
 {
     let content = content_at(items, from, to);
     let code = encode_content(content);

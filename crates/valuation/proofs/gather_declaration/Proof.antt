@@ -5,7 +5,7 @@ use borrow.Author.Tests.{not-true, not-false}
 use mir.Facts.{toZ-ofZ}
 use mir.Syntax.{w32}
 use mir.Val.{SFits}
-use Rattle.valuation.specs.Inner.{between, Measurable}
+use Rattle.valuation.specs.Inner.{itemsBetween, Measurable}
 use Rattle.valuation.proofs.Contents.{terms-writable, entered-none, entered-terms}
 use borrow.Author.Needs.{needs}
 use Rattle.valuation.proofs.gather_declaration.Statement.{statement}
@@ -39,7 +39,7 @@ returns : tie.Need-returns
 returns c =
     let a = c .before .before .before .before .before .before .before .before .args in
     let f : SFits w32 (c .before .before .before .encode-content .result .number) = search needs in
-    rw (toZ-ofZ f) (entered-none (between (a .items .now) (a .from) (a .to)) _ _ (c .before .before .before .before .content-at .ensures) (c .before .has-terms .ensures) _ _ (c .before .before .before .encode-content .ensures) (not-true _ (c .if1 .taken)))
+    rw (toZ-ofZ f) (entered-none (itemsBetween (a .items .now) (a .from) (a .to)) _ _ (c .before .before .before .before .content-at .ensures) (c .before .has-terms .ensures) _ _ (c .before .before .before .encode-content .ensures) (not-true _ (c .if1 .taken)))
 
 mul-gather-terms : tie.Need-mul-gather-terms
 mul-gather-terms c = search needs

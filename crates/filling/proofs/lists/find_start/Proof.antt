@@ -6,7 +6,7 @@ use native.Mathlib.Numerals.{add-one}
 use native.Mathlib.Omega.{arith}
 use borrow.Author.Needs.{needs}
 use Rattle.program.specs.Program.{startOf}
-use Rattle.valuation.specs.Inner.{between}
+use Rattle.valuation.specs.Inner.{itemsBetween}
 use Rattle.filling.specs.Inner.{calledBy}
 use Rattle.filling.proofs.Inside.{inside, no-start}
 use Rattle.filling.proofs.Items.{start-end, start-next}
@@ -14,7 +14,7 @@ use Rattle.filling.proofs.lists.find_start.Statement.{statement}
 use Rattle.filling.proofs.lists.find_start.Tie as tie
 
 abbrev Inv-loop : tie.InvT-loop
-Inv-loop items from to i₀ i = startOf (between items i to) ≡ startOf (between items from to)
+Inv-loop items from to i₀ i = startOf (itemsBetween items i to) ≡ startOf (itemsBetween items from to)
 
 abbrev μ-loop : tie.MeasureT-loop
 μ-loop items from to i₀ i = to - i
@@ -30,7 +30,7 @@ enum-known-called c = search needs
 
 -- the start that is found
 found : (c : tie.After-known-told Inv-loop μ-loop) → let args = c .before .before .before .before .before .before .before .args in
-    startOf (between (args .items .now) (args .from) (args .to)) ≡ some (c .before .called .given .0 .0)
+    startOf (itemsBetween (args .items .now) (args .from) (args .to)) ≡ some (c .before .called .given .0 .0)
 found c =
     let at-item-at = c .before .before .before in
     let at-loop-test = at-item-at .before in

@@ -6,9 +6,9 @@ use native.Mathlib.Omega.{arith}
 use borrow.Author.Needs.{needs}
 use lib.IntN.{ℤ, _+ℤ_}
 use Rattle.tuning.specs.declared.ToneChange.the-variants.{Move, Set}
-use Rattle.program.specs.Program.{Position, same, named, grouped}
+use Rattle.program.specs.Program.{Position, kept, named, grouped}
 use Rattle.program.specs.Allowed.{Each}
-use Rattle.valuation.specs.Inner.{between}
+use Rattle.valuation.specs.Inner.{itemsBetween}
 use Rattle.tuning.specs.Capped.{capped}
 use Rattle.filling.specs.Tables.{changeOf}
 use Rattle.filling.specs.Inner.{valueIn, positionAt, FitValue, Summable, FitPosition}
@@ -33,21 +33,21 @@ add-sum-group c = search needs
 -- a position that begins with `@`
 module _ (c : tie.After-enum-told2) where
   kept-here : let args = c .before .before .before .before .args in
-      positionAt (args .items .now) (args .i) (args .to) ≡ same (grouped (between (args .items .now) (args .i + 1) (args .to)) .before) ∷ []
+      positionAt (args .items .now) (args .i) (args .to) ≡ kept (grouped (itemsBetween (args .items .now) (args .i + 1) (args .to)) .before) ∷ []
   kept-here = position-by _ _ _ (sym (c .enum-told2 .given .1) ∙ c .before .before .item-at .ensures)
 
   kept-fit : let args = c .before .before .before .before .args in
-      Summable (args .values .now) (grouped (between (args .items .now) (args .i + 1) (args .to)) .before)
+      Summable (args .values .now) (grouped (itemsBetween (args .items .now) (args .i + 1) (args .to)) .before)
   kept-fit = (subst (λ (l : List Position). Each (FitPosition (c .before .before .before .before .args .values .now)) l) kept-here (c .before .before .before .before .pre .1)) .0
 
 -- and one that begins with a tone
 module _ (c : tie.After-k) where
   tone-here : let args = c .before .before .before .before .args in
-      positionAt (args .items .now) (args .i) (args .to) ≡ named (c .k .given .0 .0) (grouped (between (args .items .now) (args .i + 1) (args .to)) .before) ∷ []
+      positionAt (args .items .now) (args .i) (args .to) ≡ named (c .k .given .0 .0) (grouped (itemsBetween (args .items .now) (args .i + 1) (args .to)) .before) ∷ []
   tone-here = position-by _ _ _ (sym (c .k .given .1) ∙ c .before .before .item-at .ensures)
 
   tone-fit : let args = c .before .before .before .before .args in
-      FitValue (args .values .now) (c .k .given .0 .0) × Summable (args .values .now) (grouped (between (args .items .now) (args .i + 1) (args .to)) .before)
+      FitValue (args .values .now) (c .k .given .0 .0) × Summable (args .values .now) (grouped (itemsBetween (args .items .now) (args .i + 1) (args .to)) .before)
   tone-fit = (subst (λ (l : List Position). Each (FitPosition (c .before .before .before .before .args .values .now)) l) tone-here (c .before .before .before .before .pre .1)) .0
 
 sum-group-requires : tie.Need-sum-group-requires

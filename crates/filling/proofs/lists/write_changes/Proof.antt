@@ -6,7 +6,7 @@ use native.Mathlib.Omega.{arith}
 use borrow.Author.Needs.{needs}
 use Rattle.tables.specs.Layout.{changeCode, changeNumber}
 use Rattle.program.specs.Program.{Position, Grouped, grouped}
-use Rattle.valuation.specs.Inner.{between}
+use Rattle.valuation.specs.Inner.{itemsBetween}
 use Rattle.filling.specs.Tables.{changeOf}
 use Rattle.filling.specs.Inner.{valueIn, positionAt, changesHere, FitPosition}
 use Rattle.filling.proofs.Items.{groups-end, positions-next}
@@ -17,7 +17,7 @@ use Rattle.filling.proofs.lists.write_changes.Tie as tie
 abbrev Inv-loop : tie.InvT-loop
 Inv-loop items from to values kinds₀ changes₀ at count₀ i₀ kinds changes count i =
     Making (FitPosition values) (changeOf (valueIn values)) changeCode changeNumber
-    (grouped (between items from to) .positions) at kinds₀ changes₀ (grouped (between items i to) .positions) kinds changes count
+    (grouped (itemsBetween items from to) .positions) at kinds₀ changes₀ (grouped (itemsBetween items i to) .positions) kinds changes count
 
 abbrev μ-loop : tie.MeasureT-loop
 μ-loop items from to values kinds₀ changes₀ at count₀ i₀ kinds changes count i = to - i
@@ -31,8 +31,8 @@ module _ (c : tie.In-loop Inv-loop μ-loop) where
   present = let args = c .before .before .before .before .args in positionAt (args .items .now) (c .before .loop .i) (args .to)
 
   next : let args = c .before .before .before .before .args in
-      grouped (between (args .items .now) (c .before .loop .i) (args .to)) .positions
-      ≡ present ++ grouped (between (args .items .now) (c .before .loop .i + 1) (args .to)) .positions
+      grouped (itemsBetween (args .items .now) (c .before .loop .i) (args .to)) .positions
+      ≡ present ++ grouped (itemsBetween (args .items .now) (c .before .loop .i + 1) (args .to)) .positions
   next = positions-next _ _ _ refl (c .loop-test .taken)
 
 read-change-requires : tie.Need-read-change-requires Inv-loop μ-loop

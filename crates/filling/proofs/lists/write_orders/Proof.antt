@@ -7,7 +7,7 @@ use Rattle.names.specs.Parts.{part}
 use Rattle.tables.specs.Layout.{lettersIn, callsIn}
 use Rattle.tables.proofs.Columns.{columns-length}
 use Rattle.program.specs.Program.{Order, orderThen, ordersOf}
-use Rattle.valuation.specs.Inner.{between}
+use Rattle.valuation.specs.Inner.{itemsBetween}
 use Rattle.filling.specs.Inner.{letterOf, callOf, FitOrder, Appended}
 use Rattle.filling.proofs.Inside.{inside, no-order}
 use Rattle.filling.proofs.Items.{orders-end, orders-next}
@@ -21,7 +21,7 @@ abbrev asIs : Order → Order
 asIs x = x
 
 abbrev Inv-loop : tie.InvT-loop
-Inv-loop items from to orders₀ at count₀ i₀ orders count i = Making FitOrder asIs letterOf callOf (ordersOf (between items from to)) at (lettersIn orders₀) (callsIn orders₀) (ordersOf (between items i to))
+Inv-loop items from to orders₀ at count₀ i₀ orders count i = Making FitOrder asIs letterOf callOf (ordersOf (itemsBetween items from to)) at (lettersIn orders₀) (callsIn orders₀) (ordersOf (itemsBetween items i to))
     (lettersIn orders) (callsIn orders) count
 
 abbrev μ-loop : tie.MeasureT-loop
@@ -53,8 +53,8 @@ module _ (c : tie.After-letter Inv-loop μ-loop) where
   present = record { letter = c .letter .given .0 .0; calls = c .letter .given .0 .1 .0 }
 
   next : let args = c .before .before .before .before .before .before .before .args in
-      ordersOf (between (args .items .now) (c .before .before .before .before .loop .i) (args .to))
-      ≡ present ∷ ordersOf (between (args .items .now) (c .before .before .before .before .loop .i + 1) (args .to))
+      ordersOf (itemsBetween (args .items .now) (c .before .before .before .before .loop .i) (args .to))
+      ≡ present ∷ ordersOf (itemsBetween (args .items .now) (c .before .before .before .before .loop .i + 1) (args .to))
   next = orders-next _ _ _ (sym (c .letter .given .1) ∙ c .before .before .item-at .ensures) (c .before .before .before .loop-test .taken)
 
   fit : FitOrder present

@@ -6,7 +6,7 @@ use Rattle.tuning.specs.declared.PeriodChange.the-variants.{Fresh, Onward}
 use Rattle.tuning.specs.declared.Retuning.the-variants.{Period}
 use Rattle.tables.specs.declared.Row.the-variants.{Retuning}
 use Rattle.program.specs.Program.{Declaration, termsOf}
-use Rattle.valuation.specs.Inner.{between}
+use Rattle.valuation.specs.Inner.{itemsBetween}
 use Rattle.tuning.specs.Capped.{capped}
 use Rattle.filling.specs.Tables.{sum, rowOf}
 use Rattle.filling.specs.Inner.{valueIn}
@@ -22,7 +22,7 @@ to-interval-requires c κs = search needs
 
 -- the sum as the row has it
 summed : (c : tie.After-to-interval) → let args = c .before .before .before .args in
-    c .to-interval .result .0 ≡ sum (valueIn (args .values .now)) (termsOf (between (args .items .now) (args .from) (args .to)))
+    c .to-interval .result .0 ≡ sum (valueIn (args .values .now)) (termsOf (itemsBetween (args .items .now) (args .from) (args .to)))
 summed c = c .to-interval .ensures ∙ ap capped (c .before .sum-terms .ensures)
 
 make-period-requires : tie.Need-make-period-requires

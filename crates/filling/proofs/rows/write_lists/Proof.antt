@@ -9,7 +9,7 @@ use Rattle.grammar.specs.declared.Item.the-variants as item
 use Rattle.names.specs.Parts.{part}
 use Rattle.tables.specs.declared.Row.the-variants.{Interval}
 use Rattle.program.specs.Program.{Declaration, declarationOf, periodOf, tones, grouped}
-use Rattle.valuation.specs.Inner.{between}
+use Rattle.valuation.specs.Inner.{itemsBetween}
 use Rattle.filling.specs.Inner.{begins, Writable}
 use Rattle.filling.proofs.Inside.{inside}
 use Rattle.valuation.proofs.Between.{between-none}
@@ -26,10 +26,10 @@ module _ (c : tie.After-item-at) where
   start = c .before .before .before .before .before
 
   abbrev body : List Item
-  body = between (start .args .items .now) (start .args .from) (start .args .to)
+  body = itemsBetween (start .args .items .now) (start .args .from) (start .args .to)
 
   abbrev rest : List Item
-  rest = between (start .args .items .now) (start .args .from + 1) (start .args .to)
+  rest = itemsBetween (start .args .items .now) (start .args .from + 1) (start .args .to)
 
   first : {x : Item} → c .item-at .result ≡ x → declarationOf body ≡ declarationOf (x ∷ rest)
   first e = ap declarationOf (item-next _ _ _ (sym e ∙ c .item-at .ensures) (c .before .if1 .left))

@@ -9,11 +9,11 @@ use Rattle.filling.specs.Inner.{valueIn}
 use Rattle.filling.proofs.rows.write_system.Statement.{statement}
 use Rattle.filling.proofs.rows.write_system.Tie as tie
 
-cast-write-places : tie.Need-cast-write-places
-cast-write-places c = search needs
+cast-write-positions : tie.Need-cast-write-positions
+cast-write-positions c = search needs
 
-write-places-requires : tie.Need-write-places-requires
-write-places-requires c κs =
+write-positions-requires : tie.Need-write-positions-requires
+write-positions-requires c κs =
     let start = c .before .before .before .before .before in
     (start .pre .parts .1, rw length-map at (start .pre .tones))
 
@@ -42,17 +42,17 @@ returns c =
     let used = args .used in
     let key = args .key in
     let z = valueIn (args .values .now) (used .rows) in (
-      ap (λ (y : ℤ). System (record { 0 = key }) (record { 0 = y }) (used .tones) (done .write-places .result)) (c .interval-at .ensures)
-          ∙ ap (λ (n : ℕ). System (record { 0 = key }) (record { 0 = z }) (used .tones) n) (simp length-map at (done .write-places .ensures .count)),
-      done .write-places .ensures .stored,
+      ap (λ (y : ℤ). System (record { 0 = key }) (record { 0 = y }) (used .tones) (done .write-positions .result)) (c .interval-at .ensures)
+          ∙ ap (λ (n : ℕ). System (record { 0 = key }) (record { 0 = z }) (used .tones) n) (simp length-map at (done .write-positions .ensures .count)),
+      done .write-positions .ensures .stored,
     )
 
 pub write-system-spec : {M : Type 1} → statement M
 write-system-spec =
     tie.close
     (tie.spec
-    cast-write-places
-    write-places-requires
+    cast-write-positions
+    write-positions-requires
     cast-t15
     cast-interval-at
     interval-at-requires

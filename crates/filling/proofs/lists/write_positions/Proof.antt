@@ -6,19 +6,19 @@ use native.Mathlib.Omega.{arith}
 use borrow.Author.Needs.{needs}
 use Rattle.tables.specs.Layout.{soundingOf, pitchOf}
 use Rattle.names.specs.Parts.{part}
-use Rattle.program.specs.Program.{placeThen, placesOf}
-use Rattle.valuation.specs.Inner.{between}
+use Rattle.program.specs.Program.{systemPositionThen, systemPositionsOf}
+use Rattle.valuation.specs.Inner.{itemsBetween}
 use Rattle.filling.specs.Tables.{toneOf}
-use Rattle.filling.specs.Inner.{valueIn, tonesHere, FitPlace}
+use Rattle.filling.specs.Inner.{valueIn, tonesHere, FitSystemPosition}
 use Rattle.filling.proofs.Items.{places-end, places-next}
 use Rattle.filling.proofs.Writing.{Making, making-none, making-all, making-now, making-skip, making-room, making-next, making-first-length, making-second-length}
-use Rattle.filling.proofs.lists.write_places.Statement.{statement}
-use Rattle.filling.proofs.lists.write_places.Tie as tie
+use Rattle.filling.proofs.lists.write_positions.Statement.{statement}
+use Rattle.filling.proofs.lists.write_positions.Tie as tie
 
 abbrev Inv-loop : tie.InvT-loop
 Inv-loop items from to values sounding₀ tones₀ at count₀ i₀ sounding tones count i =
-    Making (FitPlace values) (toneOf (valueIn values)) soundingOf pitchOf
-    (placesOf (between items from to)) at sounding₀ tones₀ (placesOf (between items i to)) sounding tones count
+    Making (FitSystemPosition values) (toneOf (valueIn values)) soundingOf pitchOf
+    (systemPositionsOf (itemsBetween items from to)) at sounding₀ tones₀ (systemPositionsOf (itemsBetween items i to)) sounding tones count
 
 abbrev μ-loop : tie.MeasureT-loop
 μ-loop items from to values sounding₀ tones₀ at count₀ i₀ sounding tones count i = to - i
@@ -31,12 +31,12 @@ item-at-requires c κs = search needs
 
 -- the position that the present item is, and those after it
 next : (c : tie.After-item-at Inv-loop μ-loop) → let args = c .before .before .before .before .before .args in
-    placesOf (between (args .items .now) (c .before .before .loop .i) (args .to))
-    ≡ placeThen (part (c .item-at .result)) [] ++ placesOf (between (args .items .now) (c .before .before .loop .i + 1) (args .to))
+    systemPositionsOf (itemsBetween (args .items .now) (c .before .before .loop .i) (args .to))
+    ≡ systemPositionThen (part (c .item-at .result)) [] ++ systemPositionsOf (itemsBetween (args .items .now) (c .before .before .loop .i + 1) (args .to))
 next c = places-next _ _ _ (c .item-at .ensures) (c .before .loop-test .taken)
 
 read-tone-requires : tie.Need-read-tone-requires Inv-loop μ-loop
-read-tone-requires c κs = making-now (c .before .before .loop .inv) (placeThen (part (c .item-at .result)) []) _ (next c)
+read-tone-requires c κs = making-now (c .before .before .loop .inv) (systemPositionThen (part (c .item-at .result)) []) _ (next c)
 
 enum-known-tone : tie.Need-enum-known-tone Inv-loop μ-loop
 enum-known-tone c = search needs
@@ -53,13 +53,13 @@ loop-less c = search needs
 loop-again : tie.Need-loop-again Inv-loop μ-loop
 loop-again c =
     let here = c .before .before .before in
-    making-skip (here .before .before .loop .inv) (placeThen (part (here .item-at .result)) []) _ (next here)
+    making-skip (here .before .before .loop .inv) (systemPositionThen (part (here .item-at .result)) []) _ (next here)
     (ap tonesHere (sym (c .enum-told .given .1)) ∙ c .before .before .read-tone .ensures)
 
 -- the tone that it gives
 given : (c : tie.After-tone Inv-loop μ-loop) → let here = c .before .before .before in
     c .tone .given .0 .0 ∷ []
-    ≡ map (toneOf (valueIn (here .before .before .before .before .before .args .values .now))) (placeThen (part (here .item-at .result)) [])
+    ≡ map (toneOf (valueIn (here .before .before .before .before .before .args .values .now))) (systemPositionThen (part (here .item-at .result)) [])
 given c = ap tonesHere (sym (c .tone .given .1)) ∙ c .before .before .read-tone .ensures
 
 store-tone-requires : tie.Need-store-tone-requires Inv-loop μ-loop
@@ -70,7 +70,7 @@ add-count c =
     let told = c .before .before .before .before .before .before .before in
     let here = told .before .before .before in
     let most = here .before .before .before .before .before .pre .1 in
-    let room = making-room (here .before .before .loop .inv) (placeThen (part (here .item-at .result)) []) _ (next here) (given told) most in
+    let room = making-room (here .before .before .loop .inv) (systemPositionThen (part (here .item-at .result)) []) _ (next here) (given told) most in
     omega (arith, room)
 
 add-i-2 : tie.Need-add-i-2 Inv-loop μ-loop
@@ -84,7 +84,7 @@ loop-again-2 c =
     let told = c .before .before .before .before .before .before .before in
     let here = told .before .before .before in
     let stored = c .before .before .before .store-tone .ensures in
-    making-next (here .before .before .loop .inv) (placeThen (part (here .item-at .result)) []) _ (next here) (given told) (stored .0) (stored .1)
+    making-next (here .before .before .loop .inv) (systemPositionThen (part (here .item-at .result)) []) _ (next here) (given told) (stored .0) (stored .1)
 
 same-length : tie.Need-same-length Inv-loop μ-loop
 same-length c = making-first-length (c .before .loop .inv)
@@ -95,8 +95,8 @@ same-length-2 c = making-second-length (c .before .loop .inv)
 returns : tie.Need-returns Inv-loop μ-loop
 returns c = making-all (c .before .loop .inv) (places-end _ _ _ (c .loop-test .left))
 
-pub write-places-spec : {M : Type 1} → statement M
-write-places-spec =
+pub write-positions-spec : {M : Type 1} → statement M
+write-positions-spec =
     tie.close
     (tie.spec
     Inv-loop
