@@ -22,8 +22,8 @@ pub enum Use {
     Term(u32),
 }
 
-// The place of the base, and those of the terms.
-pub const PLACES: usize = 1 + TERMS_PER_ROW;
+// A base and the terms.
+pub const USES_PER_ROW: usize = 1 + TERMS_PER_ROW;
 
 // What the value of a row starts from.
 pub fn origin_of(forms: &[u8], starts: &[i32], row: usize) -> Origin
