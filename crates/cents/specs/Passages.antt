@@ -11,6 +11,10 @@ shift p d = p +ℤ d
 abbrev pub distance : ℤ → ℤ → ℤ
 distance p q = p -ℤ q
 
+-- a key's number is a byte
+abbrev pub mostKey : ℕ
+mostKey = 255
+
 -- the key that lies so many keys above x
 abbrev pub keyShift : ℕ → ℤ → ℤ
 keyShift x n = pos x +ℤ n

@@ -1,6 +1,7 @@
 -- What the contracts of private functions cite besides.
-use Prim.Native.Nat.{ℕ}
+use Prim.Native.Nat.{ℕ, _+_, _*_}
 use lib.IntN.{ℤ, natAbs}
+use Rattle.limits.specs.Limits.{mostAnchor, farthestTone, longestPeriod}
 use Rattle.integers.specs.Floor.{floorDiv, floorMod}
 use Rattle.tuning.specs.declared.Located.{Located}
 use Rattle.tuning.specs.declared.Tone.{Tone}
@@ -17,6 +18,13 @@ locatedAt steps width = record { position = floorMod steps width; periods = floo
 abbrev pub size : Tone → ℕ
 size Muted = 0
 size (At p) = natAbs (p .0)
+
+-- the farthest that a key up to 127 above the anchor can sound, and the farthest that it can be from position 0
+abbrev pub farthestSound : ℕ
+farthestSound = mostAnchor * longestPeriod + farthestTone
+
+abbrev pub farthestReach : ℕ
+farthestReach = farthestSound + farthestTone
 
 -- a distance as the code's enum, and how large it is
 abbrev pub reachOf : Sound ℤ → Reach

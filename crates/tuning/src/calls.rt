@@ -25,19 +25,21 @@ ghost use mathlib.Core.List.{map};
 ghost use Prim.Native.Nat.{_≤_, _<_, _+_};
 ghost use lib.IntN.{natAbs, pos};
 ghost use lib.Signed.{leZ};
+ghost use Rattle.limits.specs.Limits.{mostAnchor, mostPositions, farthestTone};
+ghost use Rattle.cents.specs.Passages.{mostKey};
 ghost use Rattle.tuning.specs.Scale.{Sound};
 ghost use Rattle.tuning.specs.Tuning.{operated, amounts, Action, reach, anchoredBy, widenedBy, newTone, newPeriod, done};
 ghost use Rattle.tuning.specs.Desk.{cents};
 ghost use Rattle.tuning.specs.State.{heard, held, toneOf, coded, validState, replied, periodMeant, toneMeant, tonesMeant, meant};
-ghost use Rattle.tuning.specs.Capped.{capped, cappedTo, cappedPeriod};
-ghost use Rattle.tuning.specs.Inner.{size, reachOf, reachSize};
+ghost use Rattle.tuning.specs.Capped.{farthestSum, capped, cappedTo, cappedPeriod};
+ghost use Rattle.tuning.specs.Inner.{size, farthestReach, reachOf, reachSize};
 
 const HIGHEST_KEY: i32 = MOST_ANCHOR as i32;
 
 const WIDEST: i32 = MOST_POSITIONS as i32;
 
 fn operate(operator: Operator, old: KeySteps, n: u16) -> KeySteps
-    requires { ⌜ (leZ (pos 0) (old .0) ≡ true) × (natAbs (old .0) ≤ 255) ⌝ }
+    requires { ⌜ (leZ (pos 0) (old .0) ≡ true) × (natAbs (old .0) ≤ mostKey) ⌝ }
     ensures { λ r. ⌜ r .0 ≡ operated operator (natAbs (old .0)) n ⌝ }
 {
     match operator {
@@ -55,7 +57,7 @@ fn operate(operator: Operator, old: KeySteps, n: u16) -> KeySteps
 
 // The anchor, in keys above the first, or the width that is asked for, from the one that it replaces.
 fn amount_of(asked: Amount, old: KeySteps) -> KeySteps
-    requires { ⌜ (leZ (pos 0) (old .0) ≡ true) × (natAbs (old .0) ≤ 255) ⌝ }
+    requires { ⌜ (leZ (pos 0) (old .0) ≡ true) × (natAbs (old .0) ≤ mostKey) ⌝ }
     ensures { λ r. ⌜ r .0 ≡ amounts asked (natAbs (old .0)) ⌝ }
 {
     match asked {
@@ -67,7 +69,7 @@ fn amount_of(asked: Amount, old: KeySteps) -> KeySteps
 
 // An interval that can be added to any tone or period: past the farthest sum as that.
 fn cap(by: Interval) -> Interval
-    ensures { λ r. ⌜ (r .0 ≡ capped (by .0)) × (natAbs (r .0) ≤ 200_000_001) ⌝ }
+    ensures { λ r. ⌜ (r .0 ≡ capped (by .0)) × (natAbs (r .0) ≤ farthestSum) ⌝ }
 {
     if by.0 <= -FARTHEST_SUM {
         return Interval(-FARTHEST_SUM);
@@ -81,7 +83,7 @@ fn cap(by: Interval) -> Interval
 impl ToneChange {
     // The tone that a position gets in place of its old one.
     fn apply(self, old: Tone) -> Tone
-        requires { ⌜ size old ≤ 100_000_000 ⌝ }
+        requires { ⌜ size old ≤ farthestTone ⌝ }
         ensures { λ r. ⌜ r ≡ toneOf (newTone cents (cappedTo (toneMeant self)) (heard old)) ⌝ }
     {
         match self {
@@ -95,7 +97,7 @@ impl ToneChange {
 impl PeriodChange {
     // The period in place of the old one.
     fn apply(self, old: Interval) -> Interval
-        requires { ⌜ natAbs (old .0) ≤ 100_000_000 ⌝ }
+        requires { ⌜ natAbs (old .0) ≤ farthestTone ⌝ }
         ensures { λ r. ⌜ r .0 ≡ newPeriod cents (old .0) (cappedPeriod (periodMeant self)) ⌝ }
     {
         match self {
@@ -108,8 +110,8 @@ impl PeriodChange {
 impl State {
     // The distance from position 0 to the key at the other end.
     fn reach(self, key: KeyNumber) -> Reach
-        requires { ⌜ (validState self ≡ true) × (key .0 ≤ self .anchor .0 + 127) ⌝ }
-        ensures { λ r. ⌜ (r ≡ reachOf (reach cents (held self) (key .0))) × (reachSize r ≤ 1_724_000_000) ⌝ }
+        requires { ⌜ (validState self ≡ true) × (key .0 ≤ self .anchor .0 + mostAnchor) ⌝ }
+        ensures { λ r. ⌜ (r ≡ reachOf (reach cents (held self) (key .0))) × (reachSize r ≤ farthestReach) ⌝ }
     {
         let first = self.tones[0];
         let root = first.tone;
@@ -124,7 +126,7 @@ impl State {
 
     // The anchor at a key, and every sounding tone shifted.
     fn with_anchor(self, anchor: KeyNumber, by: Interval) -> State
-        requires { ⌜ (validState self ≡ true) × (natAbs (by .0) ≤ 1_724_000_000) ⌝ }
+        requires { ⌜ (validState self ≡ true) × (natAbs (by .0) ≤ farthestReach) ⌝ }
         ensures { λ r. ⌜ r ≡ coded (anchoredBy cents (held self) (anchor .0) (Sound.sounds (by .0))) ⌝ }
     {
         let width = self.width as usize;
@@ -143,7 +145,7 @@ impl State {
 
     // The first v keys from the anchor on as the tones, and a new period.
     fn with_width(self, v: u8, period: Interval) -> State
-        requires { ⌜ (validState self ≡ true) × (v ≤ 60) ⌝ }
+        requires { ⌜ (validState self ≡ true) × (v ≤ mostPositions) ⌝ }
         ensures { λ r. ⌜ r ≡ coded (widenedBy cents (held self) v (Sound.sounds (period .0))) ⌝ }
     {
         let a = self.anchor;

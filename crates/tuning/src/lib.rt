@@ -15,10 +15,12 @@ ghost use mathlib.Core.List.{map};
 ghost use Prim.Native.Nat.{_≤_, _<_, _+_};
 ghost use lib.IntN.{natAbs};
 ghost use lib.ListN.{drop, take};
+ghost use Rattle.limits.specs.Limits.{mostAnchor};
+ghost use Rattle.cents.specs.Passages.{mostKey};
 ghost use Rattle.tuning.specs.Tuning.{raised, soundOf, start};
 ghost use Rattle.tuning.specs.Desk.{cents, isPeriod, isMuted, beyond, anyBeyond};
 ghost use Rattle.tuning.specs.State.{heard, heardAt, held, toneOf, coded, validState, allMuted};
-ghost use Rattle.tuning.specs.Inner.{locatedAt, size};
+ghost use Rattle.tuning.specs.Inner.{locatedAt, size, farthestSound};
 
 // How many positions a state has room for, and the width that takes them all.
 pub const PLACES: usize = MOST_POSITIONS as usize;
@@ -122,7 +124,7 @@ pub enum Reach {
 
 // "x - a = q·w + r with r from 0 to w-1"
 fn locate(steps: KeySteps, width: u8) -> Located
-    requires { ⌜ (0 < width) × (natAbs (steps .0) ≤ 255) ⌝ }
+    requires { ⌜ (0 < width) × (natAbs (steps .0) ≤ mostKey) ⌝ }
     ensures { λ r. ⌜ r ≡ locatedAt (steps .0) width ⌝ }
 {
     let n = steps.0;
@@ -183,8 +185,8 @@ pub fn is_period(p: Interval) -> bool
 impl State {
     // What a key sounds: x may be a+v, past the keyboard's end.
     pub fn sound_of(self, key: KeyNumber) -> Tone
-        requires { ⌜ (validState self ≡ true) × (key .0 ≤ self .anchor .0 + 127) ⌝ }
-        ensures { λ r. ⌜ (r ≡ toneOf (soundOf cents (held self) (key .0))) × (size r ≤ 1_624_000_000) ⌝ }
+        requires { ⌜ (validState self ≡ true) × (key .0 ≤ self .anchor .0 + mostAnchor) ⌝ }
+        ensures { λ r. ⌜ (r ≡ toneOf (soundOf cents (held self) (key .0))) × (size r ≤ farthestSound) ⌝ }
     {
         let place = locate(key.distance(self.anchor), self.width);
         let r = place.position;
