@@ -1,5 +1,5 @@
 -- A sum of terms may lie far past the range of tones. One past twice that range takes every tone and every period out of its range, so it may be held as
--- 1 past it: a call with the one is the call with the other (`CappedSame`).
+-- 1 past it: a call with the one is the call with the other (`capped-tones`, `capped-period` of proofs/Capped.antt).
 use mathlib.Core.Bool.{cond}
 use Prim.Native.Nat.{ℕ, _+_, _*_}
 use lib.IntN.{ℤ, pos, negℤ}
