@@ -68,7 +68,7 @@ pub fn report_changes() {
 }
 
 pub fn report_orders() {
-    let letters = Tally::new()
+    let triggers = Tally::new()
         .try_places(Table::Letters, 0, USED_ORDERS, BELOW_LETTERS)
         .try_places(Table::Letters, 0, USED_ORDERS, ABOVE_LETTERS);
     let calls = Tally::new()
@@ -79,7 +79,7 @@ pub fn report_orders() {
     let unused = Tally::new()
         .try_places(Table::Letters, USED_ORDERS, ORDERS, 1)
         .try_places(Table::Calls, USED_ORDERS, ORDERS, 1);
-    report(b"orders, letter out of range", letters);
+    report(b"orders, letter out of range", triggers);
     report(
         b"orders, call of nothing, of an interval or of a tone",
         calls,

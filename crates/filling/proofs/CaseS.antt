@@ -28,6 +28,6 @@ case-s-rows = (refl, refl, refl, refl, refl, refl)
 
 -- the tones of Two, the order of L, and how many there are of each
 pub case-s-lists : (tonesFrom (tablesOf program) 0 2 ≡ At (record { 0 = pos 6900000 }) ∷ At (record { 0 = pos 7601955 }) ∷ [])
-    × (take 1 (tablesOf program .letters) ≡ 85 ∷ []) × (take 1 (tablesOf program .calls) ≡ 5 ∷ []) × (tablesOf program .counts ≡ 7 ∷ 2 ∷ 0 ∷ 1 ∷ [])
+    × (take 1 (tablesOf program .triggers) ≡ 85 ∷ []) × (take 1 (tablesOf program .calls) ≡ 5 ∷ []) × (tablesOf program .counts ≡ 7 ∷ 2 ∷ 0 ∷ 1 ∷ [])
 unfolding leadingZeros valuesValues.plus valuesValues.total valuesValues.shifted valuesValues.ranged valuesValues.valueAt valuesValues.anyOf valuesValues.leads valuesValues.isBeyond valuesValues.firstFrom valuesValues.verdict valuesValues.outcome valuesValues.number valuesValues.numbers valuesValues.handed valuesValues.valueTable centsLog.highestBit centsLog.bits centsLog.L centsMeasure.nearest centsMeasure.measure programMeaning.valueOf programMeaning.valued tablesLayout.rowOf tablesLayout.writtenAll tablesLayout.joined filledFrom tablesOf
 case-s-lists = (refl, refl, refl, refl)

@@ -38,13 +38,13 @@ laidLists f = record {
   tones = full (pos 0) mostTones (map pitchOf (f .tones));
   kinds = full 0 mostChanges (map changeCode (f .changes));
   changes = full (pos 0) mostChanges (map changeNumber (f .changes));
-  letters = full 0 mostOrders (map letterOf (f .orders));
+  triggers = full 0 mostOrders (map letterOf (f .orders));
   calls = full 0 mostOrders (map callOf (f .orders));
 }
 
 lists-equal : {a a′ c c′ e e′ f f′ : List ℕ} {b b′ d d′ : List ℤ} → a ≡ a′ → b ≡ b′ → c ≡ c′ → d ≡ d′ → e ≡ e′ → f ≡ f′
-    → _≡_ {A = Lists} (record { sounding = a; tones = b; kinds = c; changes = d; letters = e; calls = f })
-    (record { sounding = a′; tones = b′; kinds = c′; changes = d′; letters = e′; calls = f′ })
+    → _≡_ {A = Lists} (record { sounding = a; tones = b; kinds = c; changes = d; triggers = e; calls = f })
+    (record { sounding = a′; tones = b′; kinds = c′; changes = d′; triggers = e′; calls = f′ })
 lists-equal p q r s t u = rw (p, q, r, s, t, u)
 
 abbrev laidRows : Filled → List ℤ
@@ -109,7 +109,7 @@ pub record Filling (value : ℕ → ℤ) (p : Program) (d : ℕ) (used : Counts)
 
 pub filling-none : (value : ℕ → ℤ) (p : Program)
     → Filling value p 0 (record { rows = 0; tones = 0; changes = 0; orders = 0 }) (blank .rows)
-    (record { sounding = blank .sounding; tones = blank .tones; kinds = blank .kinds; changes = blank .changes; letters = blank .letters; calls = blank .calls })
+    (record { sounding = blank .sounding; tones = blank .tones; kinds = blank .kinds; changes = blank .changes; triggers = blank .triggers; calls = blank .calls })
 unfolding writtenAll
 filling-none value p =
     record {
@@ -133,7 +133,7 @@ together rows l counts = record {
   tones = l .tones;
   kinds = l .kinds;
   changes = l .changes;
-  letters = l .letters;
+  triggers = l .triggers;
   calls = l .calls;
   counts = counts;
 }

@@ -198,17 +198,17 @@ module _ {value : ℕ → ℤ} {used : Counts} {r : Row} {l : Lists} where
 
   pub system-rowed : {a : ℕ} {ps : List (Option ℕ)} {ts : List Term} {s : List ℕ} {t : List ℤ} → r ≡ rowAfter value used (system a ps ts)
       → Stored soundingOf pitchOf (tonesOf value (system a ps ts)) (used .tones) (l .sounding) (l .tones) s t
-      → Rowed value used (system a ps ts) l r (record { sounding = s; tones = t; kinds = l .kinds; changes = l .changes; letters = l .letters; calls = l .calls })
+      → Rowed value used (system a ps ts) l r (record { sounding = s; tones = t; kinds = l .kinds; changes = l .changes; triggers = l .triggers; calls = l .calls })
   system-rowed e h = record { row = e; lists = rw (h .first, h .second) }
 
   pub tones-rowed : {ps : List Position} {k : List ℕ} {c : List ℤ} → r ≡ rowAfter value used (tones ps)
       → Stored changeCode changeNumber (changesOf value (tones ps)) (used .changes) (l .kinds) (l .changes) k c
-      → Rowed value used (tones ps) l r (record { sounding = l .sounding; tones = l .tones; kinds = k; changes = c; letters = l .letters; calls = l .calls })
+      → Rowed value used (tones ps) l r (record { sounding = l .sounding; tones = l .tones; kinds = k; changes = c; triggers = l .triggers; calls = l .calls })
   tones-rowed e h = record { row = e; lists = rw (h .first, h .second) }
 
   pub logic-rowed : {c : ℕ} {s : Option ℕ} {os : List Order} {x y : List ℕ} → r ≡ row.Logic c (calledBy s) (used .orders) (used .orders + length os)
-      → Stored letterOf callOf os (used .orders) (l .letters) (l .calls) x y
-      → Rowed value used (logic c s os) l r (record { sounding = l .sounding; tones = l .tones; kinds = l .kinds; changes = l .changes; letters = x; calls = y })
+      → Stored letterOf callOf os (used .orders) (l .triggers) (l .calls) x y
+      → Rowed value used (logic c s os) l r (record { sounding = l .sounding; tones = l .tones; kinds = l .kinds; changes = l .changes; triggers = x; calls = y })
   logic-rowed {c} {s} {os} e h = record {
     row = e ∙ ap (λ (n : ℕ). row.Logic c n (used .orders) (used .orders + length os)) (start-any value s);
     lists = rw (h .first, h .second);

@@ -9,7 +9,7 @@ use lib.Seq.{sets}
 use Rattle.tables.specs.declared.Counts.{Counts}
 use Rattle.tables.specs.declared.Row.{Row}
 use Rattle.tables.specs.declared.Row.the-variants as row
-use Rattle.tables.specs.Layout.{Tables, section, tablesIn, lettersIn, callsIn, rowWidth, mostRows, orderWidth, mostTones, mostChanges, mostOrders, countsSize, tonesAt, changesAt, soundingAt, kindsAt, ordersAt, numbersOf, written, soundingOf, pitchOf, changeCode, changeNumber}
+use Rattle.tables.specs.Layout.{Tables, section, tablesIn, triggersIn, callsIn, rowWidth, mostRows, orderWidth, mostTones, mostChanges, mostOrders, countsSize, tonesAt, changesAt, soundingAt, kindsAt, ordersAt, numbersOf, written, soundingOf, pitchOf, changeCode, changeNumber}
 use Rattle.tables.specs.Values.{Slices}
 use Rattle.tables.proofs.Sizes.{Sizes, sizes-is, slices-sizes, slices-of, section-last}
 use Rattle.tables.proofs.Sections.{spliced, rows-back, tones-back, changes-back, orders-back, orders-length}
@@ -29,7 +29,7 @@ blank-sized = record {
   tones = length-replicate mostTones (pos 0);
   kinds = length-replicate {A = ℕ} mostChanges 0;
   changes = length-replicate mostChanges (pos 0);
-  letters = length-replicate {A = ℕ} mostOrders 0;
+  triggers = length-replicate {A = ℕ} mostOrders 0;
   calls = length-replicate {A = ℕ} mostOrders 0;
   counts = length-replicate {A = ℕ} countsSize 0;
 }
@@ -69,13 +69,13 @@ module _ {value : ℕ → ℤ} {used : Counts} {r : Row} where
 
     pub logic-in : {c : ℕ} {o : Option ℕ} {os : List Order} (part : List ℕ) → length part ≡ length (section ordersAt (orderWidth * mostOrders) codes)
         → r ≡ row.Logic c (calledBy o) (used .orders) (used .orders + length os)
-        → Stored letterOf callOf os (used .orders) (lettersIn (section ordersAt (orderWidth * mostOrders) codes)) (callsIn (section ordersAt (orderWidth * mostOrders) codes)) (lettersIn part) (callsIn part)
+        → Stored letterOf callOf os (used .orders) (triggersIn (section ordersAt (orderWidth * mostOrders) codes)) (callsIn (section ordersAt (orderWidth * mostOrders) codes)) (triggersIn part) (callsIn part)
         → RowedIn value used (logic c o os) (tablesIn numbers codes) r (tablesIn numbers (spliced ordersAt (orderWidth * mostOrders) part codes))
     unfolding tablesIn
     logic-in {c} {o} {os} part k e h =
         let t = tablesIn numbers codes in
         let last = section-last ordersAt (orderWidth * mostOrders) codes (s .all-codes) in
-        let whole = subst (λ (l : List ℕ). Stored letterOf callOf os (used .orders) (lettersIn l) (callsIn l) (lettersIn part) (callsIn part)) last h in
+        let whole = subst (λ (l : List ℕ). Stored letterOf callOf os (used .orders) (triggersIn l) (callsIn l) (triggersIn part) (callsIn part)) last h in
         subst (λ (u : Tables). RowedIn value used (logic c o os) t r u)
         (sym (orders-back s part (k ∙ orders-length s)))
         (record { rowed = logic-rowed e whole; rows = refl })

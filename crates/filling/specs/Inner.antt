@@ -45,7 +45,7 @@ blank = record {
   tones = replicate mostTones (pos 0);
   kinds = replicate mostChanges 0;
   changes = replicate mostChanges (pos 0);
-  letters = replicate mostOrders 0;
+  triggers = replicate mostOrders 0;
   calls = replicate mostOrders 0;
   counts = replicate countsSize 0;
 }
@@ -178,7 +178,7 @@ pub record Lists : Type 0 where
   pub tones : List ℤ
   pub kinds : List ℕ
   pub changes : List ℤ
-  pub letters : List ℕ
+  pub triggers : List ℕ
   pub calls : List ℕ
 
 -- with those of a declaration stored after so many
@@ -188,7 +188,7 @@ listed value used d l = record {
   tones = sets (l .tones) (used .tones) (map pitchOf (tonesOf value d));
   kinds = sets (l .kinds) (used .changes) (map changeCode (changesOf value d));
   changes = sets (l .changes) (used .changes) (map changeNumber (changesOf value d));
-  letters = sets (l .letters) (used .orders) (map letterOf (ordersOf d));
+  triggers = sets (l .triggers) (used .orders) (map letterOf (ordersOf d));
   calls = sets (l .calls) (used .orders) (map callOf (ordersOf d));
 }
 
@@ -228,7 +228,7 @@ pub record Added (value : ℕ → ℤ) (used : Counts) (d : Declaration) (rows :
 
 -- those of tones, changes and orders
 abbrev pub listsOf : Tables → Lists
-listsOf t = record { sounding = t .sounding; tones = t .tones; kinds = t .kinds; changes = t .changes; letters = t .letters; calls = t .calls }
+listsOf t = record { sounding = t .sounding; tones = t .tones; kinds = t .kinds; changes = t .changes; triggers = t .triggers; calls = t .calls }
 
 pub record RowedIn (value : ℕ → ℤ) (used : Counts) (d : Declaration) (before : Tables) (r : Row) (after : Tables) : Type 0 where
   pub rowed : Rowed value used d (listsOf before) r (listsOf after)

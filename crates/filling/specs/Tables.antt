@@ -127,7 +127,7 @@ laidOut f = record {
   tones = full (pos 0) mostTones (map pitchOf (f .tones));
   kinds = full 0 mostChanges (map changeCode (f .changes));
   changes = full (pos 0) mostChanges (map changeNumber (f .changes));
-  letters = full 0 mostOrders (map (λ (x : Order). x .letter) (f .orders));
+  triggers = full 0 mostOrders (map (λ (x : Order). x .letter) (f .orders));
   calls = full 0 mostOrders (map (λ (x : Order). x .calls) (f .orders));
   counts = length (f .rows) ∷ length (f .tones) ∷ length (f .changes) ∷ length (f .orders) ∷ [];
 }

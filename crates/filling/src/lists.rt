@@ -11,7 +11,7 @@ ghost use mathlib.Core.Path.{_≡_};
 ghost use mathlib.Core.List.{[], map};
 ghost use Prim.Native.Nat.{_+_, _≤_, _<_, _^_};
 ghost use lib.ListN.{length};
-ghost use Rattle.tables.specs.Layout.{lettersIn, callsIn, mostTones, mostChanges, mostOrders, soundingOf, pitchOf, changeCode, changeNumber};
+ghost use Rattle.tables.specs.Layout.{triggersIn, callsIn, mostTones, mostChanges, mostOrders, soundingOf, pitchOf, changeCode, changeNumber};
 ghost use Rattle.names.specs.Parts.{part};
 ghost use Rattle.program.specs.Program.{systemPositionThen, systemPositionsOf, grouped, termsOf, ordersOf, startOf};
 ghost use Rattle.program.specs.Allowed.{Each};
@@ -149,7 +149,7 @@ pub fn write_changes(
 pub fn write_orders(items: &[u32], from: usize, to: usize, orders: &mut [u16], at: usize) -> usize
     requires { ⌜ Each FitOrder (ordersOf (itemsBetween (now items) from to)) ⌝ }
     requires { ⌜ at + length (ordersOf (itemsBetween (now items) from to)) ≤ mostOrders ⌝ }
-    ensures { λ r. ⌜ Appended letterOf callOf (ordersOf (itemsBetween (now (items .entry)) from to)) at (lettersIn (now (orders .entry))) (callsIn (now (orders .entry))) r (lettersIn (now (orders .exit))) (callsIn (now (orders .exit))) ⌝ }
+    ensures { λ r. ⌜ Appended letterOf callOf (ordersOf (itemsBetween (now (items .entry)) from to)) at (triggersIn (now (orders .entry))) (callsIn (now (orders .entry))) r (triggersIn (now (orders .exit))) (callsIn (now (orders .exit))) ⌝ }
 {
     let mut count = at;
     for i in from..to {

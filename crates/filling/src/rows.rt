@@ -24,7 +24,7 @@ ghost use mathlib.Core.Path.{_≡_};
 ghost use mathlib.Core.List.{[], _∷_};
 ghost use Prim.Native.Nat.{_+_, _≤_, _<_};
 ghost use lib.ListN.{length};
-ghost use Rattle.tables.specs.Layout.{tablesIn, lettersIn, callsIn, mostRows, mostOrders, soundingOf, pitchOf, changeCode, changeNumber};
+ghost use Rattle.tables.specs.Layout.{tablesIn, triggersIn, callsIn, mostRows, mostOrders, soundingOf, pitchOf, changeCode, changeNumber};
 ghost use Rattle.program.specs.Program.{declarationOf, periodOf, tones, grouped, startOf, ordersOf};
 ghost use Rattle.valuation.specs.Inner.{itemsBetween};
 ghost use Rattle.tables.specs.Values.{Slices};
@@ -173,7 +173,7 @@ fn write_logic(
     requires { ⌜ FitLogic letter (startOf (itemsBetween (now items) from to)) (ordersOf (itemsBetween (now items) from to)) ⌝ }
     requires { ⌜ used .orders + length (ordersOf (itemsBetween (now items) from to)) ≤ mostOrders ⌝ }
     ensures { λ r. ⌜ r ≡ Row.Logic letter (calledBy (startOf (itemsBetween (now (items .entry)) from to))) (used .orders) (used .orders + length (ordersOf (itemsBetween (now (items .entry)) from to))) ⌝ }
-    ensures { λ _. ⌜ Stored letterOf callOf (ordersOf (itemsBetween (now (items .entry)) from to)) (used .orders) (lettersIn (now (orders .entry))) (callsIn (now (orders .entry))) (lettersIn (now (orders .exit))) (callsIn (now (orders .exit))) ⌝ }
+    ensures { λ _. ⌜ Stored letterOf callOf (ordersOf (itemsBetween (now (items .entry)) from to)) (used .orders) (triggersIn (now (orders .entry))) (callsIn (now (orders .entry))) (triggersIn (now (orders .exit))) (callsIn (now (orders .exit))) ⌝ }
 {
     let end = lists::write_orders(items, from, to, orders, used.orders as usize);
     Row::Logic {

@@ -61,7 +61,7 @@ module _ (p : Program) (k : ℕ) (h : k < length p) where
         let t = part-stands ordersOf p k h (filled-lists p .orders) (ap ordersOf e) refl in
         part-read g 0 mostOrders (ordersBefore p k) (ordersBefore p k + length os) (filled p .orders) (t .0) ∙ ap (map g) (t .1)
 
-    pub logic-letters : slice (ordersBefore p k) (ordersBefore p k + length os) (tablesOf p .letters) ≡ map (λ (x : Order). x .letter) os
+    pub logic-letters : slice (ordersBefore p k) (ordersBefore p k + length os) (tablesOf p .triggers) ≡ map (λ (x : Order). x .letter) os
     unfolding tablesOf
     logic-letters = orders-there (λ x. x .letter)
 

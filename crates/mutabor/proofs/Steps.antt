@@ -28,7 +28,7 @@ size-kept t = simp length-replicate refl
 cleared-blank : (t : Tables) → fullSize t ≡ true → zeroed t ≡ blank
 cleared-blank t h =
     let s = sizes-of t h in
-    same-tables (rw (s .rows)) (rw (s .sounding)) (rw (s .tones)) (rw (s .kinds)) (rw (s .changes)) (rw (s .letters)) (rw (s .calls)) (rw (s .counts))
+    same-tables (rw (s .rows)) (rw (s .sounding)) (rw (s .tones)) (rw (s .kinds)) (rw (s .changes)) (rw (s .triggers)) (rw (s .calls)) (rw (s .counts))
 
 -- blank tables stay as they are where a text is refused
 again : {A : Type 0} (n : ℕ) (x : A) → replicate (length (replicate n x)) x ≡ replicate n x

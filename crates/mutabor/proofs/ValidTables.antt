@@ -176,7 +176,7 @@ module _ (p : Program) (a : Allowed p) (v : valued p ≡ Done) where
       own d fit = only-logics (λ os. every orderRight os ≡ true) d (logic-right [] tt) (λ c s os e. logic-right os (subst (Fits p) e fit .orders))
 
   order-at : (i : ℕ) → i < length (filled p .orders)
-      → isCapital (getD (laid .letters) i 0) && refersTo isCalled laid (getD (laid .calls) i 0) ≡ true
+      → isCapital (getD (laid .triggers) i 0) && refersTo isCalled laid (getD (laid .calls) i 0) ≡ true
   order-at i h =
       let os = filled p .orders in
       let nought : Order = record { letter = 0; calls = 0 } in
@@ -194,7 +194,7 @@ module _ (p : Program) (a : Allowed p) (v : valued p ≡ Done) where
         tones = stored-length pitchOf mostTones (f .tones) (pos 0) (n .tones);
         kinds = stored-length changeCode mostChanges (f .changes) 0 (n .changes);
         changes = stored-length changeNumber mostChanges (f .changes) (pos 0) (n .changes);
-        letters = stored-length letterOf mostOrders (f .orders) 0 (n .orders);
+        triggers = stored-length letterOf mostOrders (f .orders) 0 (n .orders);
         calls = stored-length callOf mostOrders (f .orders) 0 (n .orders);
         counts = refl;
       }
@@ -212,7 +212,7 @@ module _ (p : Program) (a : Allowed p) (v : valued p ≡ Done) where
         tones = tones-laid mostTones (length (f .tones)) (f .tones) refl tones-right;
         changes = changes-laid mostChanges (length (f .changes)) (f .changes) refl changes-right;
         orders = orders-laid laid (length (f .orders)) order-at;
-        lettersAfter = noughts-after mostOrders (length (f .orders)) (map letterOf (f .orders)) (length-map (f .orders) letterOf);
+        triggersAfter = noughts-after mostOrders (length (f .orders)) (map letterOf (f .orders)) (length-map (f .orders) letterOf);
         callsAfter = noughts-after mostOrders (length (f .orders)) (map callOf (f .orders)) (length-map (f .orders) callOf);
       })
     where

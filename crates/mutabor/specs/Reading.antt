@@ -30,7 +30,7 @@ zeroed t = record {
   tones = zeros (t .tones);
   kinds = noughts (t .kinds);
   changes = zeros (t .changes);
-  letters = noughts (t .letters);
+  triggers = noughts (t .triggers);
   calls = noughts (t .calls);
   counts = noughts (t .counts);
 }

@@ -41,7 +41,7 @@ module _ (t : Tables) (v : validTables t ≡ true) where
       record {
         order = h .order;
         most = omega (arith, h .within, w .room .orders);
-        letters = omega (arith, h .within, w .room .orders, w .sizes .letters);
+        triggers = omega (arith, h .within, w .room .orders, w .sizes .triggers);
         calls = omega (arith, h .within, w .room .orders, w .sizes .calls);
         bytes = λ i k. omega (arith, order-letter t v i (omega (arith, h .within)));
       }
@@ -60,7 +60,7 @@ module _ (t : Tables) (v : validTables t ≡ true) where
   order-within letter (System a P from to) h {k} e = absurd (Option·none-ne-some k e)
   order-within letter (Retuning r from to) h {k} e = absurd (Option·none-ne-some k e)
   order-within letter (Logic c s from to) h {k} e =
-      let o = order-called letter (t .letters) (t .calls) from to (orders-there (Logic c s from to) h .calls) e in
+      let o = order-called letter (t .triggers) (t .calls) from to (orders-there (Logic c s from to) h .calls) e in
       subst (λ (x : ℕ). x < rowCount t) (o .is) (order-valid t v (o .index) (omega (arith, o .most, h .within)) .within)
 
   module _ (a : Active) (h : activeRight t a ≡ true) (letter : ℕ) where

@@ -20,7 +20,7 @@ use Rattle.orders.specs.declared.Found.{Found as Match}
 use Rattle.orders.specs.declared.Found.the-variants as match
 use Rattle.orders.specs.Orders.{noOrder, orderAt, matchFrom, firstMatch}
 use Rattle.orders.proofs.Laws.{match-within}
-use Rattle.tables.specs.Layout.{orderWidth, lettersIn, callsIn, mostOrders, full}
+use Rattle.tables.specs.Layout.{orderWidth, triggersIn, callsIn, mostOrders, full}
 use Rattle.tables.proofs.Columns.{letter-at, call-at, columns-length}
 use Rattle.tables.proofs.Lists.{full-length, full-next}
 use Rattle.protocol.specs.declared.letters.Called.{Called}
@@ -41,53 +41,53 @@ records-most rows (c ∷ cs) (k ∷ ks) = let h = records-most rows cs ks in ome
 
 -- the records from the i-th order on
 abbrev rest : List ℤ → List ℕ → List ℕ → ℕ → ℕ → List Order
-rest rows letters calls to i = recordsOf rows (slice i to letters) (slice i to calls)
+rest rows triggers calls to i = recordsOf rows (slice i to triggers) (slice i to calls)
 
-rest-fits : (rows : List ℤ) {letters calls : List ℕ} {from to : ℕ} → OrderPart letters calls from to → length (rest rows letters calls to from) ≤ mostOrders
-rest-fits rows {letters} {calls} {from} {to} p =
-    omega (arith, records-most rows (slice from to letters) (slice from to calls), length-slice from to letters (p .letters), p .most)
+rest-fits : (rows : List ℤ) {triggers calls : List ℕ} {from to : ℕ} → OrderPart triggers calls from to → length (rest rows triggers calls to from) ≤ mostOrders
+rest-fits rows {triggers} {calls} {from} {to} p =
+    omega (arith, records-most rows (slice from to triggers) (slice from to calls), length-slice from to triggers (p .triggers), p .most)
 
 -- what the loop keeps: with the records that are left stored, the array is the one that is asked for
-pub record Gathering (rows : List ℤ) (letters calls : List ℕ) (from to : ℕ) (all : List Order) (i : ℕ) : Type 0 where
+pub record Gathering (rows : List ℤ) (triggers calls : List ℕ) (from to : ℕ) (all : List Order) (i : ℕ) : Type 0 where
   pub least : from ≤ i
-  pub left : sets all (i - from) (rest rows letters calls to i) ≡ gathered rows letters calls from to
+  pub left : sets all (i - from) (rest rows triggers calls to i) ≡ gathered rows triggers calls from to
 
-module _ {rows : List ℤ} {letters calls : List ℕ} {from to : ℕ} (p : OrderPart letters calls from to) where
-  pub gathering-starts : Gathering rows letters calls from to (full noOrder mostOrders []) from
+module _ {rows : List ℤ} {triggers calls : List ℕ} {from to : ℕ} (p : OrderPart triggers calls from to) where
+  pub gathering-starts : Gathering rows triggers calls from to (full noOrder mostOrders []) from
   gathering-starts =
       let n : from - from ≡ 0 = omega arith in
-      let e = full-next noOrder mostOrders [] (rest rows letters calls to from) 0 refl (omega (arith, rest-fits rows p)) in
+      let e = full-next noOrder mostOrders [] (rest rows triggers calls to from) 0 refl (omega (arith, rest-fits rows p)) in
       record { least = omega arith; left = rw n e }
 
-  module _ {all : List Order} {i : ℕ} (g : Gathering rows letters calls from to all i) where
+  module _ {all : List Order} {i : ℕ} (g : Gathering rows triggers calls from to all i) where
     pub gathering-next : {kind : Kind} → i < to → kind ≡ kindAt rows (getD calls i 0)
-        → Gathering rows letters calls from to (set all (i - from) (record { letter = getD letters i 0; kind = kind; number = getD calls i 0 })) (i + 1)
+        → Gathering rows triggers calls from to (set all (i - from) (record { letter = getD triggers i 0; kind = kind; number = getD calls i 0 })) (i + 1)
     unfolding zipWith
     gathering-next h e =
-        let first : rest rows letters calls to i ≡ recordOf rows (getD letters i 0) (getD calls i 0) ∷ rest rows letters calls to (i + 1) =
-        rw (slice-cons i to letters 0 h (p .letters), slice-cons i to calls 0 h (p .calls), add-one i) in
+        let first : rest rows triggers calls to i ≡ recordOf rows (getD triggers i 0) (getD calls i 0) ∷ rest rows triggers calls to (i + 1) =
+        rw (slice-cons i to triggers 0 h (p .triggers), slice-cons i to calls 0 h (p .calls), add-one i) in
         let n : i + 1 - from ≡ suc (i - from) = omega (arith, g .least) in
         record { least = omega (arith, g .least); left = rw (n, e) (ap (sets all (i - from)) (sym first) ∙ g .left) }
 
-    pub gathering-ends : to ≤ i → all ≡ gathered rows letters calls from to
+    pub gathering-ends : to ≤ i → all ≡ gathered rows triggers calls from to
     unfolding zipWith
-    gathering-ends h = ap (λ (l : List ℕ). sets all (i - from) (recordsOf rows l (slice i to calls))) (sym (past letters i to h)) ∙ g .left
+    gathering-ends h = ap (λ (l : List ℕ). sets all (i - from) (recordsOf rows l (slice i to calls))) (sym (past triggers i to h)) ∙ g .left
 
 -- one turn, with the order's two codes as the code reads them
-pub gathering-order : {rows : List ℤ} (orders : List ℕ) {from to : ℕ} → OrderPart (lettersIn orders) (callsIn orders) from to → {all : List Order} {i : ℕ}
-    → Gathering rows (lettersIn orders) (callsIn orders) from to all i → {kind : Kind} → i < to → kind ≡ kindAt rows (getD orders (orderWidth * i + 1) 0)
-    → Gathering rows (lettersIn orders) (callsIn orders) from to
+pub gathering-order : {rows : List ℤ} (orders : List ℕ) {from to : ℕ} → OrderPart (triggersIn orders) (callsIn orders) from to → {all : List Order} {i : ℕ}
+    → Gathering rows (triggersIn orders) (callsIn orders) from to all i → {kind : Kind} → i < to → kind ≡ kindAt rows (getD orders (orderWidth * i + 1) 0)
+    → Gathering rows (triggersIn orders) (callsIn orders) from to
     (set all (i - from) (record { letter = getD orders (orderWidth * i) 0; kind = kind; number = getD orders (orderWidth * i + 1) 0 })) (i + 1)
 gathering-order {rows} orders p {all} {i} g h e =
     rw (letter-at orders i, call-at orders i) (gathering-next p g h (e ∙ ap (kindAt rows) (call-at orders i)))
 
 -- the code of a letter is a byte, and both codes stand in the slice
-module _ (orders : List ℕ) {from to : ℕ} (p : OrderPart (lettersIn orders) (callsIn orders) from to) where
+module _ (orders : List ℕ) {from to : ℕ} (p : OrderPart (triggersIn orders) (callsIn orders) from to) where
   pub letter-byte : (i : ℕ) → i < to → getD orders (orderWidth * i) 0 < 2 ^ 8
   letter-byte i h = rw (letter-at orders i) (p .bytes i h)
 
   pub codes-there : orderWidth * to ≤ length orders
-  codes-there = omega (arith, p .letters, p .calls, columns-length orders)
+  codes-there = omega (arith, p .triggers, p .calls, columns-length orders)
 
 -- ---- searching
 
@@ -133,18 +133,18 @@ module _ (rows : List ℤ) (letter : ℕ) where
   unfolding firstMatch
   called-first cs ks e = called-from [] 0 cs ks _ refl e
 
-  module _ {letters calls : List ℕ} {from to : ℕ} (p : OrderPart letters calls from to) {all : List Order} {m : Match}
-      (e : all ≡ gathered rows letters calls from to) (f : firstMatch letter all 0 (to - from) ≡ m) where
-    pub called-gathered : calledAt all m ≡ calledIn rows (firstOrder letter (slice from to letters) (slice from to calls))
+  module _ {triggers calls : List ℕ} {from to : ℕ} (p : OrderPart triggers calls from to) {all : List Order} {m : Match}
+      (e : all ≡ gathered rows triggers calls from to) (f : firstMatch letter all 0 (to - from) ≡ m) where
+    pub called-gathered : calledAt all m ≡ calledIn rows (firstOrder letter (slice from to triggers) (slice from to calls))
     called-gathered =
-        let xs = gathered rows letters calls from to in
-        let n : length (slice from to letters) ≡ to - from = length-slice from to letters (p .letters) in
+        let xs = gathered rows triggers calls from to in
+        let n : length (slice from to triggers) ≡ to - from = length-slice from to triggers (p .triggers) in
         ap (calledAt all) (sym f)
         ∙ ap (λ (l : List Order). calledAt l (firstMatch letter l 0 (to - from))) e
         ∙ ap (λ (k : ℕ). calledAt xs (firstMatch letter xs 0 k)) (sym n)
-        ∙ called-first (slice from to letters) (slice from to calls) (n ∙ sym (length-slice from to calls (p .calls)))
+        ∙ called-first (slice from to triggers) (slice from to calls) (n ∙ sym (length-slice from to calls (p .calls)))
 
     pub found-gathered : {i : ℕ} → m ≡ match.At i → i < mostOrders
     found-gathered h =
-        let n = full-length noOrder mostOrders (rest rows letters calls to from) (rest-fits rows p) in
+        let n = full-length noOrder mostOrders (rest rows triggers calls to from) (rest-fits rows p) in
         omega (arith, match-within letter all 0 (to - from) (f ∙ h), ap length e, n)

@@ -58,7 +58,7 @@ pub record Ordered (calls : List ℕ) (to k : ℕ) : Type 0 where
   pub most : index < to
   pub is : getD calls index 0 ≡ k
 
-order-held : (letter : ℕ) (letters calls : List ℕ) {k : ℕ} → firstOrder letter letters calls ≡ some k → Ordered calls (length calls) k
+order-held : (letter : ℕ) (triggers calls : List ℕ) {k : ℕ} → firstOrder letter triggers calls ≡ some k → Ordered calls (length calls) k
 unfolding firstOrder
 order-held letter [] calls {k} e = absurd (Option·none-ne-some k e)
 order-held letter (c ∷ cs) [] {k} e = absurd (Option·none-ne-some k e)
@@ -69,10 +69,10 @@ order-held letter (c ∷ cs) (x ∷ xs) {k} e = go (eqb c letter) (order-held le
     go true later q = record { index = 0; most = omega arith; is = Option·some-injective x k q }
     go false later q = let w = later q in record { index = suc (w .index); most = omega (arith, w .most); is = w .is }
 
-pub order-called : (letter : ℕ) (letters calls : List ℕ) (from to : ℕ) {k : ℕ} → to ≤ length calls
-    → firstOrder letter (slice from to letters) (slice from to calls) ≡ some k → Ordered calls to k
-order-called letter letters calls from to h e =
-    let w = order-held letter (slice from to letters) (slice from to calls) e in
+pub order-called : (letter : ℕ) (triggers calls : List ℕ) (from to : ℕ) {k : ℕ} → to ≤ length calls
+    → firstOrder letter (slice from to triggers) (slice from to calls) ≡ some k → Ordered calls to k
+order-called letter triggers calls from to h e =
+    let w = order-held letter (slice from to triggers) (slice from to calls) e in
     let l : from + w .index < to = omega (arith, w .most, length-slice from to calls h) in
     record {
       index = from + w .index;

@@ -57,16 +57,16 @@ decoded zero = none
 decoded (suc k) = some k
 
 -- how many codes of triggers there are
-abbrev pub triggers : ℕ
-triggers = 256
+abbrev pub triggerCodes : ℕ
+triggerCodes = 256
 
 -- the trigger of a row that is a logic; what is no trigger, of any other row
 abbrev pub logicTrigger : Numbers → ℕ
-logicTrigger n = cond (eqb (n .form) logicForm) (up (n .first)) triggers
+logicTrigger n = cond (eqb (n .form) logicForm) (up (n .first)) triggerCodes
 
 -- of each trigger the first logic with it
 pub record Indexed (rows : List ℤ) (count : ℕ) (index : List ℕ) : Type 0 where
-  pub first : (letter : ℕ) → letter < triggers → getD index letter 0 ≡ oneMore (firstLogic rows letter 0 count)
+  pub first : (letter : ℕ) → letter < triggerCodes → getD index letter 0 ≡ oneMore (firstLogic rows letter 0 count)
 
 abbrev pub IndexOf : Tables → List ℕ → Type 0
 IndexOf t index = Indexed (t .rows) (rowCount t) index
@@ -110,11 +110,11 @@ abbrev pub recordOf : List ℤ → ℕ → ℕ → Order
 recordOf rows letter k = record { letter = letter; kind = kindAt rows k; number = k }
 
 abbrev pub recordsOf : List ℤ → List ℕ → List ℕ → List Order
-recordsOf rows letters calls = zipWith (recordOf rows) letters calls
+recordsOf rows triggers calls = zipWith (recordOf rows) triggers calls
 
 -- those of the orders from one place to another, and zeros after them
 abbrev pub gathered : List ℤ → List ℕ → List ℕ → ℕ → ℕ → List Order
-gathered rows letters calls from to = full noOrder mostOrders (recordsOf rows (slice from to letters) (slice from to calls))
+gathered rows triggers calls from to = full noOrder mostOrders (recordsOf rows (slice from to triggers) (slice from to calls))
 
 -- the declarations that are called: at most one
 abbrev pub callsOf : Callee → List ℕ
@@ -131,7 +131,7 @@ pressedBy p = record { bound = p .bound; active = p .active; calls = callsOf (p 
 pub record OrderPart (cs ks : List ℕ) (from to : ℕ) : Type 0 where
   pub order : from ≤ to
   pub most : to ≤ from + mostOrders
-  pub letters : to ≤ length cs
+  pub triggers : to ≤ length cs
   pub calls : to ≤ length ks
   pub bytes : (i : ℕ) → i < to → getD cs i 0 < 2 ^ 8
 
@@ -142,7 +142,7 @@ OrdersThere t (Interval d) = Unit
 OrdersThere t (Tone p) = Unit
 OrdersThere t (System a P from to) = Unit
 OrdersThere t (Retuning r from to) = Unit
-OrdersThere t (Logic c s from to) = OrderPart (t .letters) (t .calls) from to
+OrdersThere t (Logic c s from to) = OrderPart (t .triggers) (t .calls) from to
 
 -- the active logic's row can be read, and its orders
 abbrev pub ActiveReadable : Tables → Active → Type 0

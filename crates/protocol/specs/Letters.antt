@@ -56,7 +56,7 @@ firstOrder letter (c ∷ cs) (k ∷ ks) = elim (eqb c letter) [ true ↦ some k 
 
 abbrev pub orderIn : Tables → ℕ → AsLogic → Option ℕ
 orderIn t letter no-logic = none
-orderIn t letter (a-logic c s from to) = firstOrder letter (slice from to (t .letters)) (slice from to (t .calls))
+orderIn t letter (a-logic c s from to) = firstOrder letter (slice from to (t .triggers)) (slice from to (t .calls))
 
 abbrev pub orderBy : Tables → ℕ → Row → Option ℕ
 orderBy t letter r = orderIn t letter (asLogic r)

@@ -30,7 +30,7 @@ ghost use mathlib.Core.Path.{_≡_};
 ghost use mathlib.Core.Bool.{true};
 ghost use lib.Seq.{slice};
 ghost use Rattle.tuning.specs.State.{validState};
-ghost use Rattle.tables.specs.Layout.{tablesIn, lettersIn, callsIn, rowOf};
+ghost use Rattle.tables.specs.Layout.{tablesIn, triggersIn, callsIn, rowOf};
 ghost use Rattle.tables.specs.Values.{Slices};
 ghost use Rattle.protocol.specs.Letters.{isLogicOf, firstLogic, firstOrder, startCalls, pressed};
 ghost use Rattle.protocol.specs.Answers.{callOn};
@@ -126,8 +126,8 @@ fn kind_of(rows: &[i32], k: usize) -> Kind
 
 // The orders from `from` to `to` as records, at the start of the array. The rest of it is zeros.
 fn gather_orders(rows: &[i32], orders: &[u16], from: usize, to: usize) -> [Order; ORDERS]
-    requires { ⌜ OrderPart (lettersIn (now orders)) (callsIn (now orders)) from to ⌝ }
-    ensures { λ r. ⌜ r ≡ gathered (now (rows .entry)) (lettersIn (now (orders .entry))) (callsIn (now (orders .entry))) from to ⌝ }
+    requires { ⌜ OrderPart (triggersIn (now orders)) (callsIn (now orders)) from to ⌝ }
+    ensures { λ r. ⌜ r ≡ gathered (now (rows .entry)) (triggersIn (now (orders .entry))) (callsIn (now (orders .entry))) from to ⌝ }
 {
     let mut all = [Order {
         letter: 0,
@@ -150,8 +150,8 @@ fn gather_orders(rows: &[i32], orders: &[u16], from: usize, to: usize) -> [Order
 
 // What the first order with this letter calls, of those from `from` to `to`.
 fn find_order(rows: &[i32], orders: &[u16], from: usize, to: usize, letter: u8) -> Called
-    requires { ⌜ OrderPart (lettersIn (now orders)) (callsIn (now orders)) from to ⌝ }
-    ensures { λ r. ⌜ r ≡ calledIn (now (rows .entry)) (firstOrder letter (slice from to (lettersIn (now (orders .entry)))) (slice from to (callsIn (now (orders .entry))))) ⌝ }
+    requires { ⌜ OrderPart (triggersIn (now orders)) (callsIn (now orders)) from to ⌝ }
+    ensures { λ r. ⌜ r ≡ calledIn (now (rows .entry)) (firstOrder letter (slice from to (triggersIn (now (orders .entry)))) (slice from to (callsIn (now (orders .entry))))) ⌝ }
 {
     let all = gather_orders(rows, orders, from, to);
     let orders::Found::At(i) = orders::find_match_in(all, letter, 0, to - from) else {

@@ -23,7 +23,7 @@ use Rattle.protocol.specs.declared.Desk.{Desk}
 use Rattle.protocol.specs.declared.Answered.{Answered}
 use Rattle.protocol.specs.declared.Told.{Told}
 use Rattle.protocol.specs.Answers.{Outcome, letterOutcome, frameOutcome, validDesk, answerOf, Gives}
-use Rattle.protocol.specs.Inner.{triggers, toldOutcome, Tells}
+use Rattle.protocol.specs.Inner.{triggerCodes, toldOutcome, Tells}
 use Rattle.protocol.proofs.Ways.{gives, damaged, taken, on-letter, noLetter, toldBy, told-gives}
 use Rattle.stream.specs.Feed.{Fed, feed, fedByte, fed, finished, streamed, SameStream}
 use Rattle.stream.specs.Inner.{SameLine, SameSkipped}
@@ -135,7 +135,7 @@ module _ (chunk : List ℕ) (i : ℕ) (k : i < length chunk) where
 
 -- ---- the answer to a frame, by its kind
 
-pub letter-byte : {f : Frame} (house letter : ℕ) → f ≡ Letter house letter → inside f ≡ true → letter < triggers
+pub letter-byte : {f : Frame} (house letter : ℕ) → f ≡ Letter house letter → inside f ≡ true → letter < triggerCodes
 letter-byte house letter e h =
     let b = both (isHouse house) (isCapital letter) (ap inside (sym e) ∙ h) .1 in
     omega (arith, leb-true letter lastLetter (both (leb firstLetter letter) (leb letter lastLetter) b .1))

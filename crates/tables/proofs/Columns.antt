@@ -5,7 +5,7 @@ use Prim.Native.Nat.{ℕ, zero, suc, _+_, _*_, _≤_}
 use native.Mathlib.Omega.{arith}
 use lib.ListN.{length, getD, drop, set}
 use lib.Seq.{drop-nil}
-use Rattle.tables.specs.Layout.{orderWidth, column, lettersIn, callsIn}
+use Rattle.tables.specs.Layout.{orderWidth, column, triggersIn, callsIn}
 
 -- the k-th code of order i
 pub column-at : (k : ℕ) (l : List ℕ) (i : ℕ) → getD (column k l) i 0 ≡ getD l (orderWidth * i + k) 0
@@ -19,7 +19,7 @@ column-at (suc k) (x ∷ l) i =
     let e : orderWidth * i + suc k ≡ suc (orderWidth * i + k) = omega arith in
     rw e (column-at k l i)
 
-pub letter-at : (l : List ℕ) (i : ℕ) → getD l (orderWidth * i) 0 ≡ getD (lettersIn l) i 0
+pub letter-at : (l : List ℕ) (i : ℕ) → getD l (orderWidth * i) 0 ≡ getD (triggersIn l) i 0
 letter-at l i =
     let e : orderWidth * i ≡ orderWidth * i + 0 = omega arith in
     ap (λ (m : ℕ). getD l m 0) e ∙ sym (column-at 0 l i)
@@ -50,11 +50,11 @@ column-other (suc k) (x ∷ l) (suc m) v h = column-other k l m v (λ i e. h i (
 
 -- an order that is stored
 pub order-stored : (l : List ℕ) (i letter called : ℕ) {a b : List ℕ} → a ≡ set l (orderWidth * i) letter → b ≡ set a (orderWidth * i + 1) called
-    → (lettersIn b ≡ set (lettersIn l) i letter) × (callsIn b ≡ set (callsIn l) i called)
+    → (triggersIn b ≡ set (triggersIn l) i letter) × (callsIn b ≡ set (callsIn l) i called)
 order-stored l i letter called {a} e f =
     let z : orderWidth * i ≡ orderWidth * i + 0 = omega arith in
     let at : a ≡ set l (orderWidth * i + 0) letter = e ∙ ap (λ (m : ℕ). set l m letter) z in (
-      ap lettersIn f ∙ column-other 0 a (orderWidth * i + 1) called (λ j h. omega arith) ∙ ap lettersIn at ∙ column-set 0 l i letter,
+      ap triggersIn f ∙ column-other 0 a (orderWidth * i + 1) called (λ j h. omega arith) ∙ ap triggersIn at ∙ column-set 0 l i letter,
       ap callsIn f ∙ column-set 1 a i called ∙ ap (λ (r : List ℕ). set (callsIn r) i called) at
           ∙ ap (λ (r : List ℕ). set r i called) (column-other 1 l (orderWidth * i + 0) letter (λ j h. omega arith)),
     )
@@ -68,23 +68,23 @@ column-length zero (x ∷ l) zero g h = let e : ⊥ = omega arith in absurd e
 column-length zero (x ∷ l) (suc n) g h = ap suc (column-length 1 l n (omega arith) (omega arith))
 column-length (suc k) (x ∷ l) n g h = column-length k l n (omega arith) (omega arith)
 
-pub columns-length : (l : List ℕ) → length (lettersIn l) + length (callsIn l) ≡ length l
+pub columns-length : (l : List ℕ) → length (triggersIn l) + length (callsIn l) ≡ length l
 unfolding column
 columns-length [] = refl
 columns-length (x ∷ l) = omega (arith, columns-length l)
 
 -- ---- what follows so many orders
 
-pub letters-drop : (n : ℕ) (l : List ℕ) → drop n (lettersIn l) ≡ lettersIn (drop (orderWidth * n) l)
+pub triggers-drop : (n : ℕ) (l : List ℕ) → drop n (triggersIn l) ≡ triggersIn (drop (orderWidth * n) l)
 unfolding column
-letters-drop zero l = refl
-letters-drop (suc n) [] = sym (ap lettersIn (drop-nil (orderWidth * suc n)))
-letters-drop (suc n) (x ∷ []) =
+triggers-drop zero l = refl
+triggers-drop (suc n) [] = sym (ap triggersIn (drop-nil (orderWidth * suc n)))
+triggers-drop (suc n) (x ∷ []) =
     let e : orderWidth * suc n ≡ suc (suc (orderWidth * n)) = omega arith in
     rw e (drop-nil n)
-letters-drop (suc n) (x ∷ y ∷ l) =
+triggers-drop (suc n) (x ∷ y ∷ l) =
     let e : orderWidth * suc n ≡ suc (suc (orderWidth * n)) = omega arith in
-    rw e (letters-drop n l)
+    rw e (triggers-drop n l)
 
 pub calls-drop : (n : ℕ) (l : List ℕ) → drop n (callsIn l) ≡ callsIn (drop (orderWidth * n) l)
 unfolding column

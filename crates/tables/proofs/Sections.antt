@@ -6,7 +6,7 @@ use native.Mathlib.Omega.{arith}
 use lib.IntN.{ℤ, pos}
 use lib.ListN.{length, take, drop, replicate, length-append, length-drop, take-append-drop, drop-of-length-le}
 use lib.Seq.{length-take-le, take-at, drop-at, take-append-le, drop-append-le, drop-append-add, drop-drop}
-use Rattle.tables.specs.Layout.{Tables, section, tablesIn, column, lettersIn, callsIn, mostTones, mostChanges, mostOrders, orderWidth, countsSize, tonesAt, changesAt, soundingAt, kindsAt, ordersAt, allNumbers, allCodes}
+use Rattle.tables.specs.Layout.{Tables, section, tablesIn, column, triggersIn, callsIn, mostTones, mostChanges, mostOrders, orderWidth, countsSize, tonesAt, changesAt, soundingAt, kindsAt, ordersAt, allNumbers, allCodes}
 use Rattle.tables.specs.Values.{Slices}
 
 -- ---- a list in which what stands from a place on is another, as a part `&mut list[at..]` leaves it: what stands before it stays
@@ -60,26 +60,26 @@ module _ {A : Type 0} (at k : ℕ) (part l : List A) (fits : at + k ≤ length l
 
 -- ---- tables with some of them replaced
 
-pub same-tables : {rows rows′ tones tones′ changes changes′ : List ℤ} {sounding sounding′ kinds kinds′ letters letters′ calls calls′ counts counts′ : List ℕ}
-    → rows ≡ rows′ → sounding ≡ sounding′ → tones ≡ tones′ → kinds ≡ kinds′ → changes ≡ changes′ → letters ≡ letters′ → calls ≡ calls′ → counts ≡ counts′
-    → _≡_ {A = Tables} (record { rows = rows; sounding = sounding; tones = tones; kinds = kinds; changes = changes; letters = letters; calls = calls; counts = counts })
-    (record { rows = rows′; sounding = sounding′; tones = tones′; kinds = kinds′; changes = changes′; letters = letters′; calls = calls′; counts = counts′ })
+pub same-tables : {rows rows′ tones tones′ changes changes′ : List ℤ} {sounding sounding′ kinds kinds′ triggers triggers′ calls calls′ counts counts′ : List ℕ}
+    → rows ≡ rows′ → sounding ≡ sounding′ → tones ≡ tones′ → kinds ≡ kinds′ → changes ≡ changes′ → triggers ≡ triggers′ → calls ≡ calls′ → counts ≡ counts′
+    → _≡_ {A = Tables} (record { rows = rows; sounding = sounding; tones = tones; kinds = kinds; changes = changes; triggers = triggers; calls = calls; counts = counts })
+    (record { rows = rows′; sounding = sounding′; tones = tones′; kinds = kinds′; changes = changes′; triggers = triggers′; calls = calls′; counts = counts′ })
 same-tables a b c d e f g h = rw (a, b, c, d, e, f, g, h)
 
 abbrev pub withRows : Tables → List ℤ → Tables
-withRows t part = record { rows = part; sounding = t .sounding; tones = t .tones; kinds = t .kinds; changes = t .changes; letters = t .letters; calls = t .calls; counts = t .counts }
+withRows t part = record { rows = part; sounding = t .sounding; tones = t .tones; kinds = t .kinds; changes = t .changes; triggers = t .triggers; calls = t .calls; counts = t .counts }
 
 abbrev pub withTones : Tables → List ℕ → List ℤ → Tables
-withTones t ks zs = record { rows = t .rows; sounding = ks; tones = zs; kinds = t .kinds; changes = t .changes; letters = t .letters; calls = t .calls; counts = t .counts }
+withTones t ks zs = record { rows = t .rows; sounding = ks; tones = zs; kinds = t .kinds; changes = t .changes; triggers = t .triggers; calls = t .calls; counts = t .counts }
 
 abbrev pub withChanges : Tables → List ℕ → List ℤ → Tables
-withChanges t ks zs = record { rows = t .rows; sounding = t .sounding; tones = t .tones; kinds = ks; changes = zs; letters = t .letters; calls = t .calls; counts = t .counts }
+withChanges t ks zs = record { rows = t .rows; sounding = t .sounding; tones = t .tones; kinds = ks; changes = zs; triggers = t .triggers; calls = t .calls; counts = t .counts }
 
 abbrev pub withOrders : Tables → List ℕ → Tables
-withOrders t os = record { rows = t .rows; sounding = t .sounding; tones = t .tones; kinds = t .kinds; changes = t .changes; letters = lettersIn os; calls = callsIn os; counts = t .counts }
+withOrders t os = record { rows = t .rows; sounding = t .sounding; tones = t .tones; kinds = t .kinds; changes = t .changes; triggers = triggersIn os; calls = callsIn os; counts = t .counts }
 
 abbrev pub withCounts : Tables → List ℕ → Tables
-withCounts t part = record { rows = t .rows; sounding = t .sounding; tones = t .tones; kinds = t .kinds; changes = t .changes; letters = t .letters; calls = t .calls; counts = part }
+withCounts t part = record { rows = t .rows; sounding = t .sounding; tones = t .tones; kinds = t .kinds; changes = t .changes; triggers = t .triggers; calls = t .calls; counts = part }
 
 module _ {numbers : List ℤ} {codes : List ℕ} (s : Slices numbers codes) where
   pub rows-back : (part : List ℤ) → length part ≡ tonesAt → tablesIn (spliced 0 tonesAt part numbers) codes ≡ withRows (tablesIn numbers codes) part
@@ -99,7 +99,7 @@ module _ {numbers : List ℤ} {codes : List ℕ} (s : Slices numbers codes) wher
       same-tables (section-before tonesAt numbers (omega arith) 0 tonesAt (omega arith) (zs ++ drop mostTones (drop tonesAt numbers)))
       (section-same soundingAt mostTones ks codes m k) (section-same tonesAt mostTones zs numbers n z)
       (section-after soundingAt mostTones ks codes m k kindsAt mostChanges (omega arith)) (drop-after tonesAt mostTones zs numbers n z changesAt (omega arith))
-      (ap lettersIn behind) (ap callsIn behind)
+      (ap triggersIn behind) (ap callsIn behind)
       (section-before soundingAt codes (omega arith) 0 countsSize (omega arith) (ks ++ drop mostTones (drop soundingAt codes)))
 
   pub changes-back : (ks : List ℕ) (zs : List ℤ) → length ks ≡ mostChanges → length zs ≡ mostChanges
@@ -114,7 +114,7 @@ module _ {numbers : List ℤ} {codes : List ℕ} (s : Slices numbers codes) wher
       same-tables (section-before changesAt numbers (omega arith) 0 tonesAt (omega arith) more)
       (section-before kindsAt codes (omega arith) soundingAt mostTones (omega arith) behind) (section-before changesAt numbers (omega arith) tonesAt mostTones (omega arith) more)
       (section-same kindsAt mostChanges ks codes m k) (last-same changesAt mostChanges zs numbers n z (s .all-numbers))
-      (ap lettersIn rest) (ap callsIn rest) (section-before kindsAt codes (omega arith) 0 countsSize (omega arith) behind)
+      (ap triggersIn rest) (ap callsIn rest) (section-before kindsAt codes (omega arith) 0 countsSize (omega arith) behind)
 
   pub orders-length : length (section ordersAt (orderWidth * mostOrders) codes) ≡ orderWidth * mostOrders
   orders-length = length-take-le (orderWidth * mostOrders) (drop ordersAt codes) (omega (arith, length-drop ordersAt codes, s .all-codes))
@@ -128,7 +128,7 @@ module _ {numbers : List ℤ} {codes : List ℕ} (s : Slices numbers codes) wher
       let behind = os ++ drop (orderWidth * mostOrders) (drop ordersAt codes) in
       let rest = last-same ordersAt (orderWidth * mostOrders) os codes m k (s .all-codes) in
       same-tables refl (section-before ordersAt codes n soundingAt mostTones (omega arith) behind) refl
-      (section-before ordersAt codes n kindsAt mostChanges (omega arith) behind) refl (ap lettersIn rest) (ap callsIn rest)
+      (section-before ordersAt codes n kindsAt mostChanges (omega arith) behind) refl (ap triggersIn rest) (ap callsIn rest)
       (section-before ordersAt codes n 0 countsSize (omega arith) behind)
 
   pub counts-back : (part : List ℕ) → length part ≡ countsSize → tablesIn numbers (spliced 0 countsSize part codes) ≡ withCounts (tablesIn numbers codes) part
@@ -137,7 +137,7 @@ module _ {numbers : List ℤ} {codes : List ℕ} (s : Slices numbers codes) wher
       let m : countsSize ≤ length codes = omega (arith, s .all-codes) in
       let behind = drop-after 0 countsSize part codes m k ordersAt (omega arith) in
       same-tables refl (section-after 0 countsSize part codes m k soundingAt mostTones (omega arith)) refl
-      (section-after 0 countsSize part codes m k kindsAt mostChanges (omega arith)) refl (ap lettersIn behind) (ap callsIn behind)
+      (section-after 0 countsSize part codes m k kindsAt mostChanges (omega arith)) refl (ap triggersIn behind) (ap callsIn behind)
       (section-same 0 countsSize part codes m k)
 
 -- ---- cleared slices have cleared sections
@@ -171,7 +171,7 @@ pub cleared : (numbers : List ℤ) (codes : List ℕ)
       tones = replicate (length (t .tones)) (pos 0);
       kinds = replicate (length (t .kinds)) 0;
       changes = replicate (length (t .changes)) (pos 0);
-      letters = replicate (length (t .letters)) 0;
+      triggers = replicate (length (t .triggers)) 0;
       calls = replicate (length (t .calls)) 0;
       counts = replicate (length (t .counts)) 0;
     }
@@ -179,5 +179,5 @@ unfolding tablesIn
 cleared numbers codes =
     let os = drop-zero 0 ordersAt codes in
     same-tables (section-zero (pos 0) 0 tonesAt numbers) (section-zero 0 soundingAt mostTones codes) (section-zero (pos 0) tonesAt mostTones numbers)
-    (section-zero 0 kindsAt mostChanges codes) (drop-zero (pos 0) changesAt numbers) (ap lettersIn os ∙ column-zero 0 (drop ordersAt codes))
+    (section-zero 0 kindsAt mostChanges codes) (drop-zero (pos 0) changesAt numbers) (ap triggersIn os ∙ column-zero 0 (drop ordersAt codes))
     (ap callsIn os ∙ column-zero 1 (drop ordersAt codes)) (section-zero 0 0 countsSize codes)

@@ -20,7 +20,7 @@ pub record Sizes (t : Tables) : Type 0 where
   pub tones : length (t .tones) ≡ mostTones
   pub kinds : length (t .kinds) ≡ mostChanges
   pub changes : length (t .changes) ≡ mostChanges
-  pub letters : length (t .letters) ≡ mostOrders
+  pub triggers : length (t .triggers) ≡ mostOrders
   pub calls : length (t .calls) ≡ mostOrders
   pub counts : length (t .counts) ≡ countsSize
 
@@ -28,7 +28,7 @@ pub sizes-of : (t : Tables) → fullSize t ≡ true → Sizes t
 sizes-of t h =
     let a = both _ (eqb (length (t .counts)) countsSize) h in
     let b = both _ (eqb (length (t .calls)) mostOrders) (a .0) in
-    let c = both _ (eqb (length (t .letters)) mostOrders) (b .0) in
+    let c = both _ (eqb (length (t .triggers)) mostOrders) (b .0) in
     let d = both _ (eqb (length (t .changes)) mostChanges) (c .0) in
     let e = both _ (eqb (length (t .kinds)) mostChanges) (d .0) in
     let f = both _ (eqb (length (t .tones)) mostTones) (e .0) in
@@ -39,7 +39,7 @@ sizes-of t h =
       tones = eqb-true _ _ (f .1);
       kinds = eqb-true _ _ (e .1);
       changes = eqb-true _ _ (d .1);
-      letters = eqb-true _ _ (c .1);
+      triggers = eqb-true _ _ (c .1);
       calls = eqb-true _ _ (b .1);
       counts = eqb-true _ _ (a .1);
     }
@@ -52,7 +52,7 @@ sizes-is t s =
       eq-eqb (length (t .tones)) mostTones (s .tones),
       eq-eqb (length (t .kinds)) mostChanges (s .kinds),
       eq-eqb (length (t .changes)) mostChanges (s .changes),
-      eq-eqb (length (t .letters)) mostOrders (s .letters),
+      eq-eqb (length (t .triggers)) mostOrders (s .triggers),
       eq-eqb (length (t .calls)) mostOrders (s .calls),
       eq-eqb (length (t .counts)) countsSize (s .counts),
     )
@@ -84,7 +84,7 @@ module _ (numbers : List ℤ) (codes : List ℕ) where
         tones = section-size tonesAt mostTones numbers (omega arith);
         kinds = section-size kindsAt mostChanges codes (omega arith);
         changes = omega (arith, length-drop changesAt numbers);
-        letters = column-length 0 (drop ordersAt codes) mostOrders (omega arith) (omega arith);
+        triggers = column-length 0 (drop ordersAt codes) mostOrders (omega arith) (omega arith);
         calls = column-length 1 (drop ordersAt codes) mostOrders (omega arith) (omega arith);
         counts = section-size 0 countsSize codes (omega arith);
       }
@@ -93,7 +93,7 @@ module _ (numbers : List ℤ) (codes : List ℕ) where
   unfolding tablesIn
   sizes-slices s =
       let a = s .changes in
-      let b = s .letters in
+      let b = s .triggers in
       let c = s .calls in
       record {
         all-numbers = omega (arith, length-drop changesAt numbers);

@@ -4,7 +4,7 @@ use mathlib.Core.List.{List, [], _∷_, _++_}
 use Prim.Native.Nat.{ℕ, _+_}
 use lib.ListN.{drop, take-append-drop}
 use lib.Seq.{drop-drop}
-use Rattle.tables.specs.Layout.{section, column, lettersIn, callsIn, tablesIn, woven, NothingLeftOut, countsSize, mostTones, mostChanges, tonesAt, soundingAt, kindsAt, ordersAt}
+use Rattle.tables.specs.Layout.{section, column, triggersIn, callsIn, tablesIn, woven, NothingLeftOut, countsSize, mostTones, mostChanges, tonesAt, soundingAt, kindsAt, ordersAt}
 
 module _ {A : Type 0} where
   -- a section, and what follows it
@@ -12,7 +12,7 @@ module _ {A : Type 0} where
   section-on at size l rest e = ap (λ (r : List A). section at size l ++ r) (e ∙ sym (drop-drop size at l)) ∙ take-append-drop size (drop at l)
 
 -- the columns of orders
-columns-whole : (l : List ℕ) → woven (lettersIn l) (callsIn l) ≡ l
+columns-whole : (l : List ℕ) → woven (triggersIn l) (callsIn l) ≡ l
 unfolding column woven
 columns-whole [] = refl
 columns-whole (c ∷ []) = refl

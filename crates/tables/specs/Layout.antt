@@ -29,14 +29,14 @@ use Rattle.tables.specs.declared.Row.{Row}
 use Rattle.tables.specs.declared.Row.the-variants.{Unused, Interval, Tone, System, Retuning, Logic}
 
 -- what is read: rows of five numbers; for each tone of a tone system whether it sounds and its pitch; for each change of a tones retuning its kind
--- and its interval or pitch; for each order its letter and the number of the declaration that it calls; and how many there are of each
+-- and its interval or pitch; for each order its trigger and the number of the declaration that it calls; and how many there are of each
 pub record Tables : Type 0 where
   pub rows : List ℤ
   pub sounding : List ℕ
   pub tones : List ℤ
   pub kinds : List ℕ
   pub changes : List ℤ
-  pub letters : List ℕ
+  pub triggers : List ℕ
   pub calls : List ℕ
   pub counts : List ℕ
 
@@ -62,7 +62,7 @@ countsSize = 4
 abbrev pub fullSize : Tables → Bool
 fullSize t =
     eqb (length (t .rows)) (rowWidth * mostRows) && eqb (length (t .sounding)) mostTones && eqb (length (t .tones)) mostTones
-    && eqb (length (t .kinds)) mostChanges && eqb (length (t .changes)) mostChanges && eqb (length (t .letters)) mostOrders
+    && eqb (length (t .kinds)) mostChanges && eqb (length (t .changes)) mostChanges && eqb (length (t .triggers)) mostOrders
     && eqb (length (t .calls)) mostOrders && eqb (length (t .counts)) countsSize
 
 -- ---- what is lent: two slices, of which the tables are sections
@@ -104,8 +104,8 @@ column k [] = []
 column zero (x ∷ l) = x ∷ column (orderWidth - 1) l
 column (suc k) (x ∷ l) = column k l
 
-abbrev pub lettersIn : List ℕ → List ℕ
-lettersIn = column 0
+abbrev pub triggersIn : List ℕ → List ℕ
+triggersIn = column 0
 
 abbrev pub callsIn : List ℕ → List ℕ
 callsIn = column 1
@@ -119,12 +119,12 @@ tablesIn numbers codes =
       tones = section tonesAt mostTones numbers;
       kinds = section kindsAt mostChanges codes;
       changes = drop changesAt numbers;
-      letters = lettersIn (drop ordersAt codes);
+      triggers = triggersIn (drop ordersAt codes);
       calls = callsIn (drop ordersAt codes);
       counts = section 0 countsSize codes;
     }
 
--- orders put together again from their letters and what they call
+-- orders put together again from their triggers and what they call
 unfoldable pub woven : List ℕ → List ℕ → List ℕ
 woven [] ks = []
 woven (c ∷ cs) [] = c ∷ []
@@ -135,7 +135,7 @@ unfoldable pub NothingLeftOut : Type 0
 NothingLeftOut =
     (numbers : List ℤ) (codes : List ℕ)
     → let t = tablesIn numbers codes in
-    (t .rows ++ (t .tones ++ t .changes) ≡ numbers) × (t .counts ++ (t .sounding ++ (t .kinds ++ woven (t .letters) (t .calls))) ≡ codes)
+    (t .rows ++ (t .tones ++ t .changes) ≡ numbers) × (t .counts ++ (t .sounding ++ (t .kinds ++ woven (t .triggers) (t .calls))) ≡ codes)
 
 -- ---- how many rows, tones, changes and orders are used
 

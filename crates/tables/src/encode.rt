@@ -37,7 +37,7 @@ ghost use mathlib.Core.List.{[], _∷_};
 ghost use Prim.Native.Nat.{_*_, _<_};
 ghost use lib.ListN.{length, set};
 ghost use lib.Seq.{sets};
-ghost use Rattle.tables.specs.Layout.{countsSize, numbers, amountCode, amountNumber, periodCode, periodSum, retuningNumbers, numbersOf, written, rowWidth, soundingOf, pitchOf, changeCode, changeNumber, lettersIn, callsIn};
+ghost use Rattle.tables.specs.Layout.{countsSize, numbers, amountCode, amountNumber, periodCode, periodSum, retuningNumbers, numbersOf, written, rowWidth, soundingOf, pitchOf, changeCode, changeNumber, triggersIn, callsIn};
 ghost use Rattle.tables.specs.Values.{NumbersFit, CountsFit};
 
 fn amount_code(amount: Amount) -> u32
@@ -228,7 +228,7 @@ pub fn store_change(kinds: &mut [u16], changes: &mut [i32], i: usize, change: To
 
 // Stores an order as the i-th: its letter, and the number of the declaration that it calls.
 pub fn store_order(orders: &mut [u16], i: usize, letter: u8, called: u16)
-    ensures { λ _. ⌜ (lettersIn (now (orders .exit)) ≡ set (lettersIn (now (orders .entry))) i letter) × (callsIn (now (orders .exit)) ≡ set (callsIn (now (orders .entry))) i called) ⌝ }
+    ensures { λ _. ⌜ (triggersIn (now (orders .exit)) ≡ set (triggersIn (now (orders .entry))) i letter) × (callsIn (now (orders .exit)) ≡ set (callsIn (now (orders .entry))) i called) ⌝ }
 {
     if orders.len() <= i {
         return;

@@ -36,14 +36,14 @@ pub record Parts (t : Tables) : Type 0 where
   pub tones : listRight toneRight (toneCount t) (t .sounding) (t .tones) ≡ true
   pub changes : listRight changeRight (changeCount t) (t .kinds) (t .changes) ≡ true
   pub orders : ordersRight t 0 (orderCount t) ≡ true
-  pub lettersAfter : allNought (drop (orderCount t) (t .letters)) ≡ true
+  pub triggersAfter : allNought (drop (orderCount t) (t .triggers)) ≡ true
   pub callsAfter : allNought (drop (orderCount t) (t .calls)) ≡ true
 
 pub valid-is : (t : Tables) → Parts t → validTables t ≡ true
 unfolding validTables
 valid-is t p =
     rw (sizes-is t (p .sizes))
-    (all-true (room-is (used t) (p .room)) (p .rows) (p .kinds) (p .parts) (p .rowsAfter) (p .tones) (p .changes) (p .orders) (p .lettersAfter) (p .callsAfter))
+    (all-true (room-is (used t) (p .room)) (p .rows) (p .kinds) (p .parts) (p .rowsAfter) (p .tones) (p .changes) (p .orders) (p .triggersAfter) (p .callsAfter))
   where
     all-true : {a b c d e f g h i j : Bool} → a ≡ true → b ≡ true → c ≡ true → d ≡ true → e ≡ true → f ≡ true → g ≡ true → h ≡ true → i ≡ true → j ≡ true
         → a && b && c && d && e && f && g && h && i && j ≡ true
@@ -171,7 +171,7 @@ module _ (t : Tables) (size : ℕ) (rs : List Row) (e : t .rows ≡ full (pos 0)
 -- ---- orders
 
 pub orders-laid : (t : Tables) (n : ℕ)
-    → ((i : ℕ) → i < n → isCapital (getD (t .letters) i 0) && refersTo isCalled t (getD (t .calls) i 0) ≡ true) → ordersRight t 0 n ≡ true
+    → ((i : ℕ) → i < n → isCapital (getD (t .triggers) i 0) && refersTo isCalled t (getD (t .calls) i 0) ≡ true) → ordersRight t 0 n ≡ true
 unfolding ordersRight
 orders-laid t n right = go n 0 (zero-add n)
   where
@@ -188,7 +188,7 @@ nothing = record {
   tones = replicate mostTones (pos 0);
   kinds = replicate mostChanges 0;
   changes = replicate mostChanges (pos 0);
-  letters = replicate mostOrders 0;
+  triggers = replicate mostOrders 0;
   calls = replicate mostOrders 0;
   counts = replicate countsSize 0;
 }
@@ -206,7 +206,7 @@ nothing-valid = valid-is nothing (record {
     tones = length-replicate mostTones (pos 0);
     kinds = length-replicate {A = ℕ} mostChanges 0;
     changes = length-replicate mostChanges (pos 0);
-    letters = length-replicate {A = ℕ} mostOrders 0;
+    triggers = length-replicate {A = ℕ} mostOrders 0;
     calls = length-replicate {A = ℕ} mostOrders 0;
     counts = length-replicate {A = ℕ} countsSize 0;
   };
@@ -218,6 +218,6 @@ nothing-valid = valid-is nothing (record {
   tones = none-laid toneRight mostTones;
   changes = none-laid changeRight mostChanges;
   orders = refl;
-  lettersAfter = noughts mostOrders;
+  triggersAfter = noughts mostOrders;
   callsAfter = noughts mostOrders;
 })

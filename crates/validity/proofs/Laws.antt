@@ -54,7 +54,7 @@ valid-of t h =
     let rs = declarations (t .rows) 0 (c .rows) in
     let whole = taken (fullSize t) _ h in
     let a = both _ (allNought (drop (c .orders) (t .calls))) (whole .1) in
-    let b = both _ (allNought (drop (c .orders) (t .letters))) (a .0) in
+    let b = both _ (allNought (drop (c .orders) (t .triggers))) (a .0) in
     let d = both _ (ordersRight t 0 (c .orders)) (b .0) in
     let e = both _ (listRight changeRight (c .changes) (t .kinds) (t .changes)) (d .0) in
     let f = both _ (listRight toneRight (c .tones) (t .sounding) (t .tones)) (e .0) in
@@ -98,13 +98,13 @@ module _ (t : Tables) where
       ]
 
   abbrev OrderRight : ℕ → Type 0
-  OrderRight j = (isCapital (getD (t .letters) j 0) ≡ true) × (refersTo isCalled t (getD (t .calls) j 0) ≡ true)
+  OrderRight j = (isCapital (getD (t .triggers) j 0) ≡ true) × (refersTo isCalled t (getD (t .calls) j 0) ≡ true)
 
   orders-at : (i n j : ℕ) → ordersRight t i n ≡ true → i ≤ j → j < i + n → OrderRight j
   unfolding ordersRight
   orders-at i zero j h k m = let e : ⊥ = omega arith in absurd e
   orders-at i (suc n) j h k m =
-      let letter = isCapital (getD (t .letters) i 0) in
+      let letter = isCapital (getD (t .triggers) i 0) in
       let known = refersTo isCalled t (getD (t .calls) i 0) in
       let a = both (letter && known) (ordersRight t (suc i) n) h in
       elim (decLt i j) [
@@ -394,8 +394,8 @@ module _ (t : Tables) (h : validTables t ≡ true) (i : ℕ) (k : i < orderCount
       let r = readAt (t .rows) j in
       refers t isCalled systemForm logicForm j (called (r .first) (r .second) (r .from) (r .to) (r .form)) (order-right .1)
 
-  pub order-letter : getD (t .letters) i 0 ≤ lastLetter
-  order-letter = let n = getD (t .letters) i 0 in leb-true n lastLetter (both (leb firstLetter n) (leb n lastLetter) (order-right .0) .1)
+  pub order-letter : getD (t .triggers) i 0 ≤ lastLetter
+  order-letter = let n = getD (t .triggers) i 0 in leb-true n lastLetter (both (leb firstLetter n) (leb n lastLetter) (order-right .0) .1)
 
 -- the slices of valid tables are of full size
 pub slices-valid : (numbers : List ℤ) (codes : List ℕ) → validTables (tablesIn numbers codes) ≡ true → Slices numbers codes

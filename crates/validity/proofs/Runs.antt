@@ -281,22 +281,22 @@ start-less s h = omega (signed, diff s (pos 1), abs (s -ℤ pos 1), abs s)
 
 -- ---- orders
 
-module _ (rows : List ℤ) (count : ℕ) (letters calls : List ℕ) where
+module _ (rows : List ℤ) (count : ℕ) (triggers calls : List ℕ) where
   abbrev pub orderRight : ℕ → Bool
-  orderRight i = isLetterCode (pos (getD letters i 0)) && isForm rows count systemForm logicForm (getD calls i 0)
+  orderRight i = isLetterCode (pos (getD triggers i 0)) && isForm rows count systemForm logicForm (getD calls i 0)
 
-  pub order-wrong : (i n : ℕ) → i < n → orderRight i ≡ false → fastOrders rows count letters calls i (n - i) ≡ false
+  pub order-wrong : (i n : ℕ) → i < n → orderRight i ≡ false → fastOrders rows count triggers calls i (n - i) ≡ false
   unfolding fastOrders
   order-wrong i n h e =
       let s : n - i ≡ suc (n - (i + 1)) = omega arith in
       rw (s, e)
 
-  pub orders-turn : (i n : ℕ) → i < n → orderRight i ≡ true → fastOrders rows count letters calls (i + 1) (n - (i + 1)) ≡ fastOrders rows count letters calls i (n - i)
+  pub orders-turn : (i n : ℕ) → i < n → orderRight i ≡ true → fastOrders rows count triggers calls (i + 1) (n - (i + 1)) ≡ fastOrders rows count triggers calls i (n - i)
   unfolding fastOrders
   orders-turn i n h e =
       let s : n - i ≡ suc (n - (i + 1)) = omega arith in
       rw (s, add-one i, e)
 
-  pub orders-end : (i n : ℕ) → n ≤ i → fastOrders rows count letters calls i (n - i) ≡ true
+  pub orders-end : (i n : ℕ) → n ≤ i → fastOrders rows count triggers calls i (n - i) ≡ true
   unfolding fastOrders
   orders-end i n h = let e : n - i ≡ 0 = omega arith in rw e

@@ -302,7 +302,7 @@ module _ (t : Tables) where
         ends-same (r .first) (r .second) (r .from) (r .to) e (r .form),
       )
 
-  orders-same : (i n : ℕ) → ordersRight t i n ≡ fastOrders (t .rows) (rowCount t) (t .letters) (t .calls) i n
+  orders-same : (i n : ℕ) → ordersRight t i n ≡ fastOrders (t .rows) (rowCount t) (t .triggers) (t .calls) i n
   unfolding ordersRight fastOrders
   orders-same i zero = refl
   orders-same i (suc n) = rw (called-same t (getD (t .calls) i 0), orders-same (suc i) n)

@@ -42,7 +42,7 @@ abbrev pub contents : Tables → Counts → Bool
 contents t c =
     fastRows (t .rows) c (kinds 0 0 0 0 0) (ends 0 0 0) 0 (c .rows) && allZero (drop (rowWidth * c .rows) (t .rows))
     && fastList soundsCode isTone (c .tones) (t .sounding) (t .tones) && fastList setCode isSum (c .changes) (t .kinds) (t .changes)
-    && fastOrders (t .rows) (c .rows) (t .letters) (t .calls) 0 (c .orders) && allNought (drop (c .orders) (t .letters))
+    && fastOrders (t .rows) (c .rows) (t .triggers) (t .calls) 0 (c .orders) && allNought (drop (c .orders) (t .triggers))
     && allNought (drop (c .orders) (t .calls))
 
 pub valid-contents : (t : Tables) (c : Counts) → fullSize t ≡ true → c ≡ used t → countsRight c ≡ true → contents t c ≡ validTables t

@@ -8,9 +8,9 @@ use lib.IntN.{ℤ, pos}
 use lib.ListN.{getD, drop}
 use Rattle.tuning.specs.Desk.{isTone}
 use Rattle.tables.specs.declared.Counts.{Counts}
-use Rattle.tables.specs.Layout.{section, tablesIn, column, lettersIn, callsIn, rowWidth, orderWidth, mostTones, mostChanges, mostOrders, countsSize, countsOf, tonesAt, changesAt, soundingAt, kindsAt, ordersAt, systemForm, logicForm, soundsCode, setCode}
+use Rattle.tables.specs.Layout.{section, tablesIn, column, triggersIn, callsIn, rowWidth, orderWidth, mostTones, mostChanges, mostOrders, countsSize, countsOf, tonesAt, changesAt, soundingAt, kindsAt, ordersAt, systemForm, logicForm, soundsCode, setCode}
 use Rattle.tables.specs.Values.{Slices}
-use Rattle.tables.proofs.Columns.{letter-at, call-at, letters-drop, calls-drop}
+use Rattle.tables.proofs.Columns.{letter-at, call-at, triggers-drop, calls-drop}
 use Rattle.tables.proofs.Sizes.{section-last, slices-full}
 use Rattle.validity.specs.Valid.{countsRight, kinds, ends, allZero, allNought, isSum, validTables}
 use Rattle.validity.specs.Inner.{isLetterCode, isForm, fastRows, fastOrders, fastList}
@@ -21,20 +21,20 @@ use Rattle.validity.proofs.Sizes.{valid-contents, crowded}
 
 pub order-told : (rows : List ℤ) (count : ℕ) (orders : List ℕ) (i : ℕ) {b : Bool} → b ≡ isForm rows count systemForm logicForm (getD orders (orderWidth * i + 1) 0)
     → isLetterCode (pos (getD orders (orderWidth * i) 0)) && b
-    ≡ isLetterCode (pos (getD (lettersIn orders) i 0)) && isForm rows count systemForm logicForm (getD (callsIn orders) i 0)
+    ≡ isLetterCode (pos (getD (triggersIn orders) i 0)) && isForm rows count systemForm logicForm (getD (callsIn orders) i 0)
 order-told rows count orders i {b} e =
     ap (λ (k : ℕ). isLetterCode (pos k) && b) (letter-at orders i)
-    ∙ ap (λ (x : Bool). isLetterCode (pos (getD (lettersIn orders) i 0)) && x) (e ∙ ap (isForm rows count systemForm logicForm) (call-at orders i))
+    ∙ ap (λ (x : Bool). isLetterCode (pos (getD (triggersIn orders) i 0)) && x) (e ∙ ap (isForm rows count systemForm logicForm) (call-at orders i))
 
 -- ---- orders that are zero
 
-nought-columns : (l : List ℕ) → allNought (lettersIn l) && allNought (callsIn l) ≡ allNought l
+nought-columns : (l : List ℕ) → allNought (triggersIn l) && allNought (callsIn l) ≡ allNought l
 unfolding column allNought
 nought-columns [] = refl
-nought-columns (x ∷ l) = swapped (eqb x 0) (allNought (callsIn l)) (allNought (lettersIn l)) ∙ ap (λ (b : Bool). eqb x 0 && b) (nought-columns l)
+nought-columns (x ∷ l) = swapped (eqb x 0) (allNought (callsIn l)) (allNought (triggersIn l)) ∙ ap (λ (b : Bool). eqb x 0 && b) (nought-columns l)
 
-pub nought-orders : (n : ℕ) (l : List ℕ) → allNought (drop (orderWidth * n) l) ≡ allNought (drop n (lettersIn l)) && allNought (drop n (callsIn l))
-nought-orders n l = sym (rw (letters-drop n l, calls-drop n l) (nought-columns (drop (orderWidth * n) l)))
+pub nought-orders : (n : ℕ) (l : List ℕ) → allNought (drop (orderWidth * n) l) ≡ allNought (drop n (triggersIn l)) && allNought (drop n (callsIn l))
+nought-orders n l = sym (rw (triggers-drop n l, calls-drop n l) (nought-columns (drop (orderWidth * n) l)))
 
 -- ---- the tests of the parts, one after the other
 
@@ -51,7 +51,7 @@ module _ {numbers : List ℤ} {codes : List ℕ} (s : Slices numbers codes) {u :
       → b ≡ allZero (drop (rowWidth * u .rows) (section 0 tonesAt numbers))
       → c ≡ fastList soundsCode isTone (u .tones) (section soundingAt mostTones codes) (section tonesAt mostTones numbers)
       → d ≡ fastList setCode isSum (u .changes) (section kindsAt mostChanges codes) (section changesAt mostChanges numbers)
-      → f ≡ fastOrders (section 0 tonesAt numbers) (u .rows) (lettersIn (section ordersAt (orderWidth * mostOrders) codes)) (callsIn (section ordersAt (orderWidth * mostOrders) codes)) 0 (u .orders)
+      → f ≡ fastOrders (section 0 tonesAt numbers) (u .rows) (triggersIn (section ordersAt (orderWidth * mostOrders) codes)) (callsIn (section ordersAt (orderWidth * mostOrders) codes)) 0 (u .orders)
       → g ≡ allNought (drop (orderWidth * u .orders) (section ordersAt (orderWidth * mostOrders) codes))
       → a && b && c && d && f && g ≡ validTables (tablesIn numbers codes)
   unfolding tablesIn
@@ -60,9 +60,9 @@ module _ {numbers : List ℤ} {codes : List ℕ} (s : Slices numbers codes) {u :
       let os = section-last ordersAt (orderWidth * mostOrders) codes (s .all-codes) in
       let zs = section-last changesAt mostChanges numbers (s .all-numbers) in
       let ed′ : d ≡ fastList setCode isSum (u .changes) (t .kinds) (t .changes) = ed ∙ ap (λ (l : List ℤ). fastList setCode isSum (u .changes) (t .kinds) l) zs in
-      let ef′ : f ≡ fastOrders (t .rows) (u .rows) (t .letters) (t .calls) 0 (u .orders) =
-      ef ∙ ap (λ (l : List ℕ). fastOrders (t .rows) (u .rows) (lettersIn l) (callsIn l) 0 (u .orders)) os in
+      let ef′ : f ≡ fastOrders (t .rows) (u .rows) (t .triggers) (t .calls) 0 (u .orders) =
+      ef ∙ ap (λ (l : List ℕ). fastOrders (t .rows) (u .rows) (triggersIn l) (callsIn l) 0 (u .orders)) os in
       let eg′ = eg ∙ ap (λ (l : List ℕ). allNought (drop (orderWidth * u .orders) l)) os ∙ nought-orders (u .orders) (drop ordersAt codes) in
       ap (λ (x : Bool). a && b && c && d && f && x) eg′
-      ∙ apart (a && b && c && d && f) (allNought (drop (u .orders) (t .letters))) (allNought (drop (u .orders) (t .calls)))
+      ∙ apart (a && b && c && d && f) (allNought (drop (u .orders) (t .triggers))) (allNought (drop (u .orders) (t .calls)))
       ∙ rw (ea, eb, ec, ed′, ef′) (valid-contents t u (slices-full numbers codes s) e h)

@@ -106,9 +106,9 @@ fastRows rows c k e i (suc n) =
     && fastRows rows c (kindsWith k (readAt rows i .form)) (endsWith e (readAt rows i .form) (readAt rows i .to)) (suc i) n
 
 unfoldable pub fastOrders : List ℤ → ℕ → List ℕ → List ℕ → ℕ → ℕ → Bool
-fastOrders rows count letters calls i zero = true
-fastOrders rows count letters calls i (suc n) =
-    isLetterCode (pos (getD letters i 0)) && isForm rows count systemForm logicForm (getD calls i 0) && fastOrders rows count letters calls (suc i) n
+fastOrders rows count triggers calls i zero = true
+fastOrders rows count triggers calls i (suc n) =
+    isLetterCode (pos (getD triggers i 0)) && isForm rows count systemForm logicForm (getD calls i 0) && fastOrders rows count triggers calls (suc i) n
 
 -- a kind up to `last` and a number in its range, zero where the kind is 0
 unfoldable pub fastEach : ℕ → (ℤ → Bool) → List ℕ → List ℤ → Bool
@@ -125,7 +125,7 @@ fastTables t =
     cond (fullSize t)
     (countsRight c && fastRows (t .rows) c (kinds 0 0 0 0 0) (ends 0 0 0) 0 (c .rows) && allZero (drop (rowWidth * c .rows) (t .rows))
     && fastList soundsCode isTone (c .tones) (t .sounding) (t .tones) && fastList setCode isSum (c .changes) (t .kinds) (t .changes)
-    && fastOrders (t .rows) (c .rows) (t .letters) (t .calls) 0 (c .orders) && allNought (drop (c .orders) (t .letters))
+    && fastOrders (t .rows) (c .rows) (t .triggers) (t .calls) 0 (c .orders) && allNought (drop (c .orders) (t .triggers))
     && allNought (drop (c .orders) (t .calls)))
     false
 

@@ -213,7 +213,7 @@ partsFollow c e (r ∷ rs) = follows e (belonging r) && partsFollow c (endsAfter
 
 unfoldable pub ordersRight : Tables → ℕ → ℕ → Bool
 ordersRight t i zero = true
-ordersRight t i (suc n) = isCapital (getD (t .letters) i 0) && refersTo isCalled t (getD (t .calls) i 0) && ordersRight t (suc i) n
+ordersRight t i (suc n) = isCapital (getD (t .triggers) i 0) && refersTo isCalled t (getD (t .calls) i 0) && ordersRight t (suc i) n
 
 -- ---- tones and changes: the used ones in their ranges, with the numbers that they have, and the others zeros
 
@@ -257,6 +257,6 @@ validTables t =
     cond (fullSize t)
     (countsRight c && rowsRight t 0 (c .rows) && kindsRight (kindsFrom (kinds 0 0 0 0 0) rs) && partsFollow c (ends 0 0 0) rs
     && allZero (drop (rowWidth * c .rows) (t .rows)) && listRight toneRight (c .tones) (t .sounding) (t .tones)
-    && listRight changeRight (c .changes) (t .kinds) (t .changes) && ordersRight t 0 (c .orders) && allNought (drop (c .orders) (t .letters))
+    && listRight changeRight (c .changes) (t .kinds) (t .changes) && ordersRight t 0 (c .orders) && allNought (drop (c .orders) (t .triggers))
     && allNought (drop (c .orders) (t .calls)))
     false

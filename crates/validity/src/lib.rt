@@ -51,7 +51,7 @@ ghost use Prim.Native.Nat.{_+_, _*_, _≤_, _<_};
 ghost use lib.ListN.{length, drop, take};
 ghost use lib.Seq.{slice};
 ghost use Rattle.tuning.specs.Desk.{between, isTone};
-ghost use Rattle.tables.specs.Layout.{tablesIn, lettersIn, callsIn, mostRows, rowWidth, orderWidth, readAt, intervalForm, toneForm, logicForm, divideCode, soundsCode, setCode};
+ghost use Rattle.tables.specs.Layout.{tablesIn, triggersIn, callsIn, mostRows, rowWidth, orderWidth, readAt, intervalForm, toneForm, logicForm, divideCode, soundsCode, setCode};
 ghost use Rattle.tables.specs.Values.{Slices};
 ghost use Rattle.validity.specs.Valid.{countsRight, isSum, noPart, kinds, kindsRight, ends, endsRight, allZero, allNought, validTables};
 ghost use Rattle.validity.specs.Inner.{isZero, isAmount, isPartAt, isForm, isStartCode, fastRow, hasNaturals, isValue, valueRight, kindsWith, others, kindsAmong, endsWith, fastRows, fastOrders, fastEach, fastList};
@@ -448,7 +448,7 @@ fn are_changes(kinds: &[u16], changes: &[i32], used: usize) -> bool
 // Whether the used orders are right.
 fn are_orders(rows: &[i32], orders: &[u16], used: Counts) -> bool
     requires { ⌜ (orderWidth * used .orders ≤ length (now orders)) × (rowWidth * used .rows ≤ length (now rows)) ⌝ }
-    ensures { λ r. ⌜ r ≡ fastOrders (now (rows .entry)) (used .rows) (lettersIn (now (orders .entry))) (callsIn (now (orders .entry))) 0 (used .orders) ⌝ }
+    ensures { λ r. ⌜ r ≡ fastOrders (now (rows .entry)) (used .rows) (triggersIn (now (orders .entry))) (callsIn (now (orders .entry))) 0 (used .orders) ⌝ }
 {
     let end = used.orders as usize;
     let mut i: usize = 0;

@@ -4,7 +4,7 @@ use Prim.Native.Nat.{_-_, _*_, _≤_, _+_}
 use native.Mathlib.Nat.{sub-zero}
 use native.Mathlib.Omega.{arith}
 use borrow.Author.Tests.{not-true, not-false}
-use Rattle.tables.specs.Layout.{orderWidth, lettersIn, callsIn}
+use Rattle.tables.specs.Layout.{orderWidth, triggersIn, callsIn}
 use Rattle.validity.proofs.Runs.{order-wrong, orders-turn, orders-end}
 use Rattle.validity.proofs.Slices.{order-told}
 use Rattle.validity.specs.Inner.{fastOrders}
@@ -14,7 +14,7 @@ use Rattle.validity.proofs.are_orders.Tie as tie
 
 abbrev Inv-loop : tie.InvT-loop
 Inv-loop rows orders used end i₀ i = (i ≤ used .orders)
-    × (fastOrders rows (used .rows) (lettersIn orders) (callsIn orders) i (used .orders - i) ≡ fastOrders rows (used .rows) (lettersIn orders) (callsIn orders) 0 (used .orders))
+    × (fastOrders rows (used .rows) (triggersIn orders) (callsIn orders) i (used .orders - i) ≡ fastOrders rows (used .rows) (triggersIn orders) (callsIn orders) 0 (used .orders))
 
 abbrev μ-loop : tie.MeasureT-loop
 μ-loop rows orders used end i₀ i = used .orders - i
@@ -24,7 +24,7 @@ cast-end c = search needs
 
 loop-holds : tie.Need-loop-holds Inv-loop μ-loop
 loop-holds c = let a = c .before .before .args in
-    (omega arith, ap (fastOrders (a .rows .now) (a .used .rows) (lettersIn (a .orders .now)) (callsIn (a .orders .now)) 0) (sub-zero (a .used .orders)))
+    (omega arith, ap (fastOrders (a .rows .now) (a .used .rows) (triggersIn (a .orders .now)) (callsIn (a .orders .now)) 0) (sub-zero (a .used .orders)))
 
 mul-at : tie.Need-mul-at Inv-loop μ-loop
 mul-at c = search needs
@@ -55,7 +55,7 @@ returns c = let a = c .before .before .before .before .before .before .before .b
     let i = c .before .before .before .before .before .loop .i in
     let os = a .orders .now in
     let wrong = sym (order-told (a .rows .now) (a .used .rows) os i (c .before .is-form .ensures)) ∙ not-true _ (c .if1 .taken) in
-    sym (order-wrong (a .rows .now) (a .used .rows) (lettersIn os) (callsIn os) i (a .used .orders) (c .before .before .before .before .loop-test .taken) wrong) ∙ c .before .before .before .before .before .loop .inv .1
+    sym (order-wrong (a .rows .now) (a .used .rows) (triggersIn os) (callsIn os) i (a .used .orders) (c .before .before .before .before .loop-test .taken) wrong) ∙ c .before .before .before .before .before .loop .inv .1
 
 add-i : tie.Need-add-i Inv-loop μ-loop
 add-i c = search needs
@@ -69,12 +69,12 @@ loop-again c = let a = c .before .before .before .before .before .before .before
     let os = a .orders .now in
     let taken = c .before .before .before .before .loop-test .taken in
     let right = sym (order-told (a .rows .now) (a .used .rows) os i (c .before .is-form .ensures)) ∙ not-false _ (c .if1 .left) in
-    (omega (arith, taken), orders-turn (a .rows .now) (a .used .rows) (lettersIn os) (callsIn os) i (a .used .orders) taken right ∙ c .before .before .before .before .before .loop .inv .1)
+    (omega (arith, taken), orders-turn (a .rows .now) (a .used .rows) (triggersIn os) (callsIn os) i (a .used .orders) taken right ∙ c .before .before .before .before .before .loop .inv .1)
 
 returns-2 : tie.Need-returns-2 Inv-loop μ-loop
 returns-2 c = let a = c .before .before .before .before .args in
     let os = a .orders .now in
-    sym (orders-end (a .rows .now) (a .used .rows) (lettersIn os) (callsIn os) (c .before .loop .i) (a .used .orders) (c .loop-test .left)) ∙ c .before .loop .inv .1
+    sym (orders-end (a .rows .now) (a .used .rows) (triggersIn os) (callsIn os) (c .before .loop .i) (a .used .orders) (c .loop-test .left)) ∙ c .before .loop .inv .1
 
 pub are-orders-spec : {M : Type 1} → statement M
 are-orders-spec =

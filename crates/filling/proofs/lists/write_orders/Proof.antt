@@ -4,7 +4,7 @@ use mathlib.Core.Path.{_≡_, refl, sym, _∙_, ap, subst}
 use mathlib.Core.List.{List, [], _∷_, map, map-id}
 use native.Mathlib.Omega.{arith}
 use Rattle.names.specs.Parts.{part}
-use Rattle.tables.specs.Layout.{lettersIn, callsIn}
+use Rattle.tables.specs.Layout.{triggersIn, callsIn}
 use Rattle.tables.proofs.Columns.{columns-length}
 use Rattle.program.specs.Program.{Order, orderThen, ordersOf}
 use Rattle.valuation.specs.Inner.{itemsBetween}
@@ -21,8 +21,8 @@ abbrev asIs : Order → Order
 asIs x = x
 
 abbrev Inv-loop : tie.InvT-loop
-Inv-loop items from to orders₀ at count₀ i₀ orders count i = Making FitOrder asIs letterOf callOf (ordersOf (itemsBetween items from to)) at (lettersIn orders₀) (callsIn orders₀) (ordersOf (itemsBetween items i to))
-    (lettersIn orders) (callsIn orders) count
+Inv-loop items from to orders₀ at count₀ i₀ orders count i = Making FitOrder asIs letterOf callOf (ordersOf (itemsBetween items from to)) at (triggersIn orders₀) (callsIn orders₀) (ordersOf (itemsBetween items i to))
+    (triggersIn orders) (callsIn orders) count
 
 abbrev μ-loop : tie.MeasureT-loop
 μ-loop items from to orders₀ at count₀ i₀ orders count i = to - i
@@ -91,7 +91,7 @@ same-length c = let inv = c .before .loop .inv in
 returns : tie.Need-returns Inv-loop μ-loop
 returns c = let os = c .before .before .before .before .args .orders .now in
     subst
-    (λ (l : List Order). Appended letterOf callOf l (c .before .before .before .before .args .at) (lettersIn os) (callsIn os) (c .before .loop .count) (lettersIn (c .before .loop .orders)) (callsIn (c .before .loop .orders)))
+    (λ (l : List Order). Appended letterOf callOf l (c .before .before .before .before .args .at) (triggersIn os) (callsIn os) (c .before .loop .count) (triggersIn (c .before .loop .orders)) (callsIn (c .before .loop .orders)))
     (map-id _)
     (making-all (c .before .loop .inv) (orders-end _ _ _ (c .loop-test .left)))
 

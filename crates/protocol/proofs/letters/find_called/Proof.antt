@@ -5,7 +5,7 @@ use mathlib.Core.Option.{Option, none}
 use Prim.Native.Nat.{ℕ, _*_}
 use lib.ListN.{take, drop}
 use lib.Seq.{slice}
-use Rattle.tables.specs.Layout.{Tables, tablesIn, rowCount, ordersAt, orderWidth, mostOrders, lettersIn, callsIn}
+use Rattle.tables.specs.Layout.{Tables, tablesIn, rowCount, ordersAt, orderWidth, mostOrders, triggersIn, callsIn}
 use Rattle.tables.proofs.Sizes.{section-last}
 use Rattle.protocol.specs.declared.Active.the-variants as active
 use Rattle.protocol.specs.Letters.{firstLogic, firstOrder, elseOrder}
@@ -111,7 +111,7 @@ unfolding tablesIn
 find-order-requires c κs =
     let a = (c .before .before .before .before .before .before .before .before .before .before .before .before) in
     let there = subst (OrdersThere (lent a)) (sym (c .before .before .before .before .row-at .ensures) ∙ c .before .before .from .given .1) (readable ((c .before .before .before .before .before .before .before)) .1) in
-    subst (λ (os : List ℕ). OrderPart (lettersIn os) (callsIn os) (c .before .before .from .given .0 .1 .1 .0) (c .before .before .from .given .0 .1 .1 .1 .0)) (sym (orders-all a)) there
+    subst (λ (os : List ℕ). OrderPart (triggersIn os) (callsIn os) (c .before .before .from .given .0 .1 .1 .0) (c .before .before .from .given .0 .1 .1 .1 .0)) (sym (orders-all a)) there
 
 returns-4 : tie.Need-returns-4
 unfolding tablesIn
@@ -121,7 +121,7 @@ returns-4 c =
     let from = c .before .before .before .from .given .0 .1 .1 .0 in
     let to = c .before .before .before .from .given .0 .1 .1 .1 .0 in
     c .find-order .ensures
-    ∙ ap (λ (os : List ℕ). calledIn (t .rows) (firstOrder (a .args .letter) (slice from to (lettersIn os)) (slice from to (callsIn os)))) (orders-all a)
+    ∙ ap (λ (os : List ℕ). calledIn (t .rows) (firstOrder (a .args .letter) (slice from to (triggersIn os)) (slice from to (callsIn os)))) (orders-all a)
     ∙ ap (calledIn (t .rows)) (order-active t (a .args .letter) (a .args .active) (no-logic ((c .before .before .before .before .before .before .before .before .before .before))) (c .before .before .before .before .before .before .before .before .active .given .1) (sym (c .before .before .before .from .given .1) ∙ c .before .before .before .before .before .row-at .ensures))
 
 pub find-called-spec : {M : Type 1} → statement M

@@ -2,14 +2,14 @@
 -- asked for. Assumes nothing.
 use Prim.Native.Nat.{_-_, _+_, _*_}
 use native.Mathlib.Omega.{arith}
-use Rattle.tables.specs.Layout.{orderWidth, lettersIn, callsIn}
+use Rattle.tables.specs.Layout.{orderWidth, triggersIn, callsIn}
 use Rattle.protocol.proofs.Records.{Gathering, gathering-starts, gathering-order, gathering-ends, letter-byte, codes-there}
 use borrow.Author.Needs.{needs}
 use Rattle.protocol.proofs.letters.gather_orders.Statement.{statement}
 use Rattle.protocol.proofs.letters.gather_orders.Tie as tie
 
 abbrev Inv-loop : tie.InvT-loop
-Inv-loop rows orders from to all₀ i₀ all i = Gathering rows (lettersIn orders) (callsIn orders) from to all i
+Inv-loop rows orders from to all₀ i₀ all i = Gathering rows (triggersIn orders) (callsIn orders) from to all i
 
 abbrev μ-loop : tie.MeasureT-loop
 μ-loop rows orders from to all₀ i₀ all i = to - i

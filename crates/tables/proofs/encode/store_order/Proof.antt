@@ -3,7 +3,7 @@ use mathlib.Core.Path.{sym}
 use native.Mathlib.Omega.{arith}
 use borrow.Author.Needs.{needs}
 use lib.Seq.{set-out}
-use Rattle.tables.specs.Layout.{lettersIn, callsIn}
+use Rattle.tables.specs.Layout.{triggersIn, callsIn}
 use Rattle.tables.proofs.Columns.{columns-length, order-stored}
 use Rattle.tables.proofs.encode.store_order.Statement.{statement}
 use Rattle.tables.proofs.encode.store_order.Tie as tie
@@ -12,7 +12,7 @@ returns : tie.Need-returns
 returns c =
     let l = c .before .before .args .orders .now in
     let e = columns-length l in
-    (sym (set-out (lettersIn l) (c .before .before .args .i) (c .before .before .args .letter) (omega arith)), sym (set-out (callsIn l) (c .before .before .args .i) (c .before .before .args .called) (omega arith)))
+    (sym (set-out (triggersIn l) (c .before .before .args .i) (c .before .before .args .letter) (omega arith)), sym (set-out (callsIn l) (c .before .before .args .i) (c .before .before .args .called) (omega arith)))
 
 mul-at : tie.Need-mul-at
 mul-at c = search needs
