@@ -5,7 +5,7 @@ use mathlib.Core.List.{[], _∷_}
 use Rattle.symbols.specs.declared.MarkKind.the-variants.{Minus, WidthOpen, Arrow}
 use Rattle.symbols.specs.declared.Symbol.the-variants.{Bad, End, Name, Number, Mark}
 use Rattle.symbols.specs.declared.spelling.Letter.the-variants.{Missing, Capital}
-use Rattle.symbols.specs.declared.words.Word.the-variants.{Plain, Retuning, Unused}
+use Rattle.symbols.specs.declared.words.Word.the-variants.{Plain, Retuning, Harmony, Unused}
 use Rattle.ascii.specs.Ascii.{byte, bytes}
 use Rattle.symbols.specs.Bytes.{isBlank, isDigit, isHexDigit, isCapital, isLetter, inName, small, same, takeWhile}
 use Rattle.symbols.specs.Symbols.{marks, markIn, markOr, markAt, runEnd, digitsTo, pointed, decimalAt, hexAt, symbolAt, symbolFrom, nextSymbol, after, cut, symbolsFrom, symbols}
@@ -78,7 +78,11 @@ word : wordOf (spelled (bytes "Umstimmung")) ≡ Retuning
 unfolding opened
 word = refl
 
-unused-word : wordOf (spelled (bytes "harmony")) ≡ Unused
+harmony-word : wordOf (spelled (bytes "Harmonie")) ≡ Harmony
+unfolding opened
+harmony-word = refl
+
+unused-word : wordOf (spelled (bytes "pattern")) ≡ Unused
 unfolding opened
 unused-word = refl
 

@@ -4,12 +4,12 @@ use Prim.Native.String.{String}
 use mathlib.Core.List.{List, [], _∷_}
 use mathlib.Core.Bool.{cond}
 use Rattle.symbols.specs.declared.words.Word.{Word}
-use Rattle.symbols.specs.declared.words.Word.the-variants.{Plain, Interval, Tone, ToneSystem, Retuning, Logic, Key, Root, Unused}
+use Rattle.symbols.specs.declared.words.Word.the-variants.{Plain, Interval, Tone, ToneSystem, Retuning, Logic, Key, Root, Harmony, Unused}
 use Rattle.ascii.specs.Ascii.{bytes}
 use Rattle.symbols.specs.Bytes.{same}
 use Rattle.symbols.specs.Names.{spelled}
 
--- "The ones used here", and then those of no use here
+-- "The ones used here", and then those of no use here; document 02, 5/13: "A harmony is declared, as `HARMONY C = { 0, 4, *7 }` (or HARMONIE)"
 unfoldable pub words : List (String × Word)
 words =
     ("INTERVAL", Interval)
@@ -31,8 +31,8 @@ words =
     ∷ ("SHIFTED", Unused)
     ∷ ("PATTERN", Unused)
     ∷ ("FORM", Unused)
-    ∷ ("HARMONY", Unused)
-    ∷ ("HARMONIE", Unused)
+    ∷ ("HARMONY", Harmony)
+    ∷ ("HARMONIE", Harmony)
     ∷ ("MIDIIN", Unused)
     ∷ ("MIDIOUT", Unused)
     ∷ ("MIDICHANNEL", Unused)

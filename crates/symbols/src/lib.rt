@@ -13,7 +13,7 @@ ghost use Rattle.symbols.specs.Symbols.{marks, markIn, markOr, markAt, d
 ghost use Rattle.symbols.specs.Inner.{asSign};
 ghost use Rattle.symbols.specs.declared.Symbol.the-variants.{Bad};
 
-// The marks `= : + - * / [ ] , @ << >> ->`.
+// The marks `= : + - * / [ ] , @ { } << >> ->`.
 pub enum MarkKind {
     Equals,
     Colon,
@@ -25,6 +25,8 @@ pub enum MarkKind {
     Close,
     Comma,
     At,
+    BraceOpen,
+    BraceClose,
     WidthOpen,
     WidthClose,
     Arrow,
@@ -204,6 +206,8 @@ fn single_mark(b: u8) -> Sign
         b']' => Sign::Kind(MarkKind::Close),
         b',' => Sign::Kind(MarkKind::Comma),
         b'@' => Sign::Kind(MarkKind::At),
+        b'{' => Sign::Kind(MarkKind::BraceOpen),
+        b'}' => Sign::Kind(MarkKind::BraceClose),
         _ => Sign::Missing,
     }
 }

@@ -19,6 +19,7 @@ pub enum Word {
     Logic,
     Key,
     Root,
+    Harmony,
     // Reserved, and of no use here.
     Unused,
 }
@@ -77,8 +78,8 @@ const KINDS: [Word; 26] = [
     Word::Unused,
     Word::Unused,
     Word::Unused,
-    Word::Unused,
-    Word::Unused,
+    Word::Harmony,
+    Word::Harmony,
     Word::Unused,
     Word::Unused,
     Word::Unused,
