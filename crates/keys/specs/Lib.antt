@@ -1,0 +1,3 @@
+-- The held keys of both houses.
+pub mod Keys
+pub mod Laws
