@@ -1,20 +1,21 @@
 // The held keys of both houses, as a value: which are held, and a key that goes down or up.
 use cents::KeyNumber;
 ghost use mathlib.Core.Path.{_≡_};
-ghost use Prim.Native.Nat.{_*_, _<_};
-ghost use Rattle.keys.specs.Keys.{Place, place, keyCount, noKeys, isHeld, wentDown, wentUp};
+ghost use Prim.Native.Nat.{_*_, _≤_, _<_};
+ghost use Rattle.keys.specs.Keys.{Place, place, keyCount, wordSize, noKeys, isHeld, wentDown, wentUp};
+ghost use Rattle.keys.specs.Inner.{HeldFrom};
 
 // The keys of a house.
 pub const KEYS: usize = 128;
 
 // The keys of both houses, 64 to a word: a desk is handed on at every frame, and so few words cost little.
-pub const WORD: usize = 64;
+const WORD: usize = 64;
 
-pub const WORDS: usize = 2 * KEYS / WORD;
+const WORDS: usize = 2 * KEYS / WORD;
 
 // The sets of held keys: the first house's keys, then the second's.
 pub struct HeldKeys {
-    pub words: [u64; WORDS],
+    words: [u64; WORDS],
 }
 
 // The held keys after a key has gone down or up, and the number.
@@ -44,6 +45,15 @@ impl HeldKeys {
     {
         let p = place_of(house, key);
         sets::has(self.words[p / WORD], (p % WORD) as u8)
+    }
+
+    // The keys of a house's lower or upper half that are held, counted from the half's first.
+    pub fn held_in_half(self, house: u8, half: u8) -> u64
+        requires { ⌜ (1 ≤ house) × (house ≤ 2) × (half < 2) ⌝ }
+        ensures { λ r. ⌜ HeldFrom self house (half * wordSize) r ⌝ }
+    {
+        let i = (house as usize - 1) * (KEYS / WORD) + half as usize;
+        self.words[i]
     }
 
     // A key goes down.
