@@ -10,7 +10,7 @@ use Rattle.sets.proofs.Tests.{eqb-sym, any-ext, any-none, any-first, any-split}
 use Rattle.sets.proofs.Members.{half, has-zero, has-beyond, has-added, has-setOf, set-below, same-sets}
 use Rattle.tuning.specs.Tuning.{positionIn}
 use Rattle.keys.specs.declared.HeldKeys.{HeldKeys}
-use Rattle.harmonies.specs.Harmonies.{isDown, isSounding, chordOf}
+use Rattle.harmonies.specs.Harmonies.{isDown, isHeldAt, chordOf}
 use Rattle.harmonies.specs.Inner.{DownFrom, reaches, Joined}
 use Rattle.harmonies.proofs.Places.{position-above}
 
@@ -32,8 +32,8 @@ module _ (keys r w s : ℕ) (h : keys < 2 ^ 64) (l : r < w) where
   next-reaches =
       lowest-first 63 keys (λ i. eqb ((r + i) % w) s) h
       ∙ ap₂ (λ (a b : Bool). has keys 0 && a || b)
-          (ap (λ (n : ℕ). eqb n s) (ap (λ (n : ℕ). n % w) (add-zero r) ∙ mod-eq-of-lt l) ∙ eqb-sym r s)
-          (any-ext 64 _ _ (λ i m. ap (λ (n : ℕ). has (keys / 2) i && eqb n s) (ap (λ (n : ℕ). n % w) (omega arith) ∙ sym (mod-add-mod (r + 1) w i))))
+      (ap (λ (n : ℕ). eqb n s) (ap (λ (n : ℕ). n % w) (add-zero r) ∙ mod-eq-of-lt l) ∙ eqb-sym r s)
+      (any-ext 64 _ _ (λ i m. ap (λ (n : ℕ). has (keys / 2) i && eqb n s) (ap (λ (n : ℕ). n % w) (omega arith) ∙ sym (mod-add-mod (r + 1) w i))))
 
   -- what the chord has and what the keys still reach stays
   pub stays : (chord : ℕ) (b : Bool) → has keys 0 ≡ b → has (cond b (added chord r) chord) s || reaches (keys / 2) ((r + 1) % w) w s ≡ has chord s || reaches keys r w s
@@ -55,9 +55,9 @@ module _ (h : HeldKeys) (a w : ℕ) (ha : a ≤ 127) (hw : 1 ≤ w) where
 
   pub both-halves : (lower upper low high : ℕ) → DownFrom h 0 lower → DownFrom h 64 upper → Joined 0 lower (positionIn a w 0) w low
       → Joined low upper (positionIn a w 64) w high → high ≡ chordOf h a w
-  both-halves lower upper low high d e i j = same-sets 60 high (chordOf h a w) (j .within) (set-below 60 (isSounding h a w)) (λ s l. members s ∙ sym (has-setOf 60 (isSounding h a w) s l))
+  both-halves lower upper low high d e i j = same-sets 60 high (chordOf h a w) (j .within) (set-below 60 (isHeldAt h a w)) (λ s l. members s ∙ sym (has-setOf 60 (isHeldAt h a w) s l))
     where
-      members : (s : ℕ) → has high s ≡ isSounding h a w s
+      members : (s : ℕ) → has high s ≡ isHeldAt h a w s
       members s =
           j .members s
           ∙ ap₂ _||_ (i .members s ∙ ap₂ _||_ (has-zero s) (half-reaches 0 lower s d ∙ any-ext 64 _ _ (λ k m. ap (λ (x : ℕ). isDown h x && eqb (positionIn a w x) s) (zero-add k)))) (half-reaches 64 upper s e)

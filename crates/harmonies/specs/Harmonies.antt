@@ -18,11 +18,11 @@ abbrev pub isDown : HeldKeys → ℕ → Bool
 isDown h x = isHeld h 1 x || isHeld h 2 x
 
 -- "projected by r into the present width": some held key has this r
-abbrev pub isSounding : HeldKeys → ℕ → ℕ → ℕ → Bool
-isSounding h anchor width r = any keyCount (λ x. isDown h x && eqb (positionIn anchor width x) r)
+abbrev pub isHeldAt : HeldKeys → ℕ → ℕ → ℕ → Bool
+isHeldAt h anchor width r = any keyCount (λ x. isDown h x && eqb (positionIn anchor width x) r)
 
 abbrev pub chordOf : HeldKeys → ℕ → ℕ → ℕ
-chordOf h anchor width = setOf mostPositions (isSounding h anchor width)
+chordOf h anchor width = setOf mostPositions (isHeldAt h anchor width)
 
 -- ---- what matches it
 

@@ -33,15 +33,15 @@ pub record Names (ks : List HarmonyKey) (r : ℕ) : Type 0 where
   pub among : List·Memᴰ by ks
   pub number : by .key ≡ r
 
-pub record Sounds (chord width : ℕ) (ks : List HarmonyKey) : Type 0 where
+pub record Exactly (chord width : ℕ) (ks : List HarmonyKey) : Type 0 where
   pub allBelowWidth : (k : HarmonyKey) → List·Memᴰ k ks → k .key < width
   pub unstarredHeld : (k : HarmonyKey) → List·Memᴰ k ks → k .starred ≡ false → has chord (k .key) ≡ true
   pub nothingElseHeld : (r : ℕ) → r < mostPositions → has chord r ≡ true → Names ks r
 
 -- a match is that and no more (`matching`)
 pub record Matching (chord width : ℕ) (ks : List HarmonyKey) : Type 0 where
-  pub from : matches chord width (harmonyOf ks) ≡ true → Sounds chord width ks
-  pub to : Sounds chord width ks → matches chord width (harmonyOf ks) ≡ true
+  pub from : matches chord width (harmonyOf ks) ≡ true → Exactly chord width ks
+  pub to : Exactly chord width ks → matches chord width (harmonyOf ks) ≡ true
 
 -- "key numbers from 0 to 59"
 abbrev pub KeysInRange : List HarmonyKey → Type 0

@@ -23,7 +23,7 @@ pub struct Harmony {
     pub named: u64,
 }
 
-// "x - a = q·w + r": the r of a key, from the anchor a whole number of widths lower.
+// The r of a key, "x - a = q·w + r", from an anchor so many widths lower that no difference is negative.
 fn position_of(key: KeyNumber, anchor: KeyNumber, width: u8) -> u8
     requires { ⌜ (key .0 < keyCount) × (anchor .0 ≤ mostAnchor) × (1 ≤ width) ⌝ }
     ensures { λ r. ⌜ (r ≡ positionIn (anchor .0) width (key .0)) × (r < width) ⌝ }
@@ -84,8 +84,18 @@ pub fn project(held: HeldKeys, anchor: KeyNumber, width: u8) -> u64
     requires { ⌜ (anchor .0 ≤ mostAnchor) × (1 ≤ width) × (width ≤ mostPositions) ⌝ }
     ensures { λ r. ⌜ (r ≡ chordOf held (anchor .0) width) × (r < 2 ^ mostPositions) ⌝ }
 {
-    let lower = join(0, keys_down(held, 0), position_of(LOWER, anchor, width), width);
-    join(lower, keys_down(held, 1), position_of(UPPER, anchor, width), width)
+    let lower = join(
+        0,
+        keys_down(held, 0),
+        position_of(LOWER, anchor, width),
+        width,
+    );
+    join(
+        lower,
+        keys_down(held, 1),
+        position_of(UPPER, anchor, width),
+        width,
+    )
 }
 
 // Whether a harmony matches a chord.

@@ -12,7 +12,7 @@ shr-result c = search needs
 
 returns : tie.Need-returns
 unfolding matches
-returns c = 
+returns c =
     let a = c .args in
     sym
     (all-and 60 _ _

@@ -26,12 +26,12 @@ rem-result : tie.Need-rem-result
 rem-result c = search needs
 
 cast-result : tie.Need-cast-result
-cast-result c = 
+cast-result c =
     let a = c .before .before .args in
     omega (arith, mod-lt (a .key .0 + (a .width * 128 - a .anchor .0)) (c .before .before .pre .2))
 
 returns : tie.Need-returns
-returns c = 
+returns c =
     let a = c .before .before .args in (
       sym (position-plain (a .anchor .0) (a .width) (c .before .before .pre .1) (c .before .before .pre .2) (a .key .0)),
       mod-lt (a .key .0 + (a .width * 128 - a .anchor .0)) (c .before .before .pre .2),
