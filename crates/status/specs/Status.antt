@@ -1,4 +1,4 @@
--- Document 01, "Numbers returned": the one list of them, for every definition.
+-- Document 01, "Numbers returned", and what document 02 adds to it: the one list of them, for every definition.
 use Prim.Native.Nat.{ℕ}
 
 abbrev pub done : ℕ
@@ -65,6 +65,13 @@ abbrev pub toneOutOfRange : ℕ
 toneOutOfRange = 14
 
 -- ---- of a frame
+
+-- document 02, request 5/13: "17 for a key already held in that house, 18 for one not held"
+abbrev pub keyHeld : ℕ
+keyHeld = 17
+
+abbrev pub keyNotHeld : ℕ
+keyNotHeld = 18
 
 -- "answer buffer under 512 bytes"
 abbrev pub bufferTooSmall : ℕ

@@ -1,4 +1,4 @@
-// The numbers that calls return: document 01, "Numbers returned".
+// The numbers that calls return: document 01, "Numbers returned", and what document 02 adds to it.
 pub const DONE: u8 = 0;
 
 // Of a text.
@@ -32,6 +32,10 @@ pub const END_SILENT: u8 = 13;
 pub const TONE_OUT_OF_RANGE: u8 = 14;
 
 // Of a frame.
+pub const KEY_HELD: u8 = 17;
+
+pub const KEY_NOT_HELD: u8 = 18;
+
 pub const BUFFER_TOO_SMALL: u8 = 19;
 
 pub const KEY_SILENT: u8 = 20;

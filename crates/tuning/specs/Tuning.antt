@@ -50,6 +50,10 @@ amounts (Absolute n) a = pos n
 amounts Kept a = pos a
 amounts (Relative o n) a = operated o a n
 
+-- "Key x has x - a = q·w + r with r from 0 to w-1": its r
+abbrev pub positionIn : ℕ → ℕ → ℕ → ℕ
+positionIn anchor width x = floorMod (keyDistance x anchor) width
+
 module _ (S : Scale) where
   abbrev pub width : Tuning S → ℕ
   width s = length (s .tones)
@@ -61,11 +65,13 @@ module _ (S : Scale) where
   abbrev pub toneAt : Tuning S → ℕ → Sound (S .Tone)
   toneAt s r = getD (s .tones) r muted
 
+  -- the position of a key: its r
+  abbrev pub keyPosition : Tuning S → ℕ → ℕ
+  keyPosition s x = positionIn (s .anchor) (width s) x
+
   -- "Key x has x - a = q·w + r with r from 0 to w-1; its pitch is t(r) + q·P, silent if t(r) is muted."
   abbrev pub soundOf : Tuning S → ℕ → Sound (S .Tone)
-  soundOf s x =
-      let steps = keyDistance x (s .anchor) in
-      raised (S .times (floorDiv steps (width s)) (s .period)) (toneAt s (floorMod steps (width s)))
+  soundOf s x = raised (S .times (floorDiv (keyDistance x (s .anchor)) (width s)) (s .period)) (toneAt s (keyPosition s x))
 
   -- "pitch(b) - t(0)": the distance from position 0 to the key at the other end, silent where one of the two is
   abbrev pub apart : Sound (S .Tone) → Sound (S .Tone) → Sound (S .Step)

@@ -1,0 +1,4 @@
+-- The held keys of both houses.
+pub mod Keys
+pub mod Laws
+pub mod Inner
