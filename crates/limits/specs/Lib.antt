@@ -1,2 +1,2 @@
--- Document 01's table "Numbers allowed".
+-- Document 01's table "Numbers allowed", and what a request allows.
 pub mod Limits

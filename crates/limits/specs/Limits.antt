@@ -1,4 +1,4 @@
--- Document 01's table "Numbers allowed", in its order.
+-- Document 01's table "Numbers allowed", in its order, and then what a request allows.
 use Prim.Native.Nat.{ℕ, _+_}
 
 -- "text | 0 to 32,768 bytes"
@@ -63,10 +63,6 @@ mostLogics = 32
 abbrev pub mostRetunings : ℕ
 mostRetunings = 128
 
--- so many declarations of all kinds
-abbrev pub mostDeclarations : ℕ
-mostDeclarations = mostIntervals + mostToneNames + mostSystems + mostRetunings + mostLogics
-
 -- "orders in all logics together | 512"
 abbrev pub mostOrders : ℕ
 mostOrders = 512
@@ -85,3 +81,19 @@ firstLetter = 0x41
 
 abbrev pub lastLetter : ℕ
 lastLetter = 0x5A
+
+-- ---- Document 02, 5/13: "by key numbers from 0 to 59 in braces"; "at most 64 harmonies of at most 60 keys"
+
+abbrev pub mostHarmonies : ℕ
+mostHarmonies = 64
+
+abbrev pub mostHarmonyKeys : ℕ
+mostHarmonyKeys = 60
+
+abbrev pub mostHarmonyKey : ℕ
+mostHarmonyKey = 59
+
+-- ---- so many declarations of all kinds
+
+abbrev pub mostDeclarations : ℕ
+mostDeclarations = mostIntervals + mostToneNames + mostSystems + mostRetunings + mostLogics + mostHarmonies

@@ -1,5 +1,5 @@
-// Document 01's table "Numbers allowed", in its order: each number once for the code. specs/Limits.antt has the same numbers for definitions, and the
-// contracts of those who read them here tie the two.
+// Document 01's table "Numbers allowed", in its order, and then what a request allows: each number once for the code. specs/Limits.antt has the same
+// numbers for definitions, and the contracts of those who read them here tie the two.
 
 pub const MOST_BYTES: usize = 32_768;
 
@@ -39,12 +39,6 @@ pub const MOST_LOGICS: u16 = 32;
 
 pub const MOST_RETUNINGS: u16 = 128;
 
-pub const MOST_DECLARATIONS: usize = MOST_INTERVALS as usize
-    + MOST_TONE_NAMES as usize
-    + MOST_SYSTEMS as usize
-    + MOST_LOGICS as usize
-    + MOST_RETUNINGS as usize;
-
 pub const MOST_ORDERS: u16 = 512;
 
 pub const FARTHEST_TONE: i32 = 100_000_000;
@@ -55,3 +49,18 @@ pub const LONGEST_PERIOD: i32 = 12_000_000;
 pub const FIRST_LETTER: u8 = 0x41;
 
 pub const LAST_LETTER: u8 = 0x5A;
+
+// Document 02, 5/13: harmonies, the keys that one names, and the numbers of these, from 0.
+pub const MOST_HARMONIES: u16 = 64;
+
+pub const MOST_HARMONY_KEYS: u8 = 60;
+
+pub const MOST_HARMONY_KEY: u8 = 59;
+
+// So many declarations of all kinds.
+pub const MOST_DECLARATIONS: usize = MOST_INTERVALS as usize
+    + MOST_TONE_NAMES as usize
+    + MOST_SYSTEMS as usize
+    + MOST_LOGICS as usize
+    + MOST_RETUNINGS as usize
+    + MOST_HARMONIES as usize;

@@ -19,8 +19,8 @@ column-at (suc k) (x ∷ l) i =
     let e : orderWidth * i + suc k ≡ suc (orderWidth * i + k) = omega arith in
     rw e (column-at k l i)
 
-pub letter-at : (l : List ℕ) (i : ℕ) → getD l (orderWidth * i) 0 ≡ getD (triggersIn l) i 0
-letter-at l i =
+pub trigger-at : (l : List ℕ) (i : ℕ) → getD l (orderWidth * i) 0 ≡ getD (triggersIn l) i 0
+trigger-at l i =
     let e : orderWidth * i ≡ orderWidth * i + 0 = omega arith in
     ap (λ (m : ℕ). getD l m 0) e ∙ sym (column-at 0 l i)
 
@@ -49,14 +49,14 @@ column-other (suc k) (x ∷ l) zero v h = refl
 column-other (suc k) (x ∷ l) (suc m) v h = column-other k l m v (λ i e. h i (omega arith))
 
 -- an order that is stored
-pub order-stored : (l : List ℕ) (i letter called : ℕ) {a b : List ℕ} → a ≡ set l (orderWidth * i) letter → b ≡ set a (orderWidth * i + 1) called
-    → (triggersIn b ≡ set (triggersIn l) i letter) × (callsIn b ≡ set (callsIn l) i called)
-order-stored l i letter called {a} e f =
+pub order-stored : (l : List ℕ) (i trigger called : ℕ) {a b : List ℕ} → a ≡ set l (orderWidth * i) trigger → b ≡ set a (orderWidth * i + 1) called
+    → (triggersIn b ≡ set (triggersIn l) i trigger) × (callsIn b ≡ set (callsIn l) i called)
+order-stored l i trigger called {a} e f =
     let z : orderWidth * i ≡ orderWidth * i + 0 = omega arith in
-    let at : a ≡ set l (orderWidth * i + 0) letter = e ∙ ap (λ (m : ℕ). set l m letter) z in (
-      ap triggersIn f ∙ column-other 0 a (orderWidth * i + 1) called (λ j h. omega arith) ∙ ap triggersIn at ∙ column-set 0 l i letter,
+    let at : a ≡ set l (orderWidth * i + 0) trigger = e ∙ ap (λ (m : ℕ). set l m trigger) z in (
+      ap triggersIn f ∙ column-other 0 a (orderWidth * i + 1) called (λ j h. omega arith) ∙ ap triggersIn at ∙ column-set 0 l i trigger,
       ap callsIn f ∙ column-set 1 a i called ∙ ap (λ (r : List ℕ). set (callsIn r) i called) at
-          ∙ ap (λ (r : List ℕ). set r i called) (column-other 1 l (orderWidth * i + 0) letter (λ j h. omega arith)),
+          ∙ ap (λ (r : List ℕ). set r i called) (column-other 1 l (orderWidth * i + 0) trigger (λ j h. omega arith)),
     )
 
 -- ---- lengths

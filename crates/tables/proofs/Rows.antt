@@ -1,12 +1,14 @@
 -- A row and its numbers: each gives the other back, and which numbers a row can have. Assumes nothing.
 use mathlib.Core.Path.{_≡_, refl, sym, ap, _∙_}
 use mathlib.Core.List.{List}
-use Prim.Native.Nat.{ℕ, _+_, _*_, _≤_}
+use Prim.Native.Nat.{ℕ, _+_, _*_, _/_, _%_, _≤_, _<_}
 use native.Mathlib.Numerals.{add-one, add-two, add-three, add-four}
 use native.Mathlib.Omega.{arith}
 use lib.IntN.{ℤ, pos}
 use lib.ListN.{length, set, List·getD-eq-default}
 use lib.Seq.{sets}
+use mir.Syntax.{w32}
+use mir.Val.{SFits}
 use Rattle.tuning.specs.declared.Operator.the-variants.{Plus, Minus, Times, Divide}
 use Rattle.tuning.specs.declared.Amount.{Amount}
 use Rattle.tuning.specs.declared.Amount.the-variants.{Kept, Absolute, Relative}
@@ -19,8 +21,9 @@ use Rattle.tuning.specs.declared.Tone.the-variants.{Muted, At}
 use Rattle.tuning.specs.declared.Retuning.the-variants.{Anchor, Width, Period, Tones}
 use Rattle.tables.specs.declared.Numbers.{Numbers}
 use Rattle.tables.specs.declared.Row.{Row}
-use Rattle.tables.specs.declared.Row.the-variants.{Unused, Interval, Tone, System, Retuning, Logic}
-use Rattle.tables.specs.Layout.{rowWidth, numbers, unusedForm, amountCode, amountNumber, amountOf, periodCode, periodSum, periodOf, numbersOf, rowOf, written, readAt, soundingOf, pitchOf, toneOf, changeCode, changeNumber, changeOf, divideCode, onwardCode, logicForm}
+use Rattle.tables.specs.declared.Row.the-variants.{Unused, Interval, Tone, System, Retuning, Logic, Harmony}
+use Rattle.tables.specs.Layout.{rowWidth, numbers, unusedForm, amountCode, amountNumber, amountOf, periodCode, periodSum, periodOf, numbersOf, rowOf, written, readAt, soundingOf, pitchOf, toneOf, changeCode, changeNumber, changeOf, divideCode, onwardCode, harmonyForm, halfSet, allSets}
+use Rattle.tables.specs.Values.{NumbersFit}
 
 -- ---- decoding gives back what was encoded
 
@@ -36,6 +39,9 @@ period-back : (m : PeriodChange) → periodOf (periodCode m) (periodSum m) ≡ m
 period-back (Fresh d) = refl
 period-back (Onward d) = refl
 
+set-back : (s : ℕ) → s % halfSet + s / halfSet * halfSet ≡ s
+set-back s = omega arith
+
 pub row-back : (r : Row) → rowOf (numbersOf r) ≡ r
 unfolding rowOf
 row-back Unused = refl
@@ -47,6 +53,7 @@ row-back (Retuning (Width m) from to) = ap (λ (x : Amount). Retuning (Width x) 
 row-back (Retuning (Period m) from to) = ap (λ (x : PeriodChange). Retuning (Period x) from to) (period-back m)
 row-back (Retuning Tones from to) = refl
 row-back (Logic c s from to) = refl
+row-back (Harmony needed named) = rw (set-back needed, set-back named)
 
 pub tone-back : (t : SoundingTone) → toneOf (soundingOf t) (pitchOf t) ≡ t
 tone-back Muted = refl
@@ -71,7 +78,7 @@ pub period-code-small : (m : PeriodChange) → periodCode m ≤ onwardCode
 period-code-small (Fresh d) = omega arith
 period-code-small (Onward d) = omega arith
 
-pub form-small : (r : Row) → numbersOf r .form ≤ logicForm
+pub form-small : (r : Row) → numbersOf r .form ≤ harmonyForm
 form-small Unused = omega arith
 form-small (Interval d) = omega arith
 form-small (Tone p) = omega arith
@@ -81,6 +88,13 @@ form-small (Retuning (Width m) from to) = omega arith
 form-small (Retuning (Period m) from to) = omega arith
 form-small (Retuning Tones from to) = omega arith
 form-small (Logic c s from to) = omega arith
+form-small (Harmony needed named) = omega arith
+
+-- those of a harmony fit the table, its sets being of key numbers to 59
+pub harmony-fits : (needed named : ℕ) → needed < allSets → named < allSets → NumbersFit (numbersOf (Harmony needed named))
+harmony-fits needed named h k =
+    let f : SFits w32 (pos (needed / halfSet)) = record { sfits = omega arith } in
+    record { second = f; from = omega arith; to = omega arith }
 
 -- ---- reading
 

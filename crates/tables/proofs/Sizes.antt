@@ -66,7 +66,7 @@ section-size at k l h = length-take-le k (drop at l) (omega (arith, length-drop 
 pub section-last : {A : Type 0} (at k : ℕ) (l : List A) → length l ≡ at + k → section at k l ≡ drop at l
 section-last at k l e = take-all k (drop at l) (omega (arith, length-drop at l))
 
-alike : (a b : Bool) → (a ≡ true → b ≡ true) → (b ≡ true → a ≡ true) → a ≡ b
+pub alike : (a b : Bool) → (a ≡ true → b ≡ true) → (b ≡ true → a ≡ true) → a ≡ b
 alike true b h k = sym (h refl)
 alike false true h k = k refl
 alike false false h k = refl

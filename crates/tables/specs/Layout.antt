@@ -3,7 +3,7 @@
 use mathlib.Core.Path.{_≡_}
 use mathlib.Core.Bool.{Bool, cond, _&&_}
 use mathlib.Core.List.{List, [], _∷_, _++_}
-use Prim.Native.Nat.{ℕ, zero, suc, _+_, _-_, _*_}
+use Prim.Native.Nat.{ℕ, zero, suc, _+_, _-_, _*_, _/_, _%_}
 use lib.Dec.{eqb}
 use lib.IntN.{ℤ, pos}
 use lib.ListN.{length, getD, take, drop, replicate}
@@ -26,7 +26,7 @@ pub use Rattle.limits.specs.Limits.{mostOrders}
 pub use Rattle.tuning.specs.Capped.{farthestSum}
 use Rattle.tables.specs.declared.Numbers.{Numbers}
 use Rattle.tables.specs.declared.Row.{Row}
-use Rattle.tables.specs.declared.Row.the-variants.{Unused, Interval, Tone, System, Retuning, Logic}
+use Rattle.tables.specs.declared.Row.the-variants.{Unused, Interval, Tone, System, Retuning, Logic, Harmony}
 
 -- what is read: rows of five numbers; for each tone of a tone system whether it sounds and its pitch; for each change of a tones retuning its kind
 -- and its interval or pitch; for each order its trigger and the number of the declaration that it calls; and how many there are of each
@@ -91,7 +91,7 @@ kindsAt = soundingAt + mostTones
 abbrev pub ordersAt : ℕ
 ordersAt = kindsAt + mostChanges
 
--- an order is a row of two codes: its trigger (a letter, as its capital), and the number of the declaration that it calls
+-- an order is a row of two codes: its trigger, and the number of the declaration that it calls
 abbrev pub orderWidth : ℕ
 orderWidth = 2
 
@@ -137,6 +137,12 @@ NothingLeftOut =
     → let t = tablesIn numbers codes in
     (t .rows ++ (t .tones ++ t .changes) ≡ numbers) × (t .counts ++ (t .sounding ++ (t .kinds ++ woven (t .triggers) (t .calls))) ≡ codes)
 
+-- ---- a trigger: "Its bare name is a trigger beside `KEY letter`" (a harmony's: Document 02, 5/13)
+
+-- a letter's capital, or 256 and the number of the harmony's declaration
+abbrev pub harmonyBase : ℕ
+harmonyBase = 256
+
 -- ---- how many rows, tones, changes and orders are used
 
 abbrev pub countsOf : List ℕ → Counts
@@ -157,7 +163,7 @@ changeCount t = used t .changes
 abbrev pub orderCount : Tables → ℕ
 orderCount t = used t .orders
 
--- ---- a row's five numbers: its form, two numbers of its own, and from where to where what belongs to it stands
+-- ---- a row's five numbers: its form, two numbers of its own, and from where to where what belongs to it stands (a harmony's are four of its own)
 
 abbrev pub numbers : ℕ → ℤ → ℤ → ℕ → ℕ → Numbers
 numbers f a b m n = record { form = f; first = a; second = b; from = m; to = n }
@@ -189,6 +195,9 @@ tonesForm = 7
 
 abbrev pub logicForm : ℕ
 logicForm = 8
+
+abbrev pub harmonyForm : ℕ
+harmonyForm = 9
 
 -- an anchor or width: a code for `@`, for a number n, or for `@` with an operator and n; and n
 abbrev pub keptCode : ℕ
@@ -248,6 +257,14 @@ periodSum (Onward d) = d .0
 abbrev pub periodOf : ℕ → ℤ → PeriodChange
 periodOf code d = cond (eqb code freshCode) (Fresh (record { 0 = d })) (Onward (record { 0 = d }))
 
+-- a harmony: the set of its unstarred key numbers and the set of all that it names, bit k for number k ("by key numbers from 0 to 59 in braces"),
+-- each set as two numbers: its lower thirty bits, and the others
+abbrev pub halfSet : ℕ
+halfSet = 1_073_741_824
+
+abbrev pub allSets : ℕ
+allSets = halfSet * halfSet
+
 -- ---- a row as numbers, and numbers as a row
 
 abbrev pub retuningNumbers : RetuningForm → ℕ → ℕ → Numbers
@@ -263,6 +280,7 @@ numbersOf (Tone p) = numbers toneForm (p .0) (pos 0) 0 0
 numbersOf (System a P from to) = numbers systemForm (pos (a .0)) (P .0) from to
 numbersOf (Retuning r from to) = retuningNumbers r from to
 numbersOf (Logic c s from to) = numbers logicForm (pos c) (pos s) from to
+numbersOf (Harmony needed named) = numbers harmonyForm (pos (needed % halfSet)) (pos (needed / halfSet)) (named % halfSet) (named / halfSet)
 
 unfoldable pub rowOf : Numbers → Row
 rowOf r =
@@ -277,7 +295,8 @@ rowOf r =
     (cond (eqb (r .form) widthForm) (Retuning (Width (amountOf (up a) (up b))) m n)
     (cond (eqb (r .form) periodForm) (Retuning (Period (periodOf (up a) b)) m n)
     (cond (eqb (r .form) tonesForm) (Retuning Tones m n)
-    (cond (eqb (r .form) logicForm) (Logic (up a) (up b) m n) Unused)))))))
+    (cond (eqb (r .form) logicForm) (Logic (up a) (up b) m n)
+    (cond (eqb (r .form) harmonyForm) (Harmony (up a + up b * halfSet) (m + n * halfSet)) Unused))))))))
 
 -- the numbers of a row in the table, one after the other, and those of many rows
 abbrev pub written : Numbers → List ℤ
@@ -299,7 +318,7 @@ readAt rows i =
 abbrev pub rowAt : Tables → ℕ → Row
 rowAt t i = rowOf (readAt (t .rows) i)
 
--- a row as letters see it: a logic, with its letter, its start and from where to where its orders stand, or none
+-- a row as triggers see it: a logic, with its trigger, its start and from where to where its orders stand, or none
 pub data AsLogic : Type 0 where
   no-logic : AsLogic
   a-logic : ℕ → ℕ → ℕ → ℕ → AsLogic
@@ -311,6 +330,21 @@ asLogic (Tone p) = no-logic
 asLogic (System a P from to) = no-logic
 asLogic (Retuning r from to) = no-logic
 asLogic (Logic c s from to) = a-logic c s from to
+asLogic (Harmony needed named) = no-logic
+
+-- and a harmony, with its unstarred key numbers and all that it names, or none
+pub data AsHarmony : Type 0 where
+  no-harmony : AsHarmony
+  a-harmony : ℕ → ℕ → AsHarmony
+
+abbrev pub asHarmony : Row → AsHarmony
+asHarmony Unused = no-harmony
+asHarmony (Interval d) = no-harmony
+asHarmony (Tone p) = no-harmony
+asHarmony (System a P from to) = no-harmony
+asHarmony (Retuning r from to) = no-harmony
+asHarmony (Logic c s from to) = no-harmony
+asHarmony (Harmony needed named) = a-harmony needed named
 
 -- ---- tones and changes
 

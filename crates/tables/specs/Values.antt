@@ -37,7 +37,7 @@ pub record FieldsFit (r : Numbers) : Type 0 where
   pub anchor : r .form ≡ systemForm → up (r .first) < 2 ^ 8
   pub anchorBy : r .form ≡ anchorForm → up (r .second) < 2 ^ 16
   pub widthBy : r .form ≡ widthForm → up (r .second) < 2 ^ 16
-  pub letter : r .form ≡ logicForm → up (r .first) < 2 ^ 8
+  pub trigger : r .form ≡ logicForm → up (r .first) < 2 ^ 16
 
 -- the numbers of a row fit the table
 pub record NumbersFit (r : Numbers) : Type 0 where

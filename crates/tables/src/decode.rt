@@ -2,6 +2,8 @@
 use crate::ABSOLUTE_CODE;
 use crate::ANCHOR_FORM;
 use crate::FRESH_CODE;
+use crate::HALF_SET;
+use crate::HARMONY_FORM;
 use crate::INTERVAL_FORM;
 use crate::KEPT_CODE;
 use crate::LOGIC_FORM;
@@ -35,12 +37,12 @@ use tuning::Tone;
 use tuning::ToneChange;
 use tuning::ToneChanges;
 ghost use mathlib.Core.Path.{_≡_};
-ghost use Prim.Native.Nat.{_+_};
+ghost use Prim.Native.Nat.{_+_, _*_};
 ghost use lib.IntN.{pos};
 ghost use lib.ListN.{getD};
 ghost use Rattle.integers.specs.Parts.{up};
 ghost use Rattle.tuning.specs.State.{coded};
-ghost use Rattle.tables.specs.Layout.{amountOf, periodOf, rowOf, readAt, toneOf, changeOf, joinedFrom};
+ghost use Rattle.tables.specs.Layout.{halfSet, amountOf, periodOf, rowOf, readAt, toneOf, changeOf, joinedFrom};
 ghost use Rattle.tables.specs.Values.{system, listed, FieldsFit, Part};
 
 // z, or 0 where it is negative.
@@ -123,6 +125,13 @@ fn retuning_row(retuning: Retuning, from: u32, to: u32) -> Row
     Row::Retuning { retuning, from, to }
 }
 
+// A set of key numbers by its lower thirty bits and the others.
+fn set_of(low: u32, high: u32) -> u64
+    ensures { λ r. ⌜ r ≡ low + high * halfSet ⌝ }
+{
+    low as u64 + high as u64 * HALF_SET
+}
+
 // A row by its form.
 fn row_of(n: Numbers) -> Row
     requires { ⌜ FieldsFit n ⌝ }
@@ -147,10 +156,14 @@ fn row_of(n: Numbers) -> Row
         PERIOD_FORM => retuning_row(Retuning::Period(period_of(a, Interval(n.second))), from, to),
         TONES_FORM => retuning_row(Retuning::Tones, from, to),
         LOGIC_FORM => Row::Logic {
-            letter: a as u8,
+            trigger: a as u16,
             start: b,
             from,
             to,
+        },
+        HARMONY_FORM => Row::Harmony {
+            needed: set_of(a, b),
+            named: set_of(from, to),
         },
         _ => Row::Unused,
     }

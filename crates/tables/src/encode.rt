@@ -4,6 +4,8 @@ use crate::ANCHOR_FORM;
 use crate::Counts;
 use crate::DIVIDE_CODE;
 use crate::FRESH_CODE;
+use crate::HALF_SET;
+use crate::HARMONY_FORM;
 use crate::INTERVAL_FORM;
 use crate::KEPT_CODE;
 use crate::LOGIC_FORM;
@@ -131,11 +133,18 @@ fn numbers_of(row: Row) -> Numbers
         } => lay_out(SYSTEM_FORM, anchor.0 as i32, period.0, from, to),
         Row::Retuning { retuning, from, to } => retuning_numbers(retuning, from, to),
         Row::Logic {
-            letter,
+            trigger,
             start,
             from,
             to,
-        } => lay_out(LOGIC_FORM, letter as i32, start as i32, from, to),
+        } => lay_out(LOGIC_FORM, trigger as i32, start as i32, from, to),
+        Row::Harmony { needed, named } => lay_out(
+            HARMONY_FORM,
+            (needed % HALF_SET) as i32,
+            (needed / HALF_SET) as i32,
+            (named % HALF_SET) as u32,
+            (named / HALF_SET) as u32,
+        ),
     }
 }
 
@@ -226,15 +235,15 @@ pub fn store_change(kinds: &mut [u16], changes: &mut [i32], i: usize, change: To
     put_number(changes, i, change_number(change));
 }
 
-// Stores an order as the i-th: its letter, and the number of the declaration that it calls.
-pub fn store_order(orders: &mut [u16], i: usize, letter: u8, called: u16)
-    ensures { λ _. ⌜ (triggersIn (now (orders .exit)) ≡ set (triggersIn (now (orders .entry))) i letter) × (callsIn (now (orders .exit)) ≡ set (callsIn (now (orders .entry))) i called) ⌝ }
+// Stores an order as the i-th: its trigger, and the number of the declaration that it calls.
+pub fn store_order(orders: &mut [u16], i: usize, trigger: u16, called: u16)
+    ensures { λ _. ⌜ (triggersIn (now (orders .exit)) ≡ set (triggersIn (now (orders .entry))) i trigger) × (callsIn (now (orders .exit)) ≡ set (callsIn (now (orders .entry))) i called) ⌝ }
 {
     if orders.len() <= i {
         return;
     }
     let at = ORDER_WIDTH * i;
-    put_code(orders, at, letter as u16);
+    put_code(orders, at, trigger);
     put_code(orders, at + 1, called);
 }
 

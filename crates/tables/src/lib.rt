@@ -65,6 +65,14 @@ pub const TONES_FORM: u32 = 7;
 
 pub const LOGIC_FORM: u32 = 8;
 
+pub const HARMONY_FORM: u32 = 9;
+
+// A trigger: a letter's capital, or this and the number of the harmony's declaration.
+pub const HARMONY_BASE: u16 = 256;
+
+// A harmony's set of key numbers stands in a row as two numbers: its lower thirty bits, and the others.
+pub const HALF_SET: u64 = 1_073_741_824;
+
 // Anchors and widths: `@`, a number, or `@` with an operator.
 pub const KEPT_CODE: u32 = 0;
 
@@ -95,7 +103,7 @@ pub const MOVE_CODE: u16 = 1;
 
 pub const SET_CODE: u16 = 2;
 
-// A row's numbers: its form, two numbers of its own, and from where to where what belongs to it stands.
+// A row's numbers: its form, two numbers of its own, and from where to where what belongs to it stands. A harmony's are four of its own.
 pub struct Numbers {
     pub form: u32,
     pub first: i32,
@@ -122,10 +130,15 @@ pub enum Row {
     },
     // A start is 0 for none, or 1 more than the number of the declaration that it calls.
     Logic {
-        letter: u8,
+        trigger: u16,
         start: u32,
         from: u32,
         to: u32,
+    },
+    // Sets of key numbers 0 to 59, bit k for number k: the unstarred ones, and all that the harmony names.
+    Harmony {
+        needed: u64,
+        named: u64,
     },
 }
 

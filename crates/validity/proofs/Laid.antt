@@ -20,7 +20,7 @@ use Rattle.tables.specs.declared.Row.{Row}
 use Rattle.tables.specs.declared.Row.the-variants.{Unused}
 use Rattle.tables.specs.Layout.{Tables, used, rowCount, toneCount, changeCount, orderCount, rowWidth, mostRows, mostTones, mostChanges, mostOrders, countsSize, numbersOf, rowAt, writtenAll, soundingOf, pitchOf, changeCode, changeNumber, full}
 use Rattle.tables.proofs.Stored.{number-read, row-read}
-use Rattle.validity.specs.Valid.{isSum, isCapital, isCalled, refersTo, declarationRight, isOwn, rowsRight, declarations, kinds, kindsFrom, kindsRight, ends, partsFollow, ordersRight, toneRight, changeRight, eachRight, allZero, allNought, listRight, validTables}
+use Rattle.validity.specs.Valid.{isSum, isTrigger, isCalled, refersTo, declarationRight, isOwn, rowsRight, declarations, kinds, kindsFrom, kindsRight, ends, partsFollow, ordersRight, toneRight, changeRight, eachRight, allZero, allNought, listRight, validTables}
 use Rattle.validity.proofs.Same.{same-both}
 use Rattle.validity.proofs.Sizes.{Sizes, sizes-is, Room, room-is}
 
@@ -30,7 +30,7 @@ pub record Parts (t : Tables) : Type 0 where
   pub sizes : Sizes t
   pub room : Room (used t)
   pub rows : rowsRight t 0 (rowCount t) ≡ true
-  pub kinds : kindsRight (kindsFrom (kinds 0 0 0 0 0) (declarations (t .rows) 0 (rowCount t))) ≡ true
+  pub kinds : kindsRight (kindsFrom (kinds 0 0 0 0 0 0) (declarations (t .rows) 0 (rowCount t))) ≡ true
   pub parts : partsFollow (used t) (ends 0 0 0) (declarations (t .rows) 0 (rowCount t)) ≡ true
   pub rowsAfter : allZero (drop (rowWidth * rowCount t) (t .rows)) ≡ true
   pub tones : listRight toneRight (toneCount t) (t .sounding) (t .tones) ≡ true
@@ -171,7 +171,7 @@ module _ (t : Tables) (size : ℕ) (rs : List Row) (e : t .rows ≡ full (pos 0)
 -- ---- orders
 
 pub orders-laid : (t : Tables) (n : ℕ)
-    → ((i : ℕ) → i < n → isCapital (getD (t .triggers) i 0) && refersTo isCalled t (getD (t .calls) i 0) ≡ true) → ordersRight t 0 n ≡ true
+    → ((i : ℕ) → i < n → isTrigger t (getD (t .triggers) i 0) && refersTo isCalled t (getD (t .calls) i 0) ≡ true) → ordersRight t 0 n ≡ true
 unfolding ordersRight
 orders-laid t n right = go n 0 (zero-add n)
   where

@@ -1,6 +1,6 @@
 -- What the rows, tones, changes and orders of valid tables are, as those who decode them need it. Assumes nothing.
 use mathlib.Core.Path.{_≡_, refl, sym, _∙_, subst}
-use mathlib.Core.Bool.{Bool, true, false, cond, _&&_, false≢true}
+use mathlib.Core.Bool.{Bool, true, false, cond, _&&_, _||_, false≢true}
 use mathlib.Core.List.{List, map}
 use Prim.Native.Nat.{ℕ, zero, suc, _+_, _*_, _-_, _≤_, _<_}
 use native.Mathlib.Decide.{decLt}
@@ -24,15 +24,15 @@ use Rattle.tuning.proofs.Lists.{both}
 use Rattle.tables.specs.declared.Counts.{Counts}
 use Rattle.tables.specs.declared.Numbers.{Numbers}
 use Rattle.tables.specs.declared.Row.{Row}
-use Rattle.tables.specs.declared.Row.the-variants.{Unused, Interval, Tone, System, Retuning, Logic}
-use Rattle.tables.specs.Layout.{Tables, tablesIn, fullSize, used, rowCount, toneCount, changeCount, orderCount, rowWidth, mostOrders, numbers, numberAt, readAt, numbersOf, rowOf, rowAt, tonesFrom, toneOf, periodSum, amountOf, amountNumber, systemForm, anchorForm, widthForm, tonesForm, logicForm}
+use Rattle.tables.specs.declared.Row.the-variants.{Unused, Interval, Tone, System, Retuning, Logic, Harmony}
+use Rattle.tables.specs.Layout.{Tables, tablesIn, fullSize, used, rowCount, toneCount, changeCount, orderCount, rowWidth, mostRows, mostOrders, numbers, numberAt, readAt, numbersOf, rowOf, rowAt, tonesFrom, toneOf, periodSum, amountOf, amountNumber, systemForm, anchorForm, widthForm, tonesForm, logicForm, harmonyForm, harmonyBase, allSets}
 use Rattle.tables.specs.Values.{system, FieldsFit, Slices}
 use Rattle.tables.proofs.Lists.{part-length}
 use Rattle.tables.proofs.Sizes.{sizes-is, slices-of}
 use Rattle.validity.specs.declared.Ends.{Ends}
-use Rattle.validity.specs.Valid.{same, isSum, isCapital, isAnchorAmount, isWidthAmount, isSystemOrRetuning, isCalled, refersTo, isStart, isPart, noPart, declarationRight, isOwn, rowsRight, declarations, kinds, kindsFrom, kindsRight, Belonging, nothing, tones, changes, orders, belonging, ends, follows, endsAfter, partsFollow, ordersRight, toneRight, changeRight, eachRight, allZero, allNought, listRight, countsRight, validTables}
+use Rattle.validity.specs.Valid.{same, isSum, isCapital, isAnchorAmount, isWidthAmount, isSystemOrRetuning, isCalled, isHarmony, isTrigger, refersTo, isStart, isPart, noPart, declarationRight, isOwn, rowsRight, declarations, kinds, kindsFrom, kindsRight, Belonging, nothing, tones, changes, orders, belonging, ends, follows, endsAfter, partsFollow, ordersRight, toneRight, changeRight, eachRight, allZero, allNought, listRight, countsRight, validTables}
 use Rattle.validity.specs.Inner.{ValidSystem, ValidRetuning}
-use Rattle.validity.proofs.Same.{started, called}
+use Rattle.validity.proofs.Same.{started, called, harmonic}
 use Rattle.validity.proofs.Sizes.{Sizes, sizes-of, Room, room-of}
 use Rattle.validity.proofs.Pools.{each-slice, tones-right}
 
@@ -60,7 +60,7 @@ valid-of t h =
     let f = both _ (listRight toneRight (c .tones) (t .sounding) (t .tones)) (e .0) in
     let g = both _ (allZero (drop (rowWidth * c .rows) (t .rows))) (f .0) in
     let k = both _ (partsFollow c (ends 0 0 0) rs) (g .0) in
-    let l = both (countsRight c && rowsRight t 0 (c .rows)) (kindsRight (kindsFrom (kinds 0 0 0 0 0) rs)) (k .0) in
+    let l = both (countsRight c && rowsRight t 0 (c .rows)) (kindsRight (kindsFrom (kinds 0 0 0 0 0 0) rs)) (k .0) in
     let m = both (countsRight c) (rowsRight t 0 (c .rows)) (l .0) in
     record {
       sizes = sizes-of t (whole .0);
@@ -98,18 +98,18 @@ module _ (t : Tables) where
       ]
 
   abbrev OrderRight : ℕ → Type 0
-  OrderRight j = (isCapital (getD (t .triggers) j 0) ≡ true) × (refersTo isCalled t (getD (t .calls) j 0) ≡ true)
+  OrderRight j = (isTrigger t (getD (t .triggers) j 0) ≡ true) × (refersTo isCalled t (getD (t .calls) j 0) ≡ true)
 
   orders-at : (i n j : ℕ) → ordersRight t i n ≡ true → i ≤ j → j < i + n → OrderRight j
   unfolding ordersRight
   orders-at i zero j h k m = let e : ⊥ = omega arith in absurd e
   orders-at i (suc n) j h k m =
-      let letter = isCapital (getD (t .triggers) i 0) in
+      let trigger = isTrigger t (getD (t .triggers) i 0) in
       let known = refersTo isCalled t (getD (t .calls) i 0) in
-      let a = both (letter && known) (ordersRight t (suc i) n) h in
+      let a = both (trigger && known) (ordersRight t (suc i) n) h in
       elim (decLt i j) [
         | yes l ↦ orders-at (suc i) n j (a .1) l (omega arith)
-        | no l ↦ let e : i ≡ j = omega arith in subst OrderRight e (both letter known (a .0))
+        | no l ↦ let e : i ≡ j = omega arith in subst OrderRight e (both trigger known (a .0))
       ]
 
 -- ---- what belongs to a row ends within the counts: rows only add to it, and the last ends at the counts
@@ -157,8 +157,9 @@ module _ (t : Tables) where
       let p = in-part 1 mostPositions from to h in
       record { tones = omega arith; changes = omega (arith, p, eqb-true from (e .changes) k); orders = omega arith }
   grows e (Logic x s from to) h k =
-      let p = in-part 0 mostOrders from to (both (isCapital x && isStart t s) (isPart 0 mostOrders from to) h .1) in
+      let p = in-part 0 mostOrders from to (both (isTrigger t x && isStart t s) (isPart 0 mostOrders from to) h .1) in
       record { tones = omega arith; changes = omega arith; orders = omega (arith, p, eqb-true from (e .orders) k) }
+  grows e (Harmony needed named) h k = record { tones = omega arith; changes = omega arith; orders = omega arith }
 
   -- the first of the rows, and those after it
   record First (e : Ends) (i n : ℕ) : Type 0 where
@@ -218,11 +219,21 @@ pub record Refers (t : Tables) (low high i : ℕ) : Type 0 where
   pub least : low ≤ readAt (t .rows) i .form
   pub most : readAt (t .rows) i .form ≤ high
 
-pub record ValidLogic (t : Tables) (key number from to : ℕ) : Type 0 where
-  pub letter : isCapital key ≡ true
+-- a trigger: a letter, or 256 and the number of one of the rows, a harmony
+pub data ValidTrigger (t : Tables) (c : ℕ) : Type 0 where
+  of-letter : isCapital c ≡ true → ValidTrigger t c
+  of-harmony : harmonyBase ≤ c → Refers t harmonyForm harmonyForm (c - harmonyBase) → isHarmony (rowAt t (c - harmonyBase)) ≡ true → ValidTrigger t c
+
+pub record ValidLogic (t : Tables) (c number from to : ℕ) : Type 0 where
+  pub trigger : ValidTrigger t c
   pub start : 1 ≤ number → Refers t systemForm tonesForm (number - 1)
   pub order : from ≤ to
   pub within : to ≤ orderCount t
+
+-- a harmony: its sets are of key numbers to 59
+pub record ValidHarmony (n m : ℕ) : Type 0 where
+  pub needed : n < allSets
+  pub named : m < allSets
 
 abbrev pub ValidRow : Tables → Row → Type 0
 ValidRow t Unused = ⊥
@@ -231,6 +242,7 @@ ValidRow t (Tone p) = (isTone (p .0) ≡ true)
 ValidRow t (System a P from to) = ValidSystem t (a .0) (P .0) from to
 ValidRow t (Retuning r from to) = ValidRetuning t from to
 ValidRow t (Logic c s from to) = ValidLogic t c s from to
+ValidRow t (Harmony needed named) = ValidHarmony needed named
 
 -- by the test of the row that is referred to, which is that of its form
 refers : (t : Tables) (is : Row → Bool) (low high i : ℕ) → (is (rowAt t i) ≡ leb low (readAt (t .rows) i .form) && leb (readAt (t .rows) i .form) high)
@@ -240,6 +252,24 @@ refers t is low high i e h =
     let a = both (ltb i (rowCount t)) (is (rowAt t i)) h in
     let b = both (leb low form) (leb form high) (sym e ∙ a .1) in
     record { within = ltb-true _ _ (a .0); least = leb-true _ _ (b .0); most = leb-true _ _ (b .1) }
+
+trigger-valid : (t : Tables) (c : ℕ) → isTrigger t c ≡ true → ValidTrigger t c
+trigger-valid t c h = either (isCapital c) refl h
+  where
+    either : (b : Bool) → isCapital c ≡ b → b || (leb harmonyBase c && refersTo isHarmony t (c - harmonyBase)) ≡ true → ValidTrigger t c
+    either true e h = of-letter e
+    either false e h =
+        let j = c - harmonyBase in
+        let a = both (leb harmonyBase c) (refersTo isHarmony t j) h in
+        let r = readAt (t .rows) j in
+        of-harmony (leb-true harmonyBase c (a .0))
+        (refers t isHarmony harmonyForm harmonyForm j (harmonic (r .first) (r .second) (r .from) (r .to) (r .form)) (a .1))
+        (both (ltb j (rowCount t)) (isHarmony (rowAt t j)) (a .1) .1)
+
+-- so it is small
+pub trigger-small : (t : Tables) (c : ℕ) → ValidTrigger t c → c < harmonyBase + rowCount t
+trigger-small t c (of-letter h) = omega (arith, leb-true c lastLetter (both (leb firstLetter c) (leb c lastLetter) h .1))
+trigger-small t c (of-harmony h r is) = omega (arith, h, r .within)
 
 module _ (t : Tables) (v : Valid t) where
   system-valid : (a : ℕ) (b : ℤ) (m n : ℕ) → isAnchor (pos a) ≡ true → isPeriod b ≡ true → InPart 1 mostPositions m n → n ≤ toneCount t
@@ -301,9 +331,12 @@ module _ (t : Tables) (v : Valid t) where
       bare-valid from to (both (isSum (periodSum m)) (noPart from to) h .1)
   declaration-valid (Retuning Tones from to) h w = retuning-valid 1 from to (in-part 1 mostPositions from to h) w
   declaration-valid (Logic x s from to) h w =
-      let b = both (isCapital x && isStart t s) (isPart 0 mostOrders from to) h in
-      let d = both (isCapital x) (isStart t s) (b .0) in
-      record { letter = d .0; start = start-valid s (d .1); order = omega (arith, in-part 0 mostOrders from to (b .1)); within = w }
+      let b = both (isTrigger t x && isStart t s) (isPart 0 mostOrders from to) h in
+      let d = both (isTrigger t x) (isStart t s) (b .0) in
+      record { trigger = trigger-valid t x (d .0); start = start-valid s (d .1); order = omega (arith, in-part 0 mostOrders from to (b .1)); within = w }
+  declaration-valid (Harmony needed named) h w =
+      let b = both (ltb needed allSets) (ltb named allSets) h in
+      record { needed = ltb-true needed allSets (b .0); named = ltb-true named allSets (b .1) }
 
 -- ---- a row's numbers fit its fields
 
@@ -326,7 +359,7 @@ width-small (Relative Divide n) h = leb-true n mostAmount (both (leb leastDiviso
 up-small : (n : ℕ) (z : ℤ) → same (pos n) z ≡ true → up z ≤ n
 up-small n z h = omega (signed, both (leZ (pos n) z) (leZ z (pos n)) h .1, abs z)
 
-module _ (t : Tables) (i : ℕ) (own : isOwn (t .rows) i ≡ true) (h : declarationRight t (rowAt t i) ≡ true) where
+module _ (t : Tables) (room : rowCount t ≤ mostRows) (i : ℕ) (own : isOwn (t .rows) i ≡ true) (h : declarationRight t (rowAt t i) ≡ true) where
   abbrev r : Numbers
   r = readAt (t .rows) i
 
@@ -365,9 +398,10 @@ module _ (t : Tables) (i : ℕ) (own : isOwn (t .rows) i ≡ true) (h : declarat
         widthBy = λ e.
             let b = both (isWidthAmount m) (noPart (r .from) (r .to)) (right-at widthForm e) in
             omega (arith, width-small m (b .0), up-small (amountNumber m) (r .second) (second-at widthForm e));
-        letter = λ e.
-            let b = both (isCapital x && isStart t (up (r .second))) (isPart 0 mostOrders (r .from) (r .to)) (right-at logicForm e) in
-            omega (arith, leb-true x lastLetter (both (leb firstLetter x) (leb x lastLetter) (both (isCapital x) (isStart t (up (r .second))) (b .0) .0) .1));
+        trigger = λ e.
+            let b = both (isTrigger t x && isStart t (up (r .second))) (isPart 0 mostOrders (r .from) (r .to)) (right-at logicForm e) in
+            let d = both (isTrigger t x) (isStart t (up (r .second))) (b .0) in
+            omega (arith, room, trigger-small t x (trigger-valid t x (d .0)));
       }
 
 -- ---- for those who call
@@ -381,9 +415,12 @@ row-valid t h i k =
 
 -- and its numbers fit the fields of a row
 pub fields-fit : (t : Tables) → validTables t ≡ true → (i : ℕ) → i < rowCount t → FieldsFit (readAt (t .rows) i)
-fields-fit t h i k = let a = rows-at t 0 (rowCount t) i (valid-of t h .rows) (omega arith) (omega arith) in fields t i (a .0) (a .1)
+fields-fit t h i k =
+    let v = valid-of t h in
+    let a = rows-at t 0 (rowCount t) i (v .rows) (omega arith) (omega arith) in
+    fields t (v .room .rows) i (a .0) (a .1)
 
--- an order calls a tone system, a retuning or a logic, by a letter
+-- an order calls a tone system, a retuning or a logic, by a trigger
 module _ (t : Tables) (h : validTables t ≡ true) (i : ℕ) (k : i < orderCount t) where
   order-right : OrderRight t i
   order-right = orders-at t 0 (orderCount t) i (valid-of t h .orders) (omega arith) (omega arith)
@@ -394,8 +431,8 @@ module _ (t : Tables) (h : validTables t ≡ true) (i : ℕ) (k : i < orderCount
       let r = readAt (t .rows) j in
       refers t isCalled systemForm logicForm j (called (r .first) (r .second) (r .from) (r .to) (r .form)) (order-right .1)
 
-  pub order-letter : getD (t .triggers) i 0 ≤ lastLetter
-  order-letter = let n = getD (t .triggers) i 0 in leb-true n lastLetter (both (leb firstLetter n) (leb n lastLetter) (order-right .0) .1)
+  pub order-trigger : ValidTrigger t (getD (t .triggers) i 0)
+  order-trigger = trigger-valid t (getD (t .triggers) i 0) (order-right .0)
 
 -- the slices of valid tables are of full size
 pub slices-valid : (numbers : List ℤ) (codes : List ℕ) → validTables (tablesIn numbers codes) ≡ true → Slices numbers codes

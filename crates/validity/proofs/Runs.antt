@@ -7,10 +7,10 @@ use Prim.Native.Nat.{ℕ, zero, suc, _+_, _-_, _≤_, _<_}
 use native.Mathlib.Nat.{add-zero}
 use native.Mathlib.Numerals.{add-one}
 use native.Mathlib.Omega.{arith}
-use borrow.Author.Tests.{leb-true, leb-false, le-leb, lt-leb, ne-eqb}
+use borrow.Author.Tests.{leb-true, leb-false, ltb-true, ltb-false, le-leb, lt-leb, ne-eqb}
 use lib.Dec.{leb, eqb}
 use lib.IntN.{ℤ, pos, negsuc, natAbs, _-ℤ_}
-use lib.Signed.{leZ}
+use lib.Signed.{leZ, ltZ}
 use lib.ListN.{length, getD, take, drop, take-append-drop}
 use lib.Seq.{slice, slice-cons, slice-empty, take-length, length-take-le, drop-append-le}
 use Rattle.integers.specs.Parts.{up}
@@ -19,11 +19,11 @@ use Rattle.tuning.specs.Desk.{between, isTone}
 use Rattle.tuning.proofs.Lists.{every, both}
 use Rattle.tables.specs.declared.Counts.{Counts}
 use Rattle.tables.specs.declared.Numbers.{Numbers}
-use Rattle.tables.specs.Layout.{numbers, readAt, intervalForm, toneForm, systemForm, anchorForm, widthForm, periodForm, tonesForm, logicForm}
+use Rattle.tables.specs.Layout.{numbers, readAt, intervalForm, toneForm, systemForm, anchorForm, widthForm, periodForm, tonesForm, logicForm, harmonyForm, harmonyBase}
 use Rattle.validity.specs.declared.Kinds.{Kinds}
 use Rattle.validity.specs.declared.Ends.{Ends}
 use Rattle.validity.specs.Valid.{noPart, kinds, kindsRight, endsRight, allZero, allNought}
-use Rattle.validity.specs.Inner.{isZero, isLetterCode, isForm, fastRow, hasNaturals, kindsWith, others, kindsAmong, endsWith, fastRows, fastOrders, fastEach}
+use Rattle.validity.specs.Inner.{isZero, isLetterCode, isTriggerCode, isForm, fastRow, hasNaturals, kindsWith, others, kindsAmong, endsWith, fastRows, fastOrders, fastEach}
 
 -- ---- zeros, as a test of every element
 
@@ -120,18 +120,19 @@ value-forms P x y (pos (suc (suc (suc k)))) h =
     absurd e
 
 -- and those of other rows
-other-forms : (P : ℕ → Type 0) → P systemForm → P anchorForm → P widthForm → P periodForm → P tonesForm → P logicForm
-    → (f : ℕ) → systemForm ≤ f → f ≤ logicForm → P f
-other-forms P s a w p t l zero g h = absurd (omega arith)
-other-forms P s a w p t l (suc zero) g h = absurd (omega arith)
-other-forms P s a w p t l (suc (suc zero)) g h = absurd (omega arith)
-other-forms P s a w p t l (suc (suc (suc zero))) g h = s
-other-forms P s a w p t l (suc (suc (suc (suc zero)))) g h = a
-other-forms P s a w p t l (suc (suc (suc (suc (suc zero))))) g h = w
-other-forms P s a w p t l (suc (suc (suc (suc (suc (suc zero)))))) g h = p
-other-forms P s a w p t l (suc (suc (suc (suc (suc (suc (suc zero))))))) g h = t
-other-forms P s a w p t l (suc (suc (suc (suc (suc (suc (suc (suc zero)))))))) g h = l
-other-forms P s a w p t l (suc (suc (suc (suc (suc (suc (suc (suc (suc k))))))))) g h = absurd (omega arith)
+other-forms : (P : ℕ → Type 0) → P systemForm → P anchorForm → P widthForm → P periodForm → P tonesForm → P logicForm → P harmonyForm
+    → (f : ℕ) → systemForm ≤ f → f ≤ harmonyForm → P f
+other-forms P s a w p t l y zero g h = absurd (omega arith)
+other-forms P s a w p t l y (suc zero) g h = absurd (omega arith)
+other-forms P s a w p t l y (suc (suc zero)) g h = absurd (omega arith)
+other-forms P s a w p t l y (suc (suc (suc zero))) g h = s
+other-forms P s a w p t l y (suc (suc (suc (suc zero)))) g h = a
+other-forms P s a w p t l y (suc (suc (suc (suc (suc zero))))) g h = w
+other-forms P s a w p t l y (suc (suc (suc (suc (suc (suc zero)))))) g h = p
+other-forms P s a w p t l y (suc (suc (suc (suc (suc (suc (suc zero))))))) g h = t
+other-forms P s a w p t l y (suc (suc (suc (suc (suc (suc (suc (suc zero)))))))) g h = l
+other-forms P s a w p t l y (suc (suc (suc (suc (suc (suc (suc (suc (suc zero))))))))) g h = y
+other-forms P s a w p t l y (suc (suc (suc (suc (suc (suc (suc (suc (suc (suc k)))))))))) g h = absurd (omega arith)
 
 pub other-form : (f : ℤ) → leZ (pos 0) f ≡ true → between (pos intervalForm) (pos toneForm) f ≡ false → (natAbs f ≢ intervalForm) × (natAbs f ≢ toneForm)
 other-form (pos n) h k = (λ e. true≢false (ap sounding (sym e) ∙ k), λ e. true≢false (ap sounding (sym e) ∙ k))
@@ -160,7 +161,7 @@ module _ (rows : List ℤ) (count : ℕ) (e : Ends) where
   value-ends f to h = value-forms (λ (z : ℤ). e ≡ endsWith e (up z) to) refl refl f h
 
   -- no row is right whose form there is not
-  form-above : (n : Numbers) → logicForm < n .form → fastRow rows count e n ≡ false
+  form-above : (n : Numbers) → harmonyForm < n .form → fastRow rows count e n ≡ false
   unfolding fastRow
   form-above n h =
       simp (
@@ -172,23 +173,24 @@ module _ (rows : List ℤ) (count : ℕ) (e : Ends) where
         ne-eqb (n .form) periodForm (omega arith),
         ne-eqb (n .form) tonesForm (omega arith),
         ne-eqb (n .form) logicForm (omega arith),
+        ne-eqb (n .form) harmonyForm (omega arith),
       )
 
   pub form-known : (n : Numbers) → fastRow rows count e n ≡ true → n .form ≢ intervalForm → n .form ≢ toneForm
-      → (systemForm ≤ n .form) × (n .form ≤ logicForm)
+      → (systemForm ≤ n .form) × (n .form ≤ harmonyForm)
   unfolding fastRow
   form-known n h x y =
-      let above : logicForm < n .form → ⊥ = λ z. false≢true (sym (form-above n z) ∙ h) in
+      let above : harmonyForm < n .form → ⊥ = λ z. false≢true (sym (form-above n z) ∙ h) in
       let some : n .form ≢ 0 = λ z. false≢true (form-right n 0 z ∙ h) in
       (omega arith, omega arith)
 
 -- counts by kind, of a form that is none, a retuning's, or none that there is
 module _ (k : Kinds) (f : ℕ) where
-  pub kinds-below : f < intervalForm → k ≡ kindsWith k f
+  pub kinds-below : f < anchorForm → f ≢ intervalForm → f ≢ toneForm → f ≢ systemForm → k ≡ kindsWith k f
   unfolding kindsWith
-  kinds-below h = let e : f ≡ 0 = omega arith in rw e
+  kinds-below h x y z = let e : f ≡ 0 = omega arith in rw e
 
-  pub kinds-retuning : anchorForm ≤ f → f ≤ tonesForm → kinds (k .intervals) (k .tones) (k .systems) (suc (k .retunings)) (k .logics) ≡ kindsWith k f
+  pub kinds-retuning : anchorForm ≤ f → f ≤ tonesForm → kinds (k .intervals) (k .tones) (k .systems) (suc (k .retunings)) (k .logics) (k .harmonies) ≡ kindsWith k f
   unfolding kindsWith
   kinds-retuning g h =
       simp (
@@ -196,11 +198,12 @@ module _ (k : Kinds) (f : ℕ) where
         ne-eqb f toneForm (omega arith),
         ne-eqb f systemForm (omega arith),
         ne-eqb f logicForm (omega arith),
+        ne-eqb f harmonyForm (omega arith),
         le-leb anchorForm f g,
         le-leb f tonesForm h,
       )
 
-  pub kinds-above : logicForm < f → k ≡ kindsWith k f
+  pub kinds-above : harmonyForm < f → k ≡ kindsWith k f
   unfolding kindsWith
   kinds-above h =
       simp (
@@ -208,6 +211,7 @@ module _ (k : Kinds) (f : ℕ) where
         ne-eqb f toneForm (omega arith),
         ne-eqb f systemForm (omega arith),
         ne-eqb f logicForm (omega arith),
+        ne-eqb f harmonyForm (omega arith),
         le-leb anchorForm f (omega arith),
         lt-leb f tonesForm (omega arith),
       )
@@ -219,29 +223,30 @@ pub record Turned (i : ℕ) (x k : Kinds) : Type 0 where
 
 module _ (k : Kinds) (i : ℕ) (few : others k ≤ i) where
   pub value-turned : (f : ℤ) → between (pos intervalForm) (pos toneForm) f ≡ true
-      → Turned i (kindsWith (kindsAmong k i) (up f)) (kinds (k .intervals) (k .tones + (up f - intervalForm)) (k .systems) (k .retunings) (k .logics))
+      → Turned i (kindsWith (kindsAmong k i) (up f)) (kinds (k .intervals) (k .tones + (up f - intervalForm)) (k .systems) (k .retunings) (k .logics) (k .harmonies))
   unfolding kindsWith
   value-turned =
       value-forms (λ (f : ℤ).
-      Turned i (kindsWith (kindsAmong k i) (up f)) (kinds (k .intervals) (k .tones + (up f - intervalForm)) (k .systems) (k .retunings) (k .logics)))
-      (let s : i + 1 - (k .tones + 0 + k .systems + k .retunings + k .logics) ≡ suc (i - others k) = omega arith in
+      Turned i (kindsWith (kindsAmong k i) (up f)) (kinds (k .intervals) (k .tones + (up f - intervalForm)) (k .systems) (k .retunings) (k .logics) (k .harmonies)))
+      (let s : i + 1 - (k .tones + 0 + k .systems + k .retunings + k .logics + k .harmonies) ≡ suc (i - others k) = omega arith in
       record { few = omega arith; same = rw (s, add-zero (k .tones)) })
-      (let s : i + 1 - (k .tones + 1 + k .systems + k .retunings + k .logics) ≡ i - others k = omega arith in
+      (let s : i + 1 - (k .tones + 1 + k .systems + k .retunings + k .logics + k .harmonies) ≡ i - others k = omega arith in
       record { few = omega arith; same = rw (s, add-one (k .tones)) })
 
-  pub other-turned : (f : ℕ) → systemForm ≤ f → f ≤ logicForm → Turned i (kindsWith (kindsAmong k i) f) (kindsWith k f)
+  pub other-turned : (f : ℕ) → systemForm ≤ f → f ≤ harmonyForm → Turned i (kindsWith (kindsAmong k i) f) (kindsWith k f)
   unfolding kindsWith
   other-turned =
       other-forms (λ (f : ℕ). Turned i (kindsWith (kindsAmong k i) f) (kindsWith k f))
-      (let s : i + 1 - (k .tones + suc (k .systems) + k .retunings + k .logics) ≡ i - others k = omega arith in record { few = omega arith; same = rw s })
+      (let s : i + 1 - (k .tones + suc (k .systems) + k .retunings + k .logics + k .harmonies) ≡ i - others k = omega arith in record { few = omega arith; same = rw s })
       retuned
       retuned
       retuned
       retuned
-      (let s : i + 1 - (k .tones + k .systems + k .retunings + suc (k .logics)) ≡ i - others k = omega arith in record { few = omega arith; same = rw s })
+      (let s : i + 1 - (k .tones + k .systems + k .retunings + suc (k .logics) + k .harmonies) ≡ i - others k = omega arith in record { few = omega arith; same = rw s })
+      (let s : i + 1 - (k .tones + k .systems + k .retunings + k .logics + suc (k .harmonies)) ≡ i - others k = omega arith in record { few = omega arith; same = rw s })
     where
       retuned : Turned i (kindsWith (kindsAmong k i) anchorForm) (kindsWith k anchorForm)
-      retuned = let s : i + 1 - (k .tones + k .systems + suc (k .retunings) + k .logics) ≡ i - others k = omega arith in record { few = omega arith; same = rw s }
+      retuned = let s : i + 1 - (k .tones + k .systems + suc (k .retunings) + k .logics + k .harmonies) ≡ i - others k = omega arith in record { few = omega arith; same = rw s }
 
 module _ (rows : List ℤ) (c : Counts) (k : Kinds) (e : Ends) (i n : ℕ) where
   abbrev rowIs : Bool
@@ -279,11 +284,27 @@ start-some (negsuc n) x h = absurd (true≢false h)
 pub start-less : (s : ℤ) → leZ s (pos 0) ≡ false → natAbs (s -ℤ pos 1) ≡ up s - 1
 start-less s h = omega (signed, diff s (pos 1), abs (s -ℤ pos 1), abs s)
 
+-- ---- triggers: a letter, or the harmony so far above the first
+
+pub trigger-letter : (z : ℤ) (x : Bool) → isLetterCode z ≡ true → true ≡ isLetterCode z || (leZ (pos harmonyBase) z && x)
+trigger-letter z x h = rw h
+
+pub trigger-none : (z : ℤ) (x : Bool) → isLetterCode z ≡ false → ltZ z (pos harmonyBase) ≡ true → false ≡ isLetterCode z || (leZ (pos harmonyBase) z && x)
+trigger-none (pos n) x l h = rw (l, lt-leb harmonyBase n (ltb-true n harmonyBase h))
+trigger-none (negsuc n) x l h = refl
+
+pub trigger-some : (z : ℤ) (x : Bool) → isLetterCode z ≡ false → ltZ z (pos harmonyBase) ≡ false → x ≡ isLetterCode z || (leZ (pos harmonyBase) z && x)
+trigger-some (pos n) x l h = rw (l, le-leb harmonyBase n (ltb-false n harmonyBase h))
+trigger-some (negsuc n) x l h = absurd (true≢false h)
+
+pub trigger-less : (z : ℤ) → ltZ z (pos harmonyBase) ≡ false → natAbs (z -ℤ pos harmonyBase) ≡ up z - harmonyBase
+trigger-less z h = omega (signed, diff z (pos harmonyBase), abs (z -ℤ pos harmonyBase), abs z)
+
 -- ---- orders
 
 module _ (rows : List ℤ) (count : ℕ) (triggers calls : List ℕ) where
   abbrev pub orderRight : ℕ → Bool
-  orderRight i = isLetterCode (pos (getD triggers i 0)) && isForm rows count systemForm logicForm (getD calls i 0)
+  orderRight i = isTriggerCode rows count (pos (getD triggers i 0)) && isForm rows count systemForm logicForm (getD calls i 0)
 
   pub order-wrong : (i n : ℕ) → i < n → orderRight i ≡ false → fastOrders rows count triggers calls i (n - i) ≡ false
   unfolding fastOrders

@@ -2,9 +2,9 @@
 use mathlib.Core.Path.{_≡_, refl, sym, ap, _∙_}
 use mathlib.Core.Bool.{Bool, true, false, not, _&&_, _||_, and-true, and-false, and-assoc, and-comm}
 use mathlib.Core.List.{List, [], _∷_}
-use Prim.Native.Nat.{ℕ, zero, suc, _-_, _≤_, _<_}
+use Prim.Native.Nat.{ℕ, zero, suc, _+_, _-_, _*_, _/_, _%_, _≤_, _<_}
 use native.Mathlib.Omega.{arith}
-use borrow.Author.Tests.{ne-eqb, le-leb, lt-leb}
+use borrow.Author.Tests.{ne-eqb, leb-true, ltb-true, le-leb, lt-leb, lt-ltb}
 use lib.Dec.{leb, ltb, eqb, leb·zero, leb·suc-zero}
 use lib.IntN.{ℤ, pos, negsuc}
 use lib.Signed.{leZ}
@@ -12,19 +12,21 @@ use lib.ListN.{getD, take}
 use Rattle.integers.specs.Parts.{up}
 use Rattle.limits.specs.Limits.{mostAnchor, mostPositions, leastDivisor, mostAmount}
 use Rattle.tuning.specs.Desk.{between, isTone, isAnchor, isPeriod}
+use Rattle.tuning.proofs.Lists.{both}
 use Rattle.tuning.specs.declared.Operator.the-variants.{Divide}
 use Rattle.tuning.specs.declared.Amount.{Amount}
 use Rattle.tuning.specs.declared.Amount.the-variants.{Relative}
 use Rattle.tuning.specs.declared.PeriodChange.{PeriodChange}
 use Rattle.tables.specs.declared.Row.{Row}
 use Rattle.tables.specs.declared.Row.the-variants.{Unused}
-use Rattle.tables.specs.Layout.{Tables, numbers, numberAt, readAt, mostOrders, numbersOf, rowOf, rowCount, used, systemForm, tonesForm, logicForm, amountOf, amountCode, amountNumber, periodOf, periodCode, periodSum, keptCode, absoluteCode, plusCode, minusCode, timesCode, divideCode, freshCode, onwardCode, mutedCode, soundsCode, muteCode, moveCode, setCode}
+use Rattle.tables.specs.Layout.{Tables, numbers, numberAt, readAt, mostOrders, numbersOf, rowOf, rowCount, used, systemForm, tonesForm, logicForm, harmonyForm, harmonyBase, halfSet, allSets, amountOf, amountCode, amountNumber, periodOf, periodCode, periodSum, keptCode, absoluteCode, plusCode, minusCode, timesCode, divideCode, freshCode, onwardCode, mutedCode, soundsCode, muteCode, moveCode, setCode}
 use Rattle.tables.proofs.Forms.{by-form, past-forms, no-row}
+use Rattle.tables.proofs.Sizes.{alike}
 use Rattle.validity.specs.declared.Kinds.{Kinds}
 use Rattle.validity.specs.declared.Ends.{Ends}
-use Rattle.validity.specs.Valid.{same, noPart, isPart, isSum, isCapital, isAnchorAmount, isWidthAmount, isSystemOrRetuning, isCalled, refersTo, isStart, declarationRight, isOwn, rowsRight, declarations, kinds, oneMore, kindsFrom, kindsRight, belonging, ends, follows, endsAfter, partsFollow, ordersRight, toneRight, changeRight, eachRight, listRight, countsRight, validTables}
+use Rattle.validity.specs.Valid.{same, noPart, isPart, isSum, isTrigger, isHarmony, isAnchorAmount, isWidthAmount, isSystemOrRetuning, isCalled, refersTo, isStart, declarationRight, isOwn, rowsRight, declarations, kinds, oneMore, kindsFrom, kindsRight, belonging, ends, follows, endsAfter, partsFollow, ordersRight, toneRight, changeRight, eachRight, listRight, countsRight, validTables}
 use Rattle.validity.proofs.Runs.{kinds-above, zero-bounds}
-use Rattle.validity.specs.Inner.{isZero, isLetterCode, isAmount, isForm, isStartCode, fastRow, kindsWith, endsWith, fastRows, fastOrders, fastEach, fastList, fastTables}
+use Rattle.validity.specs.Inner.{isZero, isAmount, isForm, isStartCode, isTriggerCode, mostHalf, isHalf, fastRow, kindsWith, endsWith, fastRows, fastOrders, fastEach, fastList, fastTables}
 
 -- ---- signed numbers and their natural parts
 
@@ -59,9 +61,9 @@ swapped false b c = refl
 
 -- ---- the forms of rows
 
-no-fast : (f : ℕ) (a b : ℤ) (m n : ℕ) → logicForm < f → (rows : List ℤ) (count : ℕ) (e : Ends) → fastRow rows count e (numbers f a b m n) ≡ false
+no-fast : (f : ℕ) (a b : ℤ) (m n : ℕ) → harmonyForm < f → (rows : List ℤ) (count : ℕ) (e : Ends) → fastRow rows count e (numbers f a b m n) ≡ false
 unfolding fastRow
-no-fast f a b m n h rows count e = past-forms f h _ _ _ _ _ _ _ _ _
+no-fast f a b m n h rows count e = past-forms f h _ _ _ _ _ _ _ _ _ _
 
 -- ---- amounts, periods and starts
 
@@ -122,26 +124,31 @@ module _ (a b : ℤ) (m n : ℕ) where
   abbrev row : ℕ → Row
   row f = rowOf (numbers f a b m n)
 
-  none : {A : Type 0} (g : Row → A) (f : ℕ) → logicForm < f → g (row f) ≡ g Unused
+  none : {A : Type 0} (g : Row → A) (f : ℕ) → harmonyForm < f → g (row f) ≡ g Unused
   none g f h = ap g (no-row f a b m n h)
 
   pub started : (f : ℕ) → isSystemOrRetuning (row f) ≡ leb systemForm f && leb f tonesForm
   unfolding rowOf
-  started = by-form (λ f. isSystemOrRetuning (row f) ≡ leb systemForm f && leb f tonesForm) refl refl refl refl refl refl refl refl refl
+  started = by-form (λ f. isSystemOrRetuning (row f) ≡ leb systemForm f && leb f tonesForm) refl refl refl refl refl refl refl refl refl refl
       (λ f h. none isSystemOrRetuning f h ∙ simp (lt-leb f tonesForm (omega arith), and-false))
 
   pub called : (f : ℕ) → isCalled (row f) ≡ leb systemForm f && leb f logicForm
   unfolding rowOf
-  called = by-form (λ f. isCalled (row f) ≡ leb systemForm f && leb f logicForm) refl refl refl refl refl refl refl refl refl
+  called = by-form (λ f. isCalled (row f) ≡ leb systemForm f && leb f logicForm) refl refl refl refl refl refl refl refl refl refl
       (λ f h. none isCalled f h ∙ simp (lt-leb f logicForm (omega arith), and-false))
+
+  pub harmonic : (f : ℕ) → isHarmony (row f) ≡ leb harmonyForm f && leb f harmonyForm
+  unfolding rowOf
+  harmonic = by-form (λ f. isHarmony (row f) ≡ leb harmonyForm f && leb f harmonyForm) refl refl refl refl refl refl refl refl refl refl
+      (λ f h. none isHarmony f h ∙ simp (lt-leb f harmonyForm (omega arith), and-false))
 
   kinds-same : (k : Kinds) (f : ℕ) → oneMore k (row f) ≡ kindsWith k f
   unfolding rowOf kindsWith
-  kinds-same k = by-form (λ f. oneMore k (row f) ≡ kindsWith k f) refl refl refl refl refl refl refl refl refl (λ f h. none (oneMore k) f h ∙ kinds-above k f h)
+  kinds-same k = by-form (λ f. oneMore k (row f) ≡ kindsWith k f) refl refl refl refl refl refl refl refl refl refl (λ f h. none (oneMore k) f h ∙ kinds-above k f h)
 
   ends-same : (e : Ends) (f : ℕ) → endsAfter e (belonging (row f)) ≡ endsWith e f n
   unfolding rowOf endsWith
-  ends-same e = by-form (λ f. endsAfter e (belonging (row f)) ≡ endsWith e f n) refl refl refl refl refl refl refl refl refl
+  ends-same e = by-form (λ f. endsAfter e (belonging (row f)) ≡ endsWith e f n) refl refl refl refl refl refl refl refl refl refl
       (λ f h.
       none (λ r. endsAfter e (belonging r)) f h
       ∙ simp (ne-eqb f systemForm (omega arith), ne-eqb f tonesForm (omega arith), ne-eqb f logicForm (omega arith)))
@@ -154,10 +161,6 @@ same-both z = rw (same-self z)
 
 same-up : (z : ℤ) → same (pos (up z)) z ≡ leZ (pos 0) z
 same-up z = rw (up-below z, up-above z) (and-true _)
-
-letter-same : (z : ℤ) → same (pos (up z)) z && isCapital (up z) ≡ isLetterCode z
-letter-same (pos n) = rw (le-self n)
-letter-same (negsuc n) = refl
 
 -- none but zeros follow: intervals and tones
 zeros-same : (a b x y : ℤ) → same a a && isZero b && isZero x && isZero y && isTone a && true
@@ -180,7 +183,67 @@ bounds-same s d f x y q = rw (same-up x, same-up y, sym q) (moved s (leZ (pos 0)
 nothing-same : (s d n : Bool) {r : Bool} → s && d ≡ r → s && (d && n) && true ≡ r && n
 nothing-same s d n e = and-true (s && (d && n)) ∙ sym (and-assoc s d n) ∙ ap (λ (b : Bool). b && n) e
 
+-- ---- a set of key numbers: two numbers of thirty bits each give one below allSets, and back
+
+set-same : (a b : ℤ) → let s = up a + up b * halfSet in
+    same (pos (s % halfSet)) a && same (pos (s / halfSet)) b && ltb s allSets ≡ isHalf a && isHalf b
+set-same (negsuc k) b = refl
+set-same (pos m) (negsuc k) = rw (and-false (same (pos ((m + 0 * halfSet) % halfSet)) (pos m)), and-false (isHalf (pos m)))
+set-same (pos m) (pos k) =
+    let s = m + k * halfSet in
+    let first = same (pos (s % halfSet)) (pos m) in
+    let second = same (pos (s / halfSet)) (pos k) in
+    alike (first && second && ltb s allSets) (isHalf (pos m) && isHalf (pos k))
+    (λ h.
+    let x = both (first && second) (ltb s allSets) h in
+    let y = both first second (x .0) in
+    let p = leb-true m (s % halfSet) (both (leb (s % halfSet) m) (leb m (s % halfSet)) (y .0) .1) in
+    let q = leb-true k (s / halfSet) (both (leb (s / halfSet) k) (leb k (s / halfSet)) (y .1) .1) in
+    let r = ltb-true s allSets (x .1) in
+    rw (leb·zero m, leb·zero k, le-leb m mostHalf (omega arith), le-leb k mostHalf (omega arith)))
+    (λ h.
+    let x = both (isHalf (pos m)) (isHalf (pos k)) h in
+    let p = leb-true m mostHalf (both (leb 0 m) (leb m mostHalf) (x .0) .1) in
+    let q = leb-true k mostHalf (both (leb 0 k) (leb k mostHalf) (x .1) .1) in
+    let e : s % halfSet ≡ m = omega arith in
+    let f : s / halfSet ≡ k = omega arith in
+    rw (e, f, le-self m, le-self k, lt-ltb s allSets (omega arith)))
+
+harmony-same : (a b x y : ℤ) → let s = up a + up b * halfSet in let u = up x + up y * halfSet in
+    same (pos (s % halfSet)) a && same (pos (s / halfSet)) b && same (pos (u % halfSet)) x && same (pos (u / halfSet)) y
+    && (ltb s allSets && ltb u allSets) && true
+    ≡ (leZ (pos 0) x && leZ (pos 0) y) && (isHalf a && isHalf b && leb (up x) mostHalf && leb (up y) mostHalf)
+harmony-same a b x y =
+    let s = up a + up b * halfSet in
+    let u = up x + up y * halfSet in
+    paired (same (pos (s % halfSet)) a && same (pos (s / halfSet)) b) (same (pos (u % halfSet)) x) (same (pos (u / halfSet)) y) (ltb s allSets) (ltb u allSets)
+    ∙ rw (set-same a b, set-same x y, up-most x mostHalf, up-most y mostHalf)
+    (apart (isHalf a && isHalf b) (leZ (pos 0) x) (leZ x (pos mostHalf)) (leZ (pos 0) y) (leZ y (pos mostHalf)))
+  where
+    paired : (p q r l m : Bool) → p && q && r && (l && m) && true ≡ (p && l) && (q && r && m)
+    paired true q r true m = and-true (q && r && m)
+    paired true q r false m = and-true (q && r && false) ∙ and-false (q && r)
+    paired false q r l m = refl
+
+    apart : (h p q r s : Bool) → h && ((p && q) && (r && s)) ≡ (p && r) && (h && q && s)
+    apart true true q true s = refl
+    apart true true q false s = and-false q
+    apart true false q r s = refl
+    apart false p q r s = sym (and-false (p && r))
+
 module _ (t : Tables) where
+  harmony-referred : (i : ℕ) → refersTo isHarmony t i ≡ isForm (t .rows) (rowCount t) harmonyForm harmonyForm i
+  harmony-referred i =
+      let r = readAt (t .rows) i in
+      rw (harmonic (r .first) (r .second) (r .from) (r .to) (r .form)) (sym (and-assoc (ltb i (rowCount t)) (leb harmonyForm (r .form)) (leb (r .form) harmonyForm)))
+
+  trigger-code : (n : ℕ) → isTrigger t n ≡ isTriggerCode (t .rows) (rowCount t) (pos n)
+  trigger-code n = rw (harmony-referred (n - harmonyBase))
+
+  trigger-same : (z : ℤ) → same (pos (up z)) z && isTrigger t (up z) ≡ isTriggerCode (t .rows) (rowCount t) z
+  trigger-same (pos n) = rw (le-self n) (trigger-code n)
+  trigger-same (negsuc n) = refl
+
   start-same : (b : ℤ) → same (pos (up b)) b && isStart t (up b) ≡ isStartCode (t .rows) (rowCount t) b
   start-same (negsuc k) = refl
   start-same (pos zero) = refl
@@ -201,11 +264,11 @@ module _ (t : Tables) where
   system-same a b p f = rw (same-up a, same-both b, leb·zero (up a), up-most a mostAnchor) (simp (and-true, and-assoc))
 
   logic-same : (a b : ℤ) (p f : Bool)
-      → same (pos (up a)) a && same (pos (up b)) b && (isCapital (up a) && isStart t (up b) && p) && f
-      ≡ isLetterCode a && isStartCode (t .rows) (rowCount t) b && (p && f)
+      → same (pos (up a)) a && same (pos (up b)) b && (isTrigger t (up a) && isStart t (up b) && p) && f
+      ≡ isTriggerCode (t .rows) (rowCount t) a && isStartCode (t .rows) (rowCount t) b && (p && f)
   logic-same a b p f =
-      paired (same (pos (up a)) a) (same (pos (up b)) b) (isCapital (up a)) (isStart t (up b))
-      ∙ rw (letter-same a, start-same b)
+      paired (same (pos (up a)) a) (same (pos (up b)) b) (isTrigger t (up a)) (isStart t (up b))
+      ∙ rw (trigger-same a, start-same b)
     where
       paired : (x y l s : Bool) → x && y && (l && s && p) && f ≡ (x && l) && (y && s) && (p && f)
       paired true true l s = and-assoc (l && s) p f
@@ -261,12 +324,13 @@ module _ (t : Tables) where
         (bounds-same periods (isSum (periodSum p) && bare) true x y (nothing-same periods (isSum (periodSum p)) bare (period-same a b)))
         (bounds-same (isZero a && isZero b) (part 1 mostPositions) (eqb (up x) (e .changes)) x y
         (and-assoc (isZero a && isZero b) (part 1 mostPositions) (eqb (up x) (e .changes))))
-        (bounds-same (same (pos (up a)) a && same (pos (up b)) b) (isCapital (up a) && isStart t (up b) && part 0 mostOrders) (eqb (up x) (e .orders)) x y
+        (bounds-same (same (pos (up a)) a && same (pos (up b)) b) (isTrigger t (up a) && isStart t (up b) && part 0 mostOrders) (eqb (up x) (e .orders)) x y
         (logic-same a b (part 0 mostOrders) (eqb (up x) (e .orders))))
+        (harmony-same a b x y)
         unknown
         f
       where
-        unknown : (f : ℕ) → logicForm < f → rightAt (pos f) ≡ fastAt (pos f)
+        unknown : (f : ℕ) → harmonyForm < f → rightAt (pos f) ≡ fastAt (pos f)
         unknown f h =
             ap (λ (r : Row). right r (pos f)) (no-row f a b (up x) (up y) h)
             ∙ rw (no-fast f a b (up x) (up y) h (t .rows) (rowCount t) e)
@@ -305,7 +369,7 @@ module _ (t : Tables) where
   orders-same : (i n : ℕ) → ordersRight t i n ≡ fastOrders (t .rows) (rowCount t) (t .triggers) (t .calls) i n
   unfolding ordersRight fastOrders
   orders-same i zero = refl
-  orders-same i (suc n) = rw (called-same t (getD (t .calls) i 0), orders-same (suc i) n)
+  orders-same i (suc n) = rw (trigger-code t (getD (t .triggers) i 0), called-same t (getD (t .calls) i 0), orders-same (suc i) n)
 
 -- ---- tones and changes
 
@@ -359,8 +423,8 @@ fast-same t =
       list-same toneRight soundsCode isTone tone-same (c .tones) (t .sounding) (t .tones),
       list-same changeRight setCode isSum change-same (c .changes) (t .kinds) (t .changes),
       orders-same t 0 (c .orders),
-      ← (rows-same t (kinds 0 0 0 0 0) (ends 0 0 0) 0 (c .rows)),
-      together (countsRight c) (rowsRight t 0 (c .rows)) (kindsRight (kindsFrom (kinds 0 0 0 0 0) rs)) (partsFollow c (ends 0 0 0) rs),
+      ← (rows-same t (kinds 0 0 0 0 0 0) (ends 0 0 0) 0 (c .rows)),
+      together (countsRight c) (rowsRight t 0 (c .rows)) (kindsRight (kindsFrom (kinds 0 0 0 0 0 0) rs)) (partsFollow c (ends 0 0 0) rs),
     )
   where
     together : (a b c d : Bool) → a && b && c && d ≡ a && (b && c && d)

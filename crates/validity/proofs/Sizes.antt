@@ -40,7 +40,7 @@ room-is c r =
 
 abbrev pub contents : Tables → Counts → Bool
 contents t c =
-    fastRows (t .rows) c (kinds 0 0 0 0 0) (ends 0 0 0) 0 (c .rows) && allZero (drop (rowWidth * c .rows) (t .rows))
+    fastRows (t .rows) c (kinds 0 0 0 0 0 0) (ends 0 0 0) 0 (c .rows) && allZero (drop (rowWidth * c .rows) (t .rows))
     && fastList soundsCode isTone (c .tones) (t .sounding) (t .tones) && fastList setCode isSum (c .changes) (t .kinds) (t .changes)
     && fastOrders (t .rows) (c .rows) (t .triggers) (t .calls) 0 (c .orders) && allNought (drop (c .orders) (t .triggers))
     && allNought (drop (c .orders) (t .calls))

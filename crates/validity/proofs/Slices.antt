@@ -10,21 +10,22 @@ use Rattle.tuning.specs.Desk.{isTone}
 use Rattle.tables.specs.declared.Counts.{Counts}
 use Rattle.tables.specs.Layout.{section, tablesIn, column, triggersIn, callsIn, rowWidth, orderWidth, mostTones, mostChanges, mostOrders, countsSize, countsOf, tonesAt, changesAt, soundingAt, kindsAt, ordersAt, systemForm, logicForm, soundsCode, setCode}
 use Rattle.tables.specs.Values.{Slices}
-use Rattle.tables.proofs.Columns.{letter-at, call-at, triggers-drop, calls-drop}
+use Rattle.tables.proofs.Columns.{trigger-at, call-at, triggers-drop, calls-drop}
 use Rattle.tables.proofs.Sizes.{section-last, slices-full}
 use Rattle.validity.specs.Valid.{countsRight, kinds, ends, allZero, allNought, isSum, validTables}
-use Rattle.validity.specs.Inner.{isLetterCode, isForm, fastRows, fastOrders, fastList}
+use Rattle.validity.specs.Inner.{isTriggerCode, isForm, fastRows, fastOrders, fastList}
 use Rattle.validity.proofs.Same.{swapped}
 use Rattle.validity.proofs.Sizes.{valid-contents, crowded}
 
 -- ---- an order, as the code reads it
 
-pub order-told : (rows : List ℤ) (count : ℕ) (orders : List ℕ) (i : ℕ) {b : Bool} → b ≡ isForm rows count systemForm logicForm (getD orders (orderWidth * i + 1) 0)
-    → isLetterCode (pos (getD orders (orderWidth * i) 0)) && b
-    ≡ isLetterCode (pos (getD (triggersIn orders) i 0)) && isForm rows count systemForm logicForm (getD (callsIn orders) i 0)
-order-told rows count orders i {b} e =
-    ap (λ (k : ℕ). isLetterCode (pos k) && b) (letter-at orders i)
-    ∙ ap (λ (x : Bool). isLetterCode (pos (getD (triggersIn orders) i 0)) && x) (e ∙ ap (isForm rows count systemForm logicForm) (call-at orders i))
+pub order-told : (rows : List ℤ) (count : ℕ) (orders : List ℕ) (i : ℕ) {a b : Bool}
+    → a ≡ isTriggerCode rows count (pos (getD orders (orderWidth * i) 0)) → b ≡ isForm rows count systemForm logicForm (getD orders (orderWidth * i + 1) 0)
+    → a && b ≡ isTriggerCode rows count (pos (getD (triggersIn orders) i 0)) && isForm rows count systemForm logicForm (getD (callsIn orders) i 0)
+order-told rows count orders i {a} {b} e f =
+    let trigger : a ≡ isTriggerCode rows count (pos (getD (triggersIn orders) i 0)) = e ∙ ap (λ (k : ℕ). isTriggerCode rows count (pos k)) (trigger-at orders i) in
+    let call : b ≡ isForm rows count systemForm logicForm (getD (callsIn orders) i 0) = f ∙ ap (isForm rows count systemForm logicForm) (call-at orders i) in
+    rw (trigger, call)
 
 -- ---- orders that are zero
 
@@ -47,7 +48,7 @@ module _ {numbers : List ℤ} {codes : List ℕ} (s : Slices numbers codes) {u :
   unfolding tablesIn
   few h = crowded (tablesIn numbers codes) u e h
 
-  pub valid-slices : countsRight u ≡ true → {a b c d f g : Bool} → a ≡ fastRows (section 0 tonesAt numbers) u (kinds 0 0 0 0 0) (ends 0 0 0) 0 (u .rows)
+  pub valid-slices : countsRight u ≡ true → {a b c d f g : Bool} → a ≡ fastRows (section 0 tonesAt numbers) u (kinds 0 0 0 0 0 0) (ends 0 0 0) 0 (u .rows)
       → b ≡ allZero (drop (rowWidth * u .rows) (section 0 tonesAt numbers))
       → c ≡ fastList soundsCode isTone (u .tones) (section soundingAt mostTones codes) (section tonesAt mostTones numbers)
       → d ≡ fastList setCode isSum (u .changes) (section kindsAt mostChanges codes) (section changesAt mostChanges numbers)

@@ -14,7 +14,7 @@ use Rattle.tuning.specs.Desk.{between, isAnchor, isPeriod, isTone}
 use Rattle.tuning.specs.State.{places, coded, validState}
 use Rattle.tables.specs.declared.Counts.{Counts}
 use Rattle.tables.specs.declared.Numbers.{Numbers}
-use Rattle.tables.specs.Layout.{Tables, numberAt, rowWidth, mostOrders, fullSize, used, readAt, tonesFrom, intervalForm, toneForm, systemForm, anchorForm, widthForm, periodForm, tonesForm, logicForm, keptCode, minusCode, divideCode, freshCode, onwardCode, soundsCode, setCode}
+use Rattle.tables.specs.Layout.{Tables, numberAt, rowWidth, mostOrders, fullSize, used, readAt, tonesFrom, intervalForm, toneForm, systemForm, anchorForm, widthForm, periodForm, tonesForm, logicForm, harmonyForm, harmonyBase, halfSet, keptCode, minusCode, divideCode, freshCode, onwardCode, soundsCode, setCode}
 use Rattle.tables.specs.Values.{system, Part}
 use Rattle.validity.specs.declared.Kinds.{Kinds}
 use Rattle.validity.specs.declared.Ends.{Ends}
@@ -46,6 +46,21 @@ isForm rows count low high i = ltb i count && leb low (readAt rows i .form) && l
 abbrev pub isStartCode : List ℤ → ℕ → ℤ → Bool
 isStartCode rows count s = isZero s || (leZ (pos 1) s && isForm rows count systemForm tonesForm (up s - 1))
 
+-- a letter, or the declaration of a harmony
+abbrev pub isTriggerCode : List ℤ → ℕ → ℤ → Bool
+isTriggerCode rows count c = isLetterCode c || (leZ (pos harmonyBase) c && isForm rows count harmonyForm harmonyForm (up c - harmonyBase))
+
+-- thirty bits of a harmony's set
+abbrev pub mostHalf : ℕ
+mostHalf = halfSet - 1
+
+abbrev pub isHalf : ℤ → Bool
+isHalf z = between (pos 0) (pos mostHalf) z
+
+-- the numbers of a harmony
+abbrev pub areHalves : Numbers → Bool
+areHalves r = isHalf (r .first) && isHalf (r .second) && leb (r .from) mostHalf && leb (r .to) mostHalf
+
 -- a row after rows that end at e
 unfoldable pub fastRow : List ℤ → ℕ → Ends → Numbers → Bool
 fastRow rows count e r =
@@ -60,7 +75,8 @@ fastRow rows count e r =
     (cond (eqb (r .form) widthForm) (isAmount divideCode a b && noPart m n)
     (cond (eqb (r .form) periodForm) (between (pos freshCode) (pos onwardCode) a && isSum b && noPart m n)
     (cond (eqb (r .form) tonesForm) (isZero a && isZero b && isPartAt 1 places (e .changes) m n)
-    (cond (eqb (r .form) logicForm) (isLetterCode a && isStartCode rows count b && isPartAt 0 mostOrders (e .orders) m n) false)))))))
+    (cond (eqb (r .form) logicForm) (isTriggerCode rows count a && isStartCode rows count b && isPartAt 0 mostOrders (e .orders) m n)
+    (cond (eqb (r .form) harmonyForm) (areHalves r) false))))))))
 
 -- the form and the bounds are no negative numbers
 abbrev pub hasNaturals : List ℤ → ℕ → Bool
@@ -77,19 +93,20 @@ valueRight rows i = isTone (numberAt rows i 1) && isZero (numberAt rows i 2) && 
 -- one more of a form
 unfoldable pub kindsWith : Kinds → ℕ → Kinds
 kindsWith k form =
-    cond (eqb form intervalForm) (kinds (suc (k .intervals)) (k .tones) (k .systems) (k .retunings) (k .logics))
-    (cond (eqb form toneForm) (kinds (k .intervals) (suc (k .tones)) (k .systems) (k .retunings) (k .logics))
-    (cond (eqb form systemForm) (kinds (k .intervals) (k .tones) (suc (k .systems)) (k .retunings) (k .logics))
-    (cond (eqb form logicForm) (kinds (k .intervals) (k .tones) (k .systems) (k .retunings) (suc (k .logics)))
-    (cond (leb anchorForm form && leb form tonesForm) (kinds (k .intervals) (k .tones) (k .systems) (suc (k .retunings)) (k .logics)) k))))
+    cond (eqb form intervalForm) (kinds (suc (k .intervals)) (k .tones) (k .systems) (k .retunings) (k .logics) (k .harmonies))
+    (cond (eqb form toneForm) (kinds (k .intervals) (suc (k .tones)) (k .systems) (k .retunings) (k .logics) (k .harmonies))
+    (cond (eqb form systemForm) (kinds (k .intervals) (k .tones) (suc (k .systems)) (k .retunings) (k .logics) (k .harmonies))
+    (cond (eqb form logicForm) (kinds (k .intervals) (k .tones) (k .systems) (k .retunings) (suc (k .logics)) (k .harmonies))
+    (cond (eqb form harmonyForm) (kinds (k .intervals) (k .tones) (k .systems) (k .retunings) (k .logics) (suc (k .harmonies)))
+    (cond (leb anchorForm form && leb form tonesForm) (kinds (k .intervals) (k .tones) (k .systems) (suc (k .retunings)) (k .logics) (k .harmonies)) k)))))
 
 -- how many rows are no intervals
 abbrev pub others : Kinds → ℕ
-others k = k .tones + k .systems + k .retunings + k .logics
+others k = k .tones + k .systems + k .retunings + k .logics + k .harmonies
 
 -- the kinds of n rows, of which these are no intervals
 abbrev pub kindsAmong : Kinds → ℕ → Kinds
-kindsAmong k n = kinds (n - others k) (k .tones) (k .systems) (k .retunings) (k .logics)
+kindsAmong k n = kinds (n - others k) (k .tones) (k .systems) (k .retunings) (k .logics) (k .harmonies)
 
 -- where a row's own end
 unfoldable pub endsWith : Ends → ℕ → ℕ → Ends
@@ -108,7 +125,7 @@ fastRows rows c k e i (suc n) =
 unfoldable pub fastOrders : List ℤ → ℕ → List ℕ → List ℕ → ℕ → ℕ → Bool
 fastOrders rows count triggers calls i zero = true
 fastOrders rows count triggers calls i (suc n) =
-    isLetterCode (pos (getD triggers i 0)) && isForm rows count systemForm logicForm (getD calls i 0) && fastOrders rows count triggers calls (suc i) n
+    isTriggerCode rows count (pos (getD triggers i 0)) && isForm rows count systemForm logicForm (getD calls i 0) && fastOrders rows count triggers calls (suc i) n
 
 -- a kind up to `last` and a number in its range, zero where the kind is 0
 unfoldable pub fastEach : ℕ → (ℤ → Bool) → List ℕ → List ℤ → Bool
@@ -123,7 +140,7 @@ unfoldable pub fastTables : Tables → Bool
 fastTables t =
     let c = used t in
     cond (fullSize t)
-    (countsRight c && fastRows (t .rows) c (kinds 0 0 0 0 0) (ends 0 0 0) 0 (c .rows) && allZero (drop (rowWidth * c .rows) (t .rows))
+    (countsRight c && fastRows (t .rows) c (kinds 0 0 0 0 0 0) (ends 0 0 0) 0 (c .rows) && allZero (drop (rowWidth * c .rows) (t .rows))
     && fastList soundsCode isTone (c .tones) (t .sounding) (t .tones) && fastList setCode isSum (c .changes) (t .kinds) (t .changes)
     && fastOrders (t .rows) (c .rows) (t .triggers) (t .calls) 0 (c .orders) && allNought (drop (c .orders) (t .triggers))
     && allNought (drop (c .orders) (t .calls)))

@@ -2,11 +2,11 @@
 -- counts are those of "Numbers allowed". A row is judged by the declaration that it stands for (`rowAt`).
 use mathlib.Core.Bool.{Bool, true, false, cond, _&&_, _||_}
 use mathlib.Core.List.{List, [], _∷_}
-use Prim.Native.Nat.{ℕ, zero, suc, _+_, _*_}
+use Prim.Native.Nat.{ℕ, zero, suc, _+_, _-_, _*_}
 use lib.Dec.{leb, ltb, eqb}
 use lib.IntN.{ℤ, pos, negℤ}
 use lib.ListN.{getD, take, drop}
-use Rattle.limits.specs.Limits.{leastDivisor, mostAmount, mostPositions, mostIntervals, mostToneNames, mostSystems, mostRetunings, mostLogics, firstLetter, lastLetter}
+use Rattle.limits.specs.Limits.{leastDivisor, mostAmount, mostPositions, mostIntervals, mostToneNames, mostSystems, mostRetunings, mostLogics, mostHarmonies, firstLetter, lastLetter}
 use Rattle.tuning.specs.Desk.{between, isAnchor, isPeriod, isTone}
 use Rattle.tuning.specs.declared.Operator.the-variants.{Plus, Minus, Times, Divide}
 use Rattle.tuning.specs.declared.Amount.{Amount}
@@ -19,8 +19,8 @@ use Rattle.tuning.specs.declared.Retuning.{Retuning as RetuningForm}
 use Rattle.tuning.specs.declared.Retuning.the-variants.{Anchor, Width, Period, Tones}
 use Rattle.tables.specs.declared.Counts.{Counts}
 use Rattle.tables.specs.declared.Row.{Row}
-use Rattle.tables.specs.declared.Row.the-variants.{Unused, Interval, Tone, System, Retuning, Logic}
-use Rattle.tables.specs.Layout.{Tables, numberAt, mostRows, rowWidth, mostTones, mostChanges, mostOrders, farthestSum, fullSize, used, rowCount, readAt, numbersOf, rowOf, rowAt, periodSum, soundingOf, pitchOf, toneOf, changeCode, changeNumber, changeOf}
+use Rattle.tables.specs.declared.Row.the-variants.{Unused, Interval, Tone, System, Retuning, Logic, Harmony}
+use Rattle.tables.specs.Layout.{Tables, numberAt, mostRows, rowWidth, mostTones, mostChanges, mostOrders, farthestSum, fullSize, used, rowCount, readAt, numbersOf, rowOf, rowAt, AsHarmony, no-harmony, a-harmony, asHarmony, harmonyBase, allSets, periodSum, soundingOf, pitchOf, toneOf, changeCode, changeNumber, changeOf}
 use Rattle.validity.specs.declared.Kinds.{Kinds}
 use Rattle.validity.specs.declared.Ends.{Ends}
 
@@ -71,6 +71,7 @@ calledAs (Tone p) = nothing-called
 calledAs (System a P from to) = retunes
 calledAs (Retuning r from to) = retunes
 calledAs (Logic c s from to) = activates
+calledAs (Harmony needed named) = nothing-called
 
 abbrev pub doesRetune : CalledAs → Bool
 doesRetune nothing-called = false
@@ -101,6 +102,19 @@ abbrev pub isStart : Tables → ℕ → Bool
 isStart t zero = true
 isStart t (suc k) = refersTo isSystemOrRetuning t k
 
+-- ---- triggers: "Its bare name is a trigger beside `KEY letter`, in logics and orders" (a harmony's: Document 02, 5/13)
+
+abbrev pub isSome : AsHarmony → Bool
+isSome no-harmony = false
+isSome (a-harmony needed named) = true
+
+abbrev pub isHarmony : Row → Bool
+isHarmony r = isSome (asHarmony r)
+
+-- a letter, or 256 and the number of a harmony's declaration
+abbrev pub isTrigger : Tables → ℕ → Bool
+isTrigger t c = isCapital c || (leb harmonyBase c && refersTo isHarmony t (c - harmonyBase))
+
 -- ---- rows
 
 -- what belongs to a row stands from one place to another: from `least` to `most` of them
@@ -124,7 +138,8 @@ declarationRight t (Interval d) = isTone (d .0)
 declarationRight t (Tone p) = isTone (p .0)
 declarationRight t (System a P from to) = isAnchor (pos (a .0)) && isPeriod (P .0) && isPart 1 mostPositions from to
 declarationRight t (Retuning r from to) = retuningRight r from to
-declarationRight t (Logic c s from to) = isCapital c && isStart t s && isPart 0 mostOrders from to
+declarationRight t (Logic c s from to) = isTrigger t c && isStart t s && isPart 0 mostOrders from to
+declarationRight t (Harmony needed named) = ltb needed allSets && ltb named allSets
 
 -- the five numbers of row i are those of the declaration that it stands for: one that the declaration does not use is zero
 unfoldable pub isOwn : List ℤ → ℕ → Bool
@@ -145,26 +160,27 @@ declarations rows i (suc n) = rowOf (readAt rows i) ∷ declarations rows (suc i
 
 -- ---- how many there are of each kind
 
-abbrev pub kinds : ℕ → ℕ → ℕ → ℕ → ℕ → Kinds
-kinds i t s r l = record { intervals = i; tones = t; systems = s; retunings = r; logics = l }
+abbrev pub kinds : ℕ → ℕ → ℕ → ℕ → ℕ → ℕ → Kinds
+kinds i t s r l h = record { intervals = i; tones = t; systems = s; retunings = r; logics = l; harmonies = h }
 
 abbrev pub oneMore : Kinds → Row → Kinds
 oneMore k Unused = k
-oneMore k (Interval d) = kinds (suc (k .intervals)) (k .tones) (k .systems) (k .retunings) (k .logics)
-oneMore k (Tone p) = kinds (k .intervals) (suc (k .tones)) (k .systems) (k .retunings) (k .logics)
-oneMore k (System a P from to) = kinds (k .intervals) (k .tones) (suc (k .systems)) (k .retunings) (k .logics)
-oneMore k (Retuning r from to) = kinds (k .intervals) (k .tones) (k .systems) (suc (k .retunings)) (k .logics)
-oneMore k (Logic c s from to) = kinds (k .intervals) (k .tones) (k .systems) (k .retunings) (suc (k .logics))
+oneMore k (Interval d) = kinds (suc (k .intervals)) (k .tones) (k .systems) (k .retunings) (k .logics) (k .harmonies)
+oneMore k (Tone p) = kinds (k .intervals) (suc (k .tones)) (k .systems) (k .retunings) (k .logics) (k .harmonies)
+oneMore k (System a P from to) = kinds (k .intervals) (k .tones) (suc (k .systems)) (k .retunings) (k .logics) (k .harmonies)
+oneMore k (Retuning r from to) = kinds (k .intervals) (k .tones) (k .systems) (suc (k .retunings)) (k .logics) (k .harmonies)
+oneMore k (Logic c s from to) = kinds (k .intervals) (k .tones) (k .systems) (k .retunings) (suc (k .logics)) (k .harmonies)
+oneMore k (Harmony needed named) = kinds (k .intervals) (k .tones) (k .systems) (k .retunings) (k .logics) (suc (k .harmonies))
 
 unfoldable pub kindsFrom : Kinds → List Row → Kinds
 kindsFrom k [] = k
 kindsFrom k (r ∷ rs) = kindsFrom (oneMore k r) rs
 
--- "intervals, tones: 256 each", "tone systems, logics: 32 each", "retunings: 128"
+-- "intervals, tones: 256 each", "tone systems, logics: 32 each", "retunings: 128"; "at most 64 harmonies"
 abbrev pub kindsRight : Kinds → Bool
 kindsRight k =
     leb (k .intervals) mostIntervals && leb (k .tones) mostToneNames && leb (k .systems) mostSystems && leb (k .retunings) mostRetunings
-    && leb (k .logics) mostLogics
+    && leb (k .logics) mostLogics && leb (k .harmonies) mostHarmonies
 
 -- ---- tones, changes and orders stand one row's after the other's, and no row uses those of another
 
@@ -183,6 +199,7 @@ belonging (Retuning (Width m) from to) = nothing
 belonging (Retuning (Period m) from to) = nothing
 belonging (Retuning Tones from to) = changes from to
 belonging (Logic c s from to) = orders from to
+belonging (Harmony needed named) = nothing
 
 -- where the tones, changes and orders of some rows end
 abbrev pub ends : ℕ → ℕ → ℕ → Ends
@@ -213,7 +230,7 @@ partsFollow c e (r ∷ rs) = follows e (belonging r) && partsFollow c (endsAfter
 
 unfoldable pub ordersRight : Tables → ℕ → ℕ → Bool
 ordersRight t i zero = true
-ordersRight t i (suc n) = isCapital (getD (t .triggers) i 0) && refersTo isCalled t (getD (t .calls) i 0) && ordersRight t (suc i) n
+ordersRight t i (suc n) = isTrigger t (getD (t .triggers) i 0) && refersTo isCalled t (getD (t .calls) i 0) && ordersRight t (suc i) n
 
 -- ---- tones and changes: the used ones in their ranges, with the numbers that they have, and the others zeros
 
@@ -255,7 +272,7 @@ validTables t =
     let c = used t in
     let rs = declarations (t .rows) 0 (c .rows) in
     cond (fullSize t)
-    (countsRight c && rowsRight t 0 (c .rows) && kindsRight (kindsFrom (kinds 0 0 0 0 0) rs) && partsFollow c (ends 0 0 0) rs
+    (countsRight c && rowsRight t 0 (c .rows) && kindsRight (kindsFrom (kinds 0 0 0 0 0 0) rs) && partsFollow c (ends 0 0 0) rs
     && allZero (drop (rowWidth * c .rows) (t .rows)) && listRight toneRight (c .tones) (t .sounding) (t .tones)
     && listRight changeRight (c .changes) (t .kinds) (t .changes) && ordersRight t 0 (c .orders) && allNought (drop (c .orders) (t .triggers))
     && allNought (drop (c .orders) (t .calls)))

@@ -6,6 +6,7 @@ use limits::LAST_LETTER;
 use limits::LONGEST_PERIOD;
 use limits::MOST_AMOUNT;
 use limits::MOST_ANCHOR;
+use limits::MOST_HARMONIES;
 use limits::MOST_INTERVALS;
 use limits::MOST_LOGICS;
 use limits::MOST_RETUNINGS;
@@ -18,6 +19,9 @@ use tables::CODES;
 use tables::Counts;
 use tables::DIVIDE_CODE;
 use tables::FRESH_CODE;
+use tables::HALF_SET;
+use tables::HARMONY_BASE;
+use tables::HARMONY_FORM;
 use tables::INTERVAL_FORM;
 use tables::KEPT_CODE;
 use tables::KINDS_AT;
@@ -51,10 +55,10 @@ ghost use Prim.Native.Nat.{_+_, _*_, _≤_, _<_};
 ghost use lib.ListN.{length, drop, take};
 ghost use lib.Seq.{slice};
 ghost use Rattle.tuning.specs.Desk.{between, isTone};
-ghost use Rattle.tables.specs.Layout.{tablesIn, triggersIn, callsIn, mostRows, rowWidth, orderWidth, readAt, intervalForm, toneForm, logicForm, divideCode, soundsCode, setCode};
+ghost use Rattle.tables.specs.Layout.{tablesIn, triggersIn, callsIn, mostRows, rowWidth, orderWidth, readAt, intervalForm, toneForm, harmonyForm, divideCode, soundsCode, setCode};
 ghost use Rattle.tables.specs.Values.{Slices};
 ghost use Rattle.validity.specs.Valid.{countsRight, isSum, noPart, kinds, kindsRight, ends, endsRight, allZero, allNought, validTables};
-ghost use Rattle.validity.specs.Inner.{isZero, isAmount, isPartAt, isForm, isStartCode, fastRow, hasNaturals, isValue, valueRight, kindsWith, others, kindsAmong, endsWith, fastRows, fastOrders, fastEach, fastList};
+ghost use Rattle.validity.specs.Inner.{isZero, isAmount, isPartAt, isForm, isStartCode, isTriggerCode, areHalves, fastRow, hasNaturals, isValue, valueRight, kindsWith, others, kindsAmong, endsWith, fastRows, fastOrders, fastEach, fastList};
 
 const HIGHEST_KEY: i32 = MOST_ANCHOR as i32;
 
@@ -67,14 +71,20 @@ const FEW: Kinds = Kinds {
     systems: MOST_SYSTEMS as u32,
     retunings: MOST_RETUNINGS as u32,
     logics: MOST_LOGICS as u32,
+    harmonies: MOST_HARMONIES as u32,
 };
 
 // So many zeros are tested before there is a way out.
 const BLOCK: usize = 256;
 
-const LETTER_A: u16 = FIRST_LETTER as u16;
+const LETTER_A: i32 = FIRST_LETTER as i32;
 
-const LETTER_Z: u16 = LAST_LETTER as u16;
+const LETTER_Z: i32 = LAST_LETTER as i32;
+
+const FIRST_HARMONY: i32 = HARMONY_BASE as i32;
+
+// The greatest number of thirty bits of a set.
+const MOST_HALF: u32 = HALF_SET as u32 - 1;
 
 // How many declarations there are of each kind.
 struct Kinds {
@@ -83,11 +93,12 @@ struct Kinds {
     systems: u32,
     retunings: u32,
     logics: u32,
+    harmonies: u32,
 }
 
 impl Kinds {
     fn none() -> Kinds
-        ensures { λ r. ⌜ r ≡ kinds 0 0 0 0 0 ⌝ }
+        ensures { λ r. ⌜ r ≡ kinds 0 0 0 0 0 0 ⌝ }
     {
         Kinds {
             intervals: 0,
@@ -95,6 +106,7 @@ impl Kinds {
             systems: 0,
             retunings: 0,
             logics: 0,
+            harmonies: 0,
         }
     }
 
@@ -107,6 +119,7 @@ impl Kinds {
             SYSTEM_FORM => self.systems += 1,
             ANCHOR_FORM | WIDTH_FORM | PERIOD_FORM | TONES_FORM => self.retunings += 1,
             LOGIC_FORM => self.logics += 1,
+            HARMONY_FORM => self.harmonies += 1,
             _ => {}
         }
         self
@@ -117,7 +130,12 @@ impl Kinds {
         requires { ⌜ others self ≤ rows ⌝ }
         ensures { λ r. ⌜ r ≡ kindsAmong self rows ⌝ }
     {
-        self.intervals = rows - self.tones - self.systems - self.retunings - self.logics;
+        self.intervals = rows
+            - self.tones
+            - self.systems
+            - self.retunings
+            - self.logics
+            - self.harmonies;
         self
     }
 
@@ -130,6 +148,7 @@ impl Kinds {
             & (self.systems <= FEW.systems)
             & (self.retunings <= FEW.retunings)
             & (self.logics <= FEW.logics)
+            & (self.harmonies <= FEW.harmonies)
     }
 }
 
@@ -219,7 +238,7 @@ fn is_nothing(from: u32, to: u32) -> bool
 
 // Whether declaration i is one of the first `count` rows, and has a form from `low` to `high`.
 fn is_form(rows: &[i32], count: u32, low: u32, high: u32, i: u32) -> bool
-    requires { ⌜ (rowWidth * count ≤ length (now rows)) × (1 ≤ low) × (low ≤ high) × (high ≤ logicForm) ⌝ }
+    requires { ⌜ (rowWidth * count ≤ length (now rows)) × (1 ≤ low) × (low ≤ high) × (high ≤ harmonyForm) ⌝ }
     ensures { λ r. ⌜ r ≡ isForm (now (rows .entry)) count low high i ⌝ }
 {
     if count <= i {
@@ -237,6 +256,31 @@ fn is_start(rows: &[i32], count: u32, start: i32) -> bool
         return 0 <= start;
     }
     is_form(rows, count, SYSTEM_FORM, TONES_FORM, (start - 1) as u32)
+}
+
+// A letter, or the declaration of a harmony. Most triggers are letters.
+fn is_trigger(rows: &[i32], count: u32, trigger: i32) -> bool
+    requires { ⌜ rowWidth * count ≤ length (now rows) ⌝ }
+    ensures { λ r. ⌜ r ≡ isTriggerCode (now (rows .entry)) count trigger ⌝ }
+{
+    if is_between(LETTER_A, LETTER_Z, trigger) {
+        return true;
+    }
+    if trigger < FIRST_HARMONY {
+        return false;
+    }
+    let harmony = (trigger - FIRST_HARMONY) as u32;
+    is_form(rows, count, HARMONY_FORM, HARMONY_FORM, harmony)
+}
+
+// Whether the numbers of a harmony's row are thirty bits each.
+fn are_halves(n: Numbers) -> bool
+    ensures { λ r. ⌜ r ≡ areHalves n ⌝ }
+{
+    is_between(0, MOST_HALF as i32, n.first)
+        & is_between(0, MOST_HALF as i32, n.second)
+        & (n.from <= MOST_HALF)
+        & (n.to <= MOST_HALF)
 }
 
 // A row that is no interval and no tone.
@@ -264,10 +308,11 @@ fn is_other_row(rows: &[i32], count: u32, ends: Ends, n: Numbers) -> bool
                 & is_part(1, PLACES as u32, ends.changes, n.from, n.to)
         }
         LOGIC_FORM => {
-            is_between(LETTER_A as i32, LETTER_Z as i32, n.first)
+            is_trigger(rows, count, n.first)
                 & is_start(rows, count, n.second)
                 & is_part(0, ORDERS as u32, ends.orders, n.from, n.to)
         }
+        HARMONY_FORM => are_halves(n),
         _ => false,
     }
 }
@@ -312,7 +357,7 @@ fn is_other(rows: &[i32], count: u32, ends: Ends, i: usize) -> bool
 // Most rows are intervals and tones, so these are told apart first, and intervals are not counted.
 fn are_rows(rows: &[i32], used: Counts) -> bool
     requires { ⌜ (rowWidth * used .rows ≤ length (now rows)) × (used .rows ≤ mostRows) ⌝ }
-    ensures { λ r. ⌜ r ≡ fastRows (now (rows .entry)) used (kinds 0 0 0 0 0) (ends 0 0 0) 0 (used .rows) ⌝ }
+    ensures { λ r. ⌜ r ≡ fastRows (now (rows .entry)) used (kinds 0 0 0 0 0 0) (ends 0 0 0) 0 (used .rows) ⌝ }
 {
     let end = used.rows as usize;
     let mut kinds = Kinds::none();
@@ -454,10 +499,10 @@ fn are_orders(rows: &[i32], orders: &[u16], used: Counts) -> bool
     let mut i: usize = 0;
     while i < end {
         let at = ORDER_WIDTH * i;
-        let letter = orders[at];
-        let called = orders[at + 1];
-        let known = is_form(rows, used.rows, SYSTEM_FORM, LOGIC_FORM, called as u32);
-        let right = (LETTER_A <= letter) & (letter <= LETTER_Z) & known;
+        let trigger = orders[at] as i32;
+        let called = orders[at + 1] as u32;
+        let right = is_trigger(rows, used.rows, trigger)
+            & is_form(rows, used.rows, SYSTEM_FORM, LOGIC_FORM, called);
         if !right {
             return false;
         }

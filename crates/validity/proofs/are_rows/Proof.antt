@@ -32,7 +32,7 @@ use Rattle.validity.proofs.are_rows.Tie as tie
 abbrev Inv-loop : tie.InvT-loop
 Inv-loop rows used end kinds₀ ends₀ i₀ k e i =
     (i ≤ used .rows) × (others k ≤ i)
-    × (fastRows rows used (kindsAmong k i) e i (used .rows - i) ≡ fastRows rows used (kinds 0 0 0 0 0) (ends 0 0 0) 0 (used .rows))
+    × (fastRows rows used (kindsAmong k i) e i (used .rows - i) ≡ fastRows rows used (kinds 0 0 0 0 0 0) (ends 0 0 0) 0 (used .rows))
 
 abbrev μ-loop : tie.MeasureT-loop
 μ-loop rows used end kinds₀ ends₀ i₀ k e i = used .rows - i
@@ -82,7 +82,7 @@ module _ (c : tie.After-is-between Inv-loop μ-loop) where
   abbrev rowIs : Bool
   rowIs = hasNaturals rows i && fastRow rows n e₁ (readAt rows i)
 
-  wrong : rowIs ≡ false → false ≡ fastRows rows used (kinds 0 0 0 0 0) (ends 0 0 0) 0 n
+  wrong : rowIs ≡ false → false ≡ fastRows rows used (kinds 0 0 0 0 0 0) (ends 0 0 0) 0 n
   wrong q =
       sym (row-wrong rows used (kindsAmong k₁ i) e₁ i n (c .before .before .loop-test .taken) q)
       ∙ turn .loop .inv .2
@@ -92,7 +92,7 @@ module _ (c : tie.After-is-between Inv-loop μ-loop) where
   Next k e =
       (i + 1 ≤ n) × (others k ≤ i + 1)
       × (fastRows rows used (kindsAmong k (i + 1)) e (i + 1) (n - (i + 1))
-      ≡ fastRows rows used (kinds 0 0 0 0 0) (ends 0 0 0) 0 n)
+      ≡ fastRows rows used (kinds 0 0 0 0 0 0) (ends 0 0 0) 0 n)
 
   next : rowIs ≡ true → {k : Kinds} {e : Ends} → Turned i (kindsWith (kindsAmong k₁ i) (up (number 0))) k
       → e ≡ endsWith e₁ (up (number 0)) (up (number 4)) → Next k e
@@ -125,7 +125,7 @@ module _ (c : tie.After-is-between Inv-loop μ-loop) where
       omega (signed, abs form, a)
 
   value-next : c .is-between .result ≡ true → rowIs ≡ true → {k : Kinds} {e : Ends}
-      → k ≡ kinds (k₁ .intervals) (k₁ .tones + (natAbs form - intervalForm)) (k₁ .systems) (k₁ .retunings) (k₁ .logics)
+      → k ≡ kinds (k₁ .intervals) (k₁ .tones + (natAbs form - intervalForm)) (k₁ .systems) (k₁ .retunings) (k₁ .logics) (k₁ .harmonies)
       → e ≡ e₁ → Next k e
   value-next h q {k} ek ee =
       let value : between (pos intervalForm) (pos toneForm) (number 0) ≡ true = rw form-is (value-is h) in

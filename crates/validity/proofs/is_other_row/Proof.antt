@@ -1,11 +1,12 @@
 -- `validity::is_other_row` meets its contract. Each arm is the test of its form. Assumes nothing.
+use mathlib.Core.Path.{_∙_}
 use borrow.Author.Needs.{needs}
 use borrow.Author.Tests.{ne-eqb}
 use mir.Facts.{toZ-ofZ}
 use mir.Syntax.{w32}
 use mir.Val.{SFits}
 use Rattle.validity.proofs.Runs.{form-right}
-use Rattle.tables.specs.Layout.{systemForm, anchorForm, widthForm, periodForm, tonesForm, logicForm}
+use Rattle.tables.specs.Layout.{systemForm, anchorForm, widthForm, periodForm, tonesForm, logicForm, harmonyForm}
 use Rattle.validity.specs.Inner.{fastRow}
 use Rattle.validity.proofs.is_other_row.Statement.{statement}
 use Rattle.validity.proofs.is_other_row.Tie as tie
@@ -70,14 +71,8 @@ cast-is-part-2 c = search needs
 is-part-requires-2 : tie.Need-is-part-requires-2
 is-part-requires-2 c κs = search needs
 
-cast-is-between-3 : tie.Need-cast-is-between-3
-cast-is-between-3 c = search needs
-
-cast-is-between-4 : tie.Need-cast-is-between-4
-cast-is-between-4 c = search needs
-
-is-between-requires-5 : tie.Need-is-between-requires-5
-is-between-requires-5 c κs = search needs
+is-trigger-requires : tie.Need-is-trigger-requires
+is-trigger-requires c κs = search needs
 
 is-start-requires : tie.Need-is-start-requires
 is-start-requires c κs = search needs
@@ -87,6 +82,9 @@ cast-is-part-3 c = search needs
 
 is-part-requires-3 : tie.Need-is-part-requires-3
 is-part-requires-3 c κs = search needs
+
+are-halves-requires : tie.Need-are-halves-requires
+are-halves-requires c κs = search needs
 
 returns : tie.Need-returns
 unfolding fastRow
@@ -158,7 +156,7 @@ returns-6 c =
     let f = first-fits s in
     let g = second-fits s in
     rw (
-      simp toZ-ofZ at (c .before .before .before .is-between5 .ensures),
+      simp toZ-ofZ at (c .before .before .before .is-trigger .ensures),
       simp toZ-ofZ at (c .before .is-start .ensures),
       c .is-part3 .ensures,
     )
@@ -167,8 +165,16 @@ returns-6 c =
 returns-7 : tie.Need-returns-7
 unfolding fastRow
 returns-7 c =
+    let s = c .before .before in
+    let f = first-fits s in
+    let g = second-fits s in
+    c .are-halves .ensures ∙ form-right (s .args .rows .now) (s .args .count) (s .args .ends) (s .args .n) harmonyForm (c .before .match .keys7)
+
+returns-8 : tie.Need-returns-8
+unfolding fastRow
+returns-8 c =
     let p = c .before .pre in
-    simp (ne-eqb _ _ (p .0), ne-eqb _ _ (p .1), ne-eqb _ _ (c .match .rest .1), ne-eqb _ _ (c .match .rest .0 .1), ne-eqb _ _ (c .match .rest .0 .0 .1), ne-eqb _ _ (c .match .rest .0 .0 .0 .1), ne-eqb _ _ (c .match .rest .0 .0 .0 .0 .1), ne-eqb _ _ (c .match .rest .0 .0 .0 .0 .0 .1))
+    simp (ne-eqb _ _ (p .0), ne-eqb _ _ (p .1), ne-eqb _ _ (c .match .rest .1), ne-eqb _ _ (c .match .rest .0 .1), ne-eqb _ _ (c .match .rest .0 .0 .1), ne-eqb _ _ (c .match .rest .0 .0 .0 .1), ne-eqb _ _ (c .match .rest .0 .0 .0 .0 .1), ne-eqb _ _ (c .match .rest .0 .0 .0 .0 .0 .1), ne-eqb _ _ (c .match .rest .0 .0 .0 .0 .0 .0 .1))
 
 pub is-other-row-spec : {M : Type 1} → statement M
 is-other-row-spec =
@@ -192,16 +198,16 @@ is-other-row-spec =
     is-zero-requires-2
     cast-is-part-2
     is-part-requires-2
-    cast-is-between-3
-    cast-is-between-4
-    is-between-requires-5
+    is-trigger-requires
     is-start-requires
     cast-is-part-3
     is-part-requires-3
+    are-halves-requires
     returns
     returns-2
     returns-3
     returns-4
     returns-5
     returns-6
-    returns-7)
+    returns-7
+    returns-8)

@@ -65,7 +65,13 @@ retuning-row-requires-4 : tie.Need-retuning-row-requires-4
 retuning-row-requires-4 c κs = search needs
 
 cast-t23 : tie.Need-cast-t23
-cast-t23 c = omega (arith, first-natural (c .before), fields (c .before) .letter (c .match .keys8))
+cast-t23 c = omega (arith, first-natural (c .before), fields (c .before) .trigger (c .match .keys8))
+
+set-of-requires : tie.Need-set-of-requires
+set-of-requires c κs = search needs
+
+set-of-requires-2 : tie.Need-set-of-requires-2
+set-of-requires-2 c κs = search needs
 
 returns : tie.Need-returns
 unfolding rowOf
@@ -109,7 +115,11 @@ returns-8 c = rw (first-natural (c .before), second-natural (c .before)) (form-r
 
 returns-9 : tie.Need-returns-9
 unfolding rowOf
-returns-9 c = simp (ne-eqb _ _ (c .match .rest .1), ne-eqb _ _ (c .match .rest .0 .1), ne-eqb _ _ (c .match .rest .0 .0 .1), ne-eqb _ _ (c .match .rest .0 .0 .0 .1), ne-eqb _ _ (c .match .rest .0 .0 .0 .0 .1), ne-eqb _ _ (c .match .rest .0 .0 .0 .0 .0 .1), ne-eqb _ _ (c .match .rest .0 .0 .0 .0 .0 .0 .1), ne-eqb _ _ (c .match .rest .0 .0 .0 .0 .0 .0 .0 .1))
+returns-9 c = rw (c .before .set-of .ensures, c .set-of2 .ensures, first-natural (c .before .before .before), second-natural (c .before .before .before)) (form-row (c .before .before .before .before .before .before .before .args .n) 9 (c .before .before .match .keys9))
+
+returns-10 : tie.Need-returns-10
+unfolding rowOf
+returns-10 c = simp (ne-eqb _ _ (c .match .rest .1), ne-eqb _ _ (c .match .rest .0 .1), ne-eqb _ _ (c .match .rest .0 .0 .1), ne-eqb _ _ (c .match .rest .0 .0 .0 .1), ne-eqb _ _ (c .match .rest .0 .0 .0 .0 .1), ne-eqb _ _ (c .match .rest .0 .0 .0 .0 .0 .1), ne-eqb _ _ (c .match .rest .0 .0 .0 .0 .0 .0 .1), ne-eqb _ _ (c .match .rest .0 .0 .0 .0 .0 .0 .0 .1), ne-eqb _ _ (c .match .rest .0 .0 .0 .0 .0 .0 .0 .0 .1))
 
 pub row-of-spec : {M : Type 1} → statement M
 row-of-spec =
@@ -128,6 +138,8 @@ row-of-spec =
     retuning-row-requires-3
     retuning-row-requires-4
     cast-t23
+    set-of-requires
+    set-of-requires-2
     returns
     returns-2
     returns-3
@@ -136,4 +148,5 @@ row-of-spec =
     returns-6
     returns-7
     returns-8
-    returns-9)
+    returns-9
+    returns-10)

@@ -1,5 +1,6 @@
 -- `tables::encode::numbers_of` meets its contract. Each arm has the numbers of its row, which 32 bits hold. Assumes nothing.
 use mathlib.Core.Path.{sym, ap, _∙_, subst}
+use Prim.Native.Nat.{_/_, _%_}
 use native.Mathlib.Omega.{arith}
 use borrow.Author.Needs.{needs}
 use lib.IntN.{pos}
@@ -7,15 +8,20 @@ use mir.Facts.{toZ-ofZ}
 use mir.Syntax.{w32}
 use mir.Val.{SFits}
 use mir.ValLaws.{toZ-pos}
-use Rattle.tables.specs.Layout.{numbersOf}
+use Rattle.tables.specs.Layout.{numbersOf, halfSet}
 use Rattle.tables.specs.Values.{NumbersFit}
 use Rattle.tables.specs.declared.Row.{Row}
+use Rattle.tables.specs.declared.Row.the-variants.{Harmony}
 use Rattle.tables.proofs.encode.numbers_of.Statement.{statement}
 use Rattle.tables.proofs.encode.numbers_of.Tie as tie
 
 -- a logic's start
 start-fits : (c : tie.After-known-told5) → SFits w32 (pos (c .before .row5 .given .0 .1 .0))
 start-fits c = subst (λ (r : Row). NumbersFit (numbersOf r)) (c .before .row5 .given .1) (c .before .before .before .pre) .second
+
+-- a harmony's sets
+harmony-fits : (c : tie.After-known-told6) → NumbersFit (numbersOf (Harmony (c .before .row6 .given .0 .0) (c .before .row6 .given .0 .1 .0)))
+harmony-fits c = subst (λ (r : Row). NumbersFit (numbersOf r)) (c .before .row6 .given .1) (c .before .before .before .pre)
 
 enum-told : tie.Need-enum-told
 enum-told c = search needs
@@ -62,6 +68,24 @@ cast-lay-out-3 c = start-fits c
 lay-out-requires-5 : tie.Need-lay-out-requires-5
 lay-out-requires-5 c κs = search needs
 
+enum-known-row-6 : tie.Need-enum-known-row-6
+enum-known-row-6 c = search needs
+
+cast-lay-out-4 : tie.Need-cast-lay-out-4
+cast-lay-out-4 c = search needs
+
+cast-lay-out-5 : tie.Need-cast-lay-out-5
+cast-lay-out-5 c = harmony-fits c .second
+
+cast-lay-out-6 : tie.Need-cast-lay-out-6
+cast-lay-out-6 c = search needs
+
+cast-lay-out-7 : tie.Need-cast-lay-out-7
+cast-lay-out-7 c = omega (arith, harmony-fits c .to)
+
+lay-out-requires-6 : tie.Need-lay-out-requires-6
+lay-out-requires-6 c κs = search needs
+
 returns : tie.Need-returns
 returns c = rw (c .lay-out .ensures, c .before .enum-told .given .1)
 
@@ -91,6 +115,12 @@ returns-6 c =
     let row = c .before .before .row5 in
     rw (c .lay-out5 .ensures, row .given .1, toZ-pos w32 (row .given .0 .0) (omega arith), toZ-pos w32 (row .given .0 .1 .0) (start-fits (c .before) .sfits))
 
+returns-7 : tie.Need-returns-7
+returns-7 c =
+    let row = c .before .before .row6 in
+    let needed = row .given .0 .0 in
+    rw (c .lay-out6 .ensures, row .given .1, toZ-pos w32 (needed % halfSet) (omega arith), toZ-pos w32 (needed / halfSet) (harmony-fits (c .before) .second .sfits))
+
 pub numbers-of-spec : {M : Type 1} → statement M
 numbers-of-spec =
     tie.close
@@ -110,9 +140,16 @@ numbers-of-spec =
     cast-lay-out-2
     cast-lay-out-3
     lay-out-requires-5
+    enum-known-row-6
+    cast-lay-out-4
+    cast-lay-out-5
+    cast-lay-out-6
+    cast-lay-out-7
+    lay-out-requires-6
     returns
     returns-2
     returns-3
     returns-4
     returns-5
-    returns-6)
+    returns-6
+    returns-7)

@@ -12,7 +12,7 @@ returns : tie.Need-returns
 returns c =
     let l = c .before .before .args .orders .now in
     let e = columns-length l in
-    (sym (set-out (triggersIn l) (c .before .before .args .i) (c .before .before .args .letter) (omega arith)), sym (set-out (callsIn l) (c .before .before .args .i) (c .before .before .args .called) (omega arith)))
+    (sym (set-out (triggersIn l) (c .before .before .args .i) (c .before .before .args .trigger) (omega arith)), sym (set-out (callsIn l) (c .before .before .args .i) (c .before .before .args .called) (omega arith)))
 
 mul-at : tie.Need-mul-at
 mul-at c = search needs
@@ -30,7 +30,7 @@ same-length : tie.Need-same-length
 same-length c = search needs
 
 returns-2 : tie.Need-returns-2
-returns-2 c = order-stored (c .before .before .before .before .before .before .before .before .before .before .args .orders .now) (c .before .before .before .before .before .before .before .before .before .before .args .i) (c .before .before .before .before .before .before .before .before .before .before .args .letter) (c .before .before .before .before .before .before .before .before .before .before .args .called) (c .before .before .before .before .before .before .put-code .ensures) (c .before .before .put-code2 .ensures)
+returns-2 c = order-stored (c .before .before .before .before .before .before .before .before .before .before .args .orders .now) (c .before .before .before .before .before .before .before .before .before .before .args .i) (c .before .before .before .before .before .before .before .before .before .before .args .trigger) (c .before .before .before .before .before .before .before .before .before .before .args .called) (c .before .before .before .before .before .before .put-code .ensures) (c .before .before .put-code2 .ensures)
 
 pub store-order-spec : {M : Type 1} → statement M
 store-order-spec =

@@ -19,12 +19,15 @@ sub-self-3 c = search needs
 sub-self-4 : tie.Need-sub-self-4
 sub-self-4 c = search needs
 
+sub-self-5 : tie.Need-sub-self-5
+sub-self-5 c = search needs
+
 returns : tie.Need-returns
 returns c =
-    let a = c .before .before .before .before .args in
+    let a = c .before .before .before .before .before .args in
     let k = a .self in
-    let e : a .rows - k .tones - k .systems - k .retunings - k .logics ≡ a .rows - others k = omega arith in
+    let e : a .rows - k .tones - k .systems - k .retunings - k .logics - k .harmonies ≡ a .rows - others k = omega arith in
     rw e
 
 pub among-spec : {M : Type 1} → statement M
-among-spec = tie.close (tie.spec sub-self sub-self-2 sub-self-3 sub-self-4 returns)
+among-spec = tie.close (tie.spec sub-self sub-self-2 sub-self-3 sub-self-4 sub-self-5 returns)

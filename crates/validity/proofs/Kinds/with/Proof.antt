@@ -3,7 +3,7 @@ use mathlib.Core.Logic.{_≢_}
 use native.Mathlib.Numerals.{add-one}
 use native.Mathlib.Omega.{arith}
 use borrow.Author.Needs.{needs}
-use Rattle.tables.specs.Layout.{systemForm, logicForm}
+use Rattle.tables.specs.Layout.{systemForm, logicForm, harmonyForm}
 use Rattle.validity.specs.Inner.{kindsWith}
 use Rattle.validity.proofs.Runs.{kinds-below, kinds-retuning, kinds-above}
 use Rattle.validity.proofs.Kinds.with.Statement.{statement}
@@ -18,6 +18,9 @@ add-self-2 c = search needs
 add-self-3 : tie.Need-add-self-3
 add-self-3 c = search needs
 
+add-self-4 : tie.Need-add-self-4
+add-self-4 c = search needs
+
 returns : tie.Need-returns
 unfolding kindsWith
 returns c = rw (add-one, c .before .match .keys1)
@@ -27,19 +30,24 @@ unfolding kindsWith
 returns-2 c = rw (add-one, c .before .match .keys2)
 
 returns-3 : tie.Need-returns-3
-returns-3 c = let p = c .before .before .pre in kinds-below _ _ (omega (arith, c .if1 .taken))
+unfolding kindsWith
+returns-3 c = rw (add-one, c .before .match .keys3)
 
 returns-4 : tie.Need-returns-4
-returns-4 c =
-    let h : c .before .before .before .before .args .form ≢ systemForm = c .before .before .before .match .rest .0 .1 in
-    rw add-one (kinds-retuning _ _ (omega (arith, c .before .before .if1 .left)) (omega (arith, c .before .if2 .taken)))
+returns-4 c = let p = c .before .before in kinds-below _ _ (omega (arith, c .if1 .taken)) (p .pre .0) (p .pre .1) (c .before .match .rest .0 .0 .1)
 
 returns-5 : tie.Need-returns-5
 returns-5 c =
-    let h : c .before .before .before .args .form ≢ logicForm = c .before .before .match .rest .1 in
+    let h : c .before .before .before .before .args .form ≢ systemForm = c .before .before .before .match .rest .0 .0 .1 in
+    rw add-one (kinds-retuning _ _ (omega (arith, c .before .before .if1 .left)) (omega (arith, c .before .if2 .taken)))
+
+returns-6 : tie.Need-returns-6
+returns-6 c =
+    let h : c .before .before .before .args .form ≢ logicForm = c .before .before .match .rest .0 .1 in
+    let k : c .before .before .before .args .form ≢ harmonyForm = c .before .before .match .rest .1 in
     kinds-above _ _ (omega (arith, c .if2 .left))
 
 pub with-spec : {M : Type 1} → statement M
 with-spec =
     tie.close
-    (tie.spec add-self add-self-2 add-self-3 returns returns-2 returns-3 returns-4 returns-5)
+    (tie.spec add-self add-self-2 add-self-3 add-self-4 returns returns-2 returns-3 returns-4 returns-5 returns-6)
