@@ -2,17 +2,17 @@
 use mathlib.Core.Path.{_≡_, refl}
 use mathlib.Core.Bool.{true, false}
 use Prim.Native.Nat.{_+_}
-use Rattle.grammar.specs.declared.Kind.the-variants.{Interval, Tone, System, Retuning, Logic, Order as AnOrder}
+use Rattle.grammar.specs.declared.Kind.the-variants.{Interval, Tone, System, Retuning, Logic, Order as AnOrder, Harmony}
 use Rattle.grammar.specs.declared.NumberUse.{NumberUse}
-use Rattle.grammar.specs.declared.NumberUse.the-variants.{RatioFirst, RatioSecond, Degree, Radicand, FirstFactor, Factor, Frequency, AnchorKey, AnchorTo, AnchorUp, AnchorDown, WidthTo, WidthUp, WidthDown, WidthTimes, WidthOver}
-use Rattle.grammar.specs.declared.NameUse.the-variants.{Term, Base, Position, Start, Order}
-use Rattle.grammar.specs.declared.MarkUse.the-variants.{MutedPosition, KeptPosition, KeptAnchor, KeptWidth, Period, Onward}
+use Rattle.grammar.specs.declared.NumberUse.the-variants.{RatioFirst, RatioSecond, Degree, Radicand, FirstFactor, Factor, Frequency, AnchorKey, AnchorTo, AnchorUp, AnchorDown, WidthTo, WidthUp, WidthDown, WidthTimes, WidthOver, Key, StarredKey}
+use Rattle.grammar.specs.declared.NameUse.the-variants.{Term, Base, Position, Start, Order, Trigger, CountedTrigger}
+use Rattle.grammar.specs.declared.MarkUse.the-variants.{MutedPosition, KeptPosition, KeptAnchor, KeptWidth, Period, Onward, Star}
 use Rattle.grammar.specs.declared.Action.{Action}
 use Rattle.grammar.specs.declared.Action.the-variants.{Pass, Declare, Hold, Held, Number, Sign, Name, Mark, Letter, CountOrder}
 use Rattle.grammar.specs.Moves.{numberUseNumber, actionNumber, actionAt}
 
 -- a number's use, held or judged at once
-uses : (u : NumberUse) → (actionAt (32 + numberUseNumber u) ≡ Held u) × (actionAt (48 + numberUseNumber u) ≡ Number u)
+uses : (u : NumberUse) → (actionAt (64 + numberUseNumber u) ≡ Held u) × (actionAt (96 + numberUseNumber u) ≡ Number u)
 unfolding actionAt
 uses RatioFirst = (refl, refl)
 uses RatioSecond = (refl, refl)
@@ -30,6 +30,8 @@ uses WidthUp = (refl, refl)
 uses WidthDown = (refl, refl)
 uses WidthTimes = (refl, refl)
 uses WidthOver = (refl, refl)
+uses Key = (refl, refl)
+uses StarredKey = (refl, refl)
 
 pub action-back : (a : Action) → actionAt (actionNumber a) ≡ a
 unfolding actionAt
@@ -45,6 +47,7 @@ action-back (Declare System) = refl
 action-back (Declare Retuning) = refl
 action-back (Declare Logic) = refl
 action-back (Declare AnOrder) = refl
+action-back (Declare Harmony) = refl
 action-back (Held u) = uses u .0
 action-back (Number u) = uses u .1
 action-back (Name Term) = refl
@@ -52,9 +55,12 @@ action-back (Name Base) = refl
 action-back (Name Position) = refl
 action-back (Name Start) = refl
 action-back (Name Order) = refl
+action-back (Name Trigger) = refl
+action-back (Name CountedTrigger) = refl
 action-back (Mark MutedPosition) = refl
 action-back (Mark KeptPosition) = refl
 action-back (Mark KeptAnchor) = refl
 action-back (Mark KeptWidth) = refl
 action-back (Mark Period) = refl
 action-back (Mark Onward) = refl
+action-back (Mark Star) = refl

@@ -4,5 +4,7 @@ pub mod Numbered
 pub mod ActionNumbers
 pub mod Diagrams
 pub mod Rows
+pub mod Judged
 pub mod Turns
+pub mod Refusals
 pub mod Live

@@ -2,7 +2,7 @@
 -- Assumes nothing.
 use mathlib.Core.Bool.{Bool, true, false}
 use mathlib.Core.List.{List, [], _∷_, _++_, map, append-assoc}
-use mathlib.Core.Logic.{⊎-elim}
+use mathlib.Core.Logic.{_⊎_, inl, inr, ⊎-elim}
 use mathlib.Core.Option.{Option, some, none}
 use mathlib.Core.Path.{_≡_, refl, sym, _∙_, ap, subst}
 use Prim.Native.Nat.{ℕ, zero, suc}
@@ -10,16 +10,19 @@ use native.Mathlib.Omega.{arith}
 use lib.Dec.{T, eqb, eqb→eq}
 use Rattle.status.specs.Status.{noSymbol, symbolNotAllowed}
 use Rattle.symbols.specs.declared.Symbol.{Symbol}
+use Rattle.numerals.specs.declared.WrittenNumber.{WrittenNumber}
+use Rattle.grammar.specs.declared.NumberUse.{NumberUse}
+use Rattle.grammar.specs.declared.Action.{Action}
 use Rattle.grammar.specs.declared.Outcome.{Outcome}
 use Rattle.grammar.specs.declared.Outcome.the-variants.{Go, Give, Refuse}
 use Rattle.grammar.specs.Syntax.{Terminal, nothing, Node, Begin, Finish, Rule, rules}
 use Rattle.grammar.specs.Terminals.{isNothing, picked, terminalOf, startOf, spanOf}
 use Rattle.grammar.specs.Moves.{nodeNumber, nodeCount}
-use Rattle.grammar.specs.Reading.{acted, Standing, Moved, thenAt, byRule, stepped, begun}
+use Rattle.grammar.specs.Reading.{used, ifAllowed, acted, Standing, Moved, thenAt, byRule, stepped, begun}
 use Rattle.grammar.specs.Reading as reading
-use Rattle.grammar.specs.Live.{walked, NoContinuation, reached, ThreeExactly, Refused, two, three, four, nine, LowerNumber}
+use Rattle.grammar.specs.Live.{walked, NoContinuation, reached, KeyUse, plain, starred, NamedTwice, ThreeExactly, Refused, two, three, four, nine, LowerNumber}
 use Rattle.grammar.proofs.Diagrams.{same-node, same-terminal, at-each, none-at-nothing}
-use Rattle.grammar.proofs.Turns.{Grown, acted-grown}
+use Rattle.grammar.proofs.Refusals.{held-no-key, Why, outside, full, again, held-key, Explained, acted-why}
 
 -- ---- a continuation from every node, by one test
 
@@ -109,20 +112,29 @@ from-there text ys y e more =
     ∙ walk-reached text begun ys (terminalOf text y ∷ more) e
 
 module _ (text : List ℕ) (s : Standing) (y : Symbol) where
-  -- a step that refuses with 3 has no rule
-  no-rule : {p : ℕ} → stepped text s y ≡ reading.refuse symbolNotAllowed p → picked (rules (s .node)) (terminalOf text y) ≡ none
+  -- a step that refuses with 3 has no rule, or names a number twice
+  no-rule : {p : ℕ} → stepped text s y ≡ reading.refuse symbolNotAllowed p
+      → (picked (rules (s .node)) (terminalOf text y) ≡ none) ⊎ NamedTwice text s y
   unfolding stepped
-  no-rule {p} e = go (picked (rules (s .node)) (terminalOf text y)) e
+  no-rule {p} e = go (picked (rules (s .node)) (terminalOf text y)) refl e
     where
-      acts : (k : ℕ) (n : Node) (o : Outcome) → Grown k o → thenAt n o ≡ reading.refuse symbolNotAllowed p → ⊥
-      acts k n (Refuse m q) g f = let z : m ≡ symbolNotAllowed = cc in ⊎-elim (λ e. omega (arith, e, z)) (λ e. omega (arith, e, z)) g
-      acts k n (Go t) g f = let z : _≡_ {A = ℕ} 0 1 = cc in omega arith
-      acts k n (Give t i) g f = let z : _≡_ {A = ℕ} 0 1 = cc in omega arith
+      why : (r : Rule) → picked (rules (s .node)) (terminalOf text y) ≡ some r → (k : ℕ) → k ≡ symbolNotAllowed
+          → Why text (s .kept) (spanOf y) (r .action) k → NamedTwice text s y
+      why r f _ z outside = absurd (omega (arith, z))
+      why r f _ z full = absurd (omega (arith, z))
+      why r f _ z (again {u = u} {v = v} k q j h) = record { rule = r; picks = f; purpose = u; key = k; reads = q; value = v; is = j; named = h }
+      why r f _ z (held-key k q) = absurd (held-no-key (s .node) (terminalOf text y) f k q)
 
-      go : (o : Option Rule) → byRule text (s .kept) y o ≡ reading.refuse symbolNotAllowed p → o ≡ none
-      go none f = refl
-      go (some r) f =
-          absurd (acts (s .kept .term .before) (r .next) (acted text (s .kept) (r .action) (spanOf y)) (acted-grown text (s .kept) (r .action) (spanOf y)) f)
+      acts : (r : Rule) → picked (rules (s .node)) (terminalOf text y) ≡ some r → (o : Outcome) → Explained text (s .kept) (spanOf y) (r .action) o
+          → thenAt (r .next) o ≡ reading.refuse symbolNotAllowed p → NamedTwice text s y
+      acts r f (Refuse m q) g w = let z : m ≡ symbolNotAllowed = cc in why r f m z g
+      acts r f (Go t) g w = let z : _≡_ {A = ℕ} 0 1 = cc in absurd (omega arith)
+      acts r f (Give t i) g w = let z : _≡_ {A = ℕ} 0 1 = cc in absurd (omega arith)
+
+      go : (o : Option Rule) → picked (rules (s .node)) (terminalOf text y) ≡ o → byRule text (s .kept) y o ≡ reading.refuse symbolNotAllowed p
+          → (o ≡ none) ⊎ NamedTwice text s y
+      go none f w = inl refl
+      go (some r) f w = inr (acts r f (acted text (s .kept) (r .action) (spanOf y)) (acted-why text (s .kept) (spanOf y) (r .action)) w)
 
   -- where there is no rule, a symbol is refused with 3
   no-rule-back : picked (rules (s .node)) (terminalOf text y) ≡ none → isNothing (terminalOf text y) ≡ false
@@ -130,24 +142,39 @@ module _ (text : List ℕ) (s : Standing) (y : Symbol) where
   unfolding stepped
   no-rule-back e n = rw (e, n)
 
+  -- and so is a number that is named twice
+  named-back : NamedTwice text s y → stepped text s y ≡ reading.refuse symbolNotAllowed (startOf y)
+  unfolding stepped acted
+  named-back t =
+      ap (byRule text (s .kept) y) (t .picks)
+      ∙ ap (λ (a : Action). thenAt (t .rule .next) (acted text (s .kept) a (spanOf y))) (t .reads)
+      ∙ ap (λ (w : WrittenNumber). thenAt (t .rule .next) (ifAllowed (s .kept) (t .purpose) (startOf y) (spanOf y) w)) (t .is)
+      ∙ by (t .purpose) (t .key)
+    where
+      by : (u : NumberUse) → KeyUse u → thenAt (t .rule .next) (used (s .kept) u (t .value) (spanOf y)) ≡ reading.refuse symbolNotAllowed (startOf y)
+      by _ plain = rw (t .named)
+      by _ starred = rw (t .named)
+
 pub three-exactly : ThreeExactly
 three-exactly text ys y s e n = (forth, back)
   where
-    forth : stepped text s y ≡ reading.refuse symbolNotAllowed (startOf y) → NoContinuation (map (terminalOf text) (ys ++ y ∷ []))
-    forth f more w =
-        let r = no-rule text s y f in
-        let q = sym (walked-off (s .node) (terminalOf text y) more r) ∙ sym (from-there text ys y e more) ∙ w in
-        let z : _≡_ {A = ℕ} 0 1 = cc in
-        omega arith
-
-    back : NoContinuation (map (terminalOf text) (ys ++ y ∷ [])) → stepped text s y ≡ reading.refuse symbolNotAllowed (startOf y)
-    back f = no-rule-back text s y (go (picked (rules (s .node)) (terminalOf text y)) refl) n
+    forth : stepped text s y ≡ reading.refuse symbolNotAllowed (startOf y) → NoContinuation (map (terminalOf text) (ys ++ y ∷ [])) ⊎ NamedTwice text s y
+    forth f = ⊎-elim (λ r. inl (none-left r)) (λ t. inr t) (no-rule text s y f)
       where
-        go : (o : Option Rule) → picked (rules (s .node)) (terminalOf text y) ≡ o → o ≡ none
-        go none g = refl
-        go (some r) g =
+        none-left : picked (rules (s .node)) (terminalOf text y) ≡ none → NoContinuation (map (terminalOf text) (ys ++ y ∷ []))
+        none-left r more w =
+            let q = sym (walked-off (s .node) (terminalOf text y) more r) ∙ sym (from-there text ys y e more) ∙ w in
+            let z : _≡_ {A = ℕ} 0 1 = cc in
+            omega arith
+
+    back : NoContinuation (map (terminalOf text) (ys ++ y ∷ [])) ⊎ NamedTwice text s y → stepped text s y ≡ reading.refuse symbolNotAllowed (startOf y)
+    back f = ⊎-elim (λ c. no-rule-back text s y (go c (picked (rules (s .node)) (terminalOf text y)) refl) n) (λ t. named-back text s y t) f
+      where
+        go : NoContinuation (map (terminalOf text) (ys ++ y ∷ [])) → (o : Option Rule) → picked (rules (s .node)) (terminalOf text y) ≡ o → o ≡ none
+        go c none g = refl
+        go c (some r) g =
             let l = live (r .next) in
-            absurd (f (l .0) (from-there text ys y e (l .0) ∙ walked-on (s .node) (terminalOf text y) (l .0) g ∙ l .1))
+            absurd (c (l .0) (from-there text ys y e (l .0) ∙ walked-on (s .node) (terminalOf text y) (l .0) g ∙ l .1))
 
 -- ---- at one place the lower number
 
@@ -155,37 +182,44 @@ pub lower-number : LowerNumber
 unfolding LowerNumber stepped
 lower-number text ys y s e n p f = by-place (isNothing (terminalOf text y)) refl
   where
+    Three : Type 0
+    Three = NoContinuation (map (terminalOf text) (ys ++ y ∷ [])) ⊎ NamedTwice text s y
+
     -- where no symbol begins there is no rule, and 2
     at-nothing : isNothing (terminalOf text y) ≡ true → stepped text s y ≡ reading.refuse noSymbol (startOf y)
     at-nothing h = rw (ap (picked (rules (s .node))) (same-terminal (terminalOf text y) nothing h) ∙ none-at-nothing (s .node), h)
 
-    -- a number of a rule's action is 4 or 9, and there a continuation allows the symbol
-    allowed : isNothing (terminalOf text y) ≡ false → (n ≡ symbolNotAllowed → ⊥) → NoContinuation (map (terminalOf text) (ys ++ y ∷ [])) → ⊥
+    -- another number of an action is given only where there is no 3
+    allowed : isNothing (terminalOf text y) ≡ false → (n ≡ symbolNotAllowed → ⊥) → Three → ⊥
     allowed h k c = k (let q = sym f ∙ three-exactly text ys y s e h .1 c in let z : n ≡ symbolNotAllowed = cc in z)
 
-    by-action : isNothing (terminalOf text y) ≡ false → (m : ℕ) (q : Node) (o : Outcome) → Grown m o → thenAt q o ≡ reading.refuse n p → Refused text ys y n
-    by-action h m k (Refuse i q) g w =
-        let z : i ≡ n = cc in
-        ⊎-elim
-        (λ a. subst (Refused text ys y) (sym a ∙ z) (four h (allowed h (λ b. omega (arith, a, b, z)))))
-        (λ a. subst (Refused text ys y) (sym a ∙ z) (nine h (allowed h (λ b. omega (arith, a, b, z)))))
-        g
-    by-action h m k (Go t) g w = let z : _≡_ {A = ℕ} 0 1 = cc in absurd (omega arith)
-    by-action h m k (Give t i) g w = let z : _≡_ {A = ℕ} 0 1 = cc in absurd (omega arith)
+    why : isNothing (terminalOf text y) ≡ false → (r : Rule) → picked (rules (s .node)) (terminalOf text y) ≡ some r → (k : ℕ) → k ≡ n
+        → Why text (s .kept) (spanOf y) (r .action) k → Refused text ys s y n
+    why h r q _ z outside = subst (Refused text ys s y) z (four h (allowed h (λ b. omega (arith, b, z))))
+    why h r q _ z full = subst (Refused text ys s y) z (nine h (allowed h (λ b. omega (arith, b, z))))
+    why h r q _ z (again {u = u} {v = v} k a j w) =
+        subst (Refused text ys s y) z (three h (inr (record { rule = r; picks = q; purpose = u; key = k; reads = a; value = v; is = j; named = w })))
+    why h r q _ z (held-key k a) = absurd (held-no-key (s .node) (terminalOf text y) q k a)
+
+    by-action : isNothing (terminalOf text y) ≡ false → (r : Rule) → picked (rules (s .node)) (terminalOf text y) ≡ some r → (o : Outcome)
+        → Explained text (s .kept) (spanOf y) (r .action) o → thenAt (r .next) o ≡ reading.refuse n p → Refused text ys s y n
+    by-action h r q (Refuse i k) g w = let z : i ≡ n = cc in why h r q i z g
+    by-action h r q (Go t) g w = let z : _≡_ {A = ℕ} 0 1 = cc in absurd (omega arith)
+    by-action h r q (Give t i) g w = let z : _≡_ {A = ℕ} 0 1 = cc in absurd (omega arith)
 
     by-rule : isNothing (terminalOf text y) ≡ false → (o : Option Rule) → picked (rules (s .node)) (terminalOf text y) ≡ o
-        → byRule text (s .kept) y o ≡ reading.refuse n p → Refused text ys y n
+        → byRule text (s .kept) y o ≡ reading.refuse n p → Refused text ys s y n
     by-rule h none q w =
         let r = no-rule-back text s y q h in
         let g = sym r ∙ f in
         let z : symbolNotAllowed ≡ n = cc in
-        subst (Refused text ys y) z (three h (three-exactly text ys y s e h .0 r))
+        subst (Refused text ys s y) z (three h (three-exactly text ys y s e h .0 r))
     by-rule h (some r) q w =
-        by-action h (s .kept .term .before) (r .next) (acted text (s .kept) (r .action) (spanOf y)) (acted-grown text (s .kept) (r .action) (spanOf y)) w
+        by-action h r q (acted text (s .kept) (r .action) (spanOf y)) (acted-why text (s .kept) (spanOf y) (r .action)) w
 
-    by-place : (b : Bool) → isNothing (terminalOf text y) ≡ b → Refused text ys y n
+    by-place : (b : Bool) → isNothing (terminalOf text y) ≡ b → Refused text ys s y n
     by-place true h =
         let g = sym (at-nothing h) ∙ f in
         let z : noSymbol ≡ n = cc in
-        subst (Refused text ys y) z (two h)
+        subst (Refused text ys s y) z (two h)
     by-place false h = by-rule h (picked (rules (s .node)) (terminalOf text y)) refl f

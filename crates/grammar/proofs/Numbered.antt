@@ -6,7 +6,7 @@ use Rattle.symbols.specs.declared.MarkKind.{MarkKind}
 use Rattle.symbols.specs.declared.MarkKind.the-variants as mark
 use Rattle.symbols.specs.declared.words.Word.{Word}
 use Rattle.symbols.specs.declared.words.Word.the-variants as word
-use Rattle.grammar.specs.Syntax.{Terminal, interval, tone, tonesystem, retuning, logic, key, root, unused, letter, name, number, equals, colon, plus, minus, times, divide, opening, closing, comma, at, widthOpen, widthClose, arrow, end, nothing, Node, Begin, Finish, IntervalName, IntervalEquals, IntervalBody, IntervalKind, SecondPart, RootRadicand, IntervalSign, IntervalTerm, IntervalTermName, IntervalNext, ToneName, ToneEquals, ToneBody, ToneSign, ToneTerm, ToneTermName, ToneNext, SystemName, SystemEquals, SystemAnchor, SystemOpen, SystemFirst, SystemPosition, SystemComma, SystemPeriod, SystemSign, SystemTerm, SystemTermName, RetuningName, RetuningEquals, RetuningBody, RetuningInside, RetuningNext, AnchorOperator, AnchorPlusNumber, AnchorMinusNumber, AnchorOpen, AnchorClose, WidthBody, WidthOperator, WidthPlusNumber, WidthMinusNumber, WidthTimesNumber, WidthOverNumber, WidthClose, WidthBracket, PeriodBody, PeriodSign, PeriodTerm, PeriodTermName, TonesSign, TonesTerm, TonesTermName, TonesPosition, LogicName, LogicKey, LogicLetter, LogicEquals, LogicStart, LogicOpen, OrderKey, OrderLetter, OrderArrow, OrderName, LogicNext}
+use Rattle.grammar.specs.Syntax.{Terminal, interval, tone, tonesystem, retuning, logic, key, root, harmony, unused, letter, name, number, equals, colon, plus, minus, times, divide, opening, closing, comma, at, braceOpen, braceClose, widthOpen, widthClose, arrow, end, nothing, Node, Begin, Finish, IntervalName, IntervalEquals, IntervalBody, IntervalKind, SecondPart, RootRadicand, IntervalSign, IntervalTerm, IntervalTermName, IntervalNext, ToneName, ToneEquals, ToneBody, ToneSign, ToneTerm, ToneTermName, ToneNext, SystemName, SystemEquals, SystemAnchor, SystemOpen, SystemFirst, SystemPosition, SystemComma, SystemPeriod, SystemSign, SystemTerm, SystemTermName, RetuningName, RetuningEquals, RetuningBody, RetuningInside, RetuningNext, AnchorOperator, AnchorPlusNumber, AnchorMinusNumber, AnchorOpen, AnchorClose, WidthBody, WidthOperator, WidthPlusNumber, WidthMinusNumber, WidthTimesNumber, WidthOverNumber, WidthClose, WidthBracket, PeriodBody, PeriodSign, PeriodTerm, PeriodTermName, TonesSign, TonesTerm, TonesTermName, TonesPosition, LogicName, LogicTrigger, LogicLetter, LogicEquals, LogicStart, LogicOpen, OrderTrigger, OrderLetter, OrderArrow, OrderName, LogicNext, HarmonyName, HarmonyEquals, HarmonyOpen, HarmonyKey, HarmonyStarred, HarmonyComma, HarmonyNext}
 use Rattle.grammar.specs.Terminals.{terminalNumber, sameTerminal, ofWord, ofMark}
 use Rattle.grammar.specs.Moves.{nodeNumber, nodeAt, terminalAt}
 
@@ -18,6 +18,7 @@ terminal-back retuning = refl
 terminal-back logic = refl
 terminal-back key = refl
 terminal-back root = refl
+terminal-back harmony = refl
 terminal-back unused = refl
 terminal-back letter = refl
 terminal-back name = refl
@@ -32,6 +33,8 @@ terminal-back opening = refl
 terminal-back closing = refl
 terminal-back comma = refl
 terminal-back at = refl
+terminal-back braceOpen = refl
+terminal-back braceClose = refl
 terminal-back widthOpen = refl
 terminal-back widthClose = refl
 terminal-back arrow = refl
@@ -96,16 +99,23 @@ node-back TonesTerm = refl
 node-back TonesTermName = refl
 node-back TonesPosition = refl
 node-back LogicName = refl
-node-back LogicKey = refl
+node-back LogicTrigger = refl
 node-back LogicLetter = refl
 node-back LogicEquals = refl
 node-back LogicStart = refl
 node-back LogicOpen = refl
-node-back OrderKey = refl
+node-back OrderTrigger = refl
 node-back OrderLetter = refl
 node-back OrderArrow = refl
 node-back OrderName = refl
 node-back LogicNext = refl
+node-back HarmonyName = refl
+node-back HarmonyEquals = refl
+node-back HarmonyOpen = refl
+node-back HarmonyKey = refl
+node-back HarmonyStarred = refl
+node-back HarmonyComma = refl
+node-back HarmonyNext = refl
 
 -- ---- words and marks
 
@@ -123,6 +133,7 @@ word-test word.Retuning = tt
 word-test word.Logic = tt
 word-test word.Key = tt
 word-test word.Root = tt
+word-test word.Harmony = tt
 word-test word.Unused = tt
 word-test word.Plain = tt
 
@@ -140,6 +151,8 @@ mark-test mark.Open = tt
 mark-test mark.Close = tt
 mark-test mark.Comma = tt
 mark-test mark.At = tt
+mark-test mark.BraceOpen = tt
+mark-test mark.BraceClose = tt
 mark-test mark.WidthOpen = tt
 mark-test mark.WidthClose = tt
 mark-test mark.Arrow = tt

@@ -7,9 +7,9 @@ use native.Mathlib.Numerals.{add-one, add-two}
 use native.Mathlib.Omega.{arith}
 use lib.ListN.{length, getD, set, drop, length-append, length-drop, length-set, List·getD-eq-default}
 use lib.Seq.{sets, sets-eq, set-out, take-at, drop-append-add, drop-drop}
-use Rattle.grammar.specs.declared.Kind.the-variants.{Interval, Tone, System, Retuning, Logic, Order as AnOrder}
+use Rattle.grammar.specs.declared.Kind.the-variants.{Interval, Tone, System, Retuning, Logic, Order as AnOrder, Harmony}
 use Rattle.grammar.specs.declared.Item.{Item}
-use Rattle.grammar.specs.declared.Item.the-variants.{Declared, Ratio, Root, Add, Subtract, Frequency, Base, AnchorKey, MutedPosition, KeptPosition, TonePosition, AnchorKept, AnchorTo, AnchorUp, AnchorDown, WidthKept, WidthTo, WidthUp, WidthDown, WidthTimes, WidthOver, Period, Onward, Letter, Start, Order}
+use Rattle.grammar.specs.declared.Item.the-variants.{Declared, Ratio, Root, Add, Subtract, Frequency, Base, AnchorKey, MutedPosition, KeptPosition, TonePosition, AnchorKept, AnchorTo, AnchorUp, AnchorDown, WidthKept, WidthTo, WidthUp, WidthDown, WidthTimes, WidthOver, Period, Onward, Letter, Start, Order, Trigger, Key, StarredKey}
 use Rattle.grammar.specs.Items.{code, value, place, row, rowSize, rows, holding, itemOf, itemAt}
 
 -- ---- an item comes back from its numbers
@@ -22,6 +22,7 @@ item-back (Declared System p) = refl
 item-back (Declared Retuning p) = refl
 item-back (Declared Logic p) = refl
 item-back (Declared AnOrder p) = refl
+item-back (Declared Harmony p) = refl
 item-back (Ratio p q) = refl
 item-back (Root a b) = refl
 item-back (Add f p) = refl
@@ -47,6 +48,9 @@ item-back Onward = refl
 item-back (Letter c) = refl
 item-back (Start p) = refl
 item-back (Order p) = refl
+item-back (Trigger p) = refl
+item-back (Key v) = refl
+item-back (StarredKey v) = refl
 
 -- ---- what the functions on rows leave
 

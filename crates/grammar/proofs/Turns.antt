@@ -12,6 +12,8 @@ use lib.Dec.{leb, eqb}
 use lib.ListN.{length, length-append}
 use lib.Seq.{slice, sets, append-snoc}
 use Rattle.status.specs.Status.{done, textTooLong, noSymbol, symbolNotAllowed, itemTooMany, numberOutOfRange}
+use Rattle.limits.specs.Limits.{mostHarmonyKeys}
+use Rattle.sets.specs.Sets.{has}
 use Rattle.symbols.specs.declared.Symbol.{Symbol}
 use Rattle.symbols.specs.declared.Symbol.the-variants.{Bad, End, Name as NameSymbol, Number as NumberSymbol, Mark as MarkSymbol}
 use Rattle.symbols.specs.declared.words.Word.{Word}
@@ -26,9 +28,9 @@ use Rattle.symbols.proofs.Progress.{Placed as Within, next-placed, after-within
 use Rattle.grammar.specs.declared.Kind.{Kind}
 use Rattle.grammar.specs.declared.Kind.the-variants.{Order as AnOrder}
 use Rattle.grammar.specs.declared.NumberUse.{NumberUse}
-use Rattle.grammar.specs.declared.NumberUse.the-variants.{RatioFirst, RatioSecond, Degree, Radicand, FirstFactor, Factor, Frequency, AnchorKey, AnchorTo, AnchorUp, AnchorDown, WidthTo, WidthUp, WidthDown, WidthTimes, WidthOver}
-use Rattle.grammar.specs.declared.NameUse.the-variants.{Term, Base, Position, Start, Order}
-use Rattle.grammar.specs.declared.MarkUse.the-variants.{MutedPosition, KeptPosition, KeptAnchor, KeptWidth, Period, Onward}
+use Rattle.grammar.specs.declared.NumberUse.the-variants.{RatioFirst, RatioSecond, Degree, Radicand, FirstFactor, Factor, Frequency, AnchorKey, AnchorTo, AnchorUp, AnchorDown, WidthTo, WidthUp, WidthDown, WidthTimes, WidthOver, Key, StarredKey}
+use Rattle.grammar.specs.declared.NameUse.the-variants.{Term, Base, Position, Start, Order, Trigger, CountedTrigger}
+use Rattle.grammar.specs.declared.MarkUse.the-variants.{MutedPosition, KeptPosition, KeptAnchor, KeptWidth, Period, Onward, Star}
 use Rattle.grammar.specs.declared.Action.{Action}
 use Rattle.grammar.specs.declared.Action.the-variants.{Pass, Declare, Hold, Held, Number, Sign, Name, Mark, Letter, CountOrder}
 use Rattle.grammar.specs.declared.Item.{Item}
@@ -41,7 +43,7 @@ use Rattle.grammar.specs.declared.reading.Reading.{Reading}
 use Rattle.grammar.specs.Syntax.{Terminal, end, nothing, Node, Begin, Finish, Rule, rules}
 use Rattle.grammar.specs.Terminals.{terminalNumber, picked, ofLetter, terminalOf, startOf, endOf, spanOf}
 use Rattle.grammar.specs.Moves.{nodeNumber, moveBy, moveOf}
-use Rattle.grammar.specs.Reading.{Read, limit, mostTerms, mostPositions, soFar, oneMore, withCounts, withPositions, noTerm, nextTerm, unlessFull, counted, positioned, judged, used, ifAllowed, numbered, acted, standing, Moved, thenAt, notAllowed, byRule, stepped, begun, with, refusedAt, readFrom, mostBytes, readItems, answered}
+use Rattle.grammar.specs.Reading.{Read, limit, mostTerms, mostPositions, soFar, oneMore, withCounts, withPositions, noTerm, nextTerm, unlessFull, counted, positioned, judged, used, ifAllowed, numbered, acted, standing, Moved, thenAt, notAllowed, byRule, stepped, begun, with, refusedAt, readFrom, mostBytes, readItems, answered, withKeys, withKey, keyCounted, keyNamed, orderCounted}
 use Rattle.grammar.specs.Reading as reading
 use Rattle.grammar.specs.Items.{row, rowSize, rows, holding, itemSlots}
 use Rattle.grammar.proofs.Numbered.{word-apart, mark-apart}
@@ -72,10 +74,10 @@ module _ (n : Node) (t : Terminal) where
       go none p q = let z : _≡_ {A = ℕ} 0 1 = cc in absurd (omega arith)
       go (some r) p q = record { rule = r; picks = p; does = cc; leads = cc }
 
--- ---- an action adds at most one term, and refuses with 4 or 9 alone
+-- ---- an action adds at most one term
 
 abbrev pub Grown : ℕ → Outcome → Type 0
-Grown n (Refuse k p) = (k ≡ numberOutOfRange) ⊎ (k ≡ itemTooMany)
+Grown n (Refuse k p) = Unit {0}
 Grown n (Go s) = s .term .before ≤ n + 1
 Grown n (Give s i) = s .term .before ≤ n + 1
 
@@ -83,15 +85,22 @@ full-grown : (n most k : ℕ) (x : Span) (o : Outcome) → Grown n o → Grown n
 full-grown n most k x o h = go (leb most k)
   where
     go : (b : Bool) → Grown n (cond b (Refuse itemTooMany (x .start)) o)
-    go true = inr refl
+    go true = tt
     go false = h
 
 counted-grown : (s : Progress) (k : Kind) (i : Item) (x : Span) → Grown (s .term .before) (counted s k i x)
 counted-grown s k i x =
-    full-grown (s .term .before) (limit k) (soFar k (s .counts)) x (Give (withCounts (oneMore k (s .counts)) (withPositions 0 (noTerm s))) i) (omega arith)
+    full-grown (s .term .before) (limit k) (soFar k (s .counts)) x (Give (withCounts (oneMore k (s .counts)) (withKeys 0 (withPositions 0 (noTerm s)))) i) (omega arith)
 
 positioned-grown : (s : Progress) (i : Item) (x : Span) → Grown (s .term .before) (positioned s i x)
 positioned-grown s i x = full-grown (s .term .before) mostPositions (s .positions) x (Give (withPositions (s .positions + 1) (noTerm s)) i) (omega arith)
+
+key-grown : (s : Progress) (v : ℕ) (i : Item) (x : Span) → Grown (s .term .before) (keyNamed s v i x)
+key-grown s v i x = go (has (s .keys) v)
+  where
+    go : (b : Bool) → Grown (s .term .before) (cond b (Refuse symbolNotAllowed (x .start)) (keyCounted s x (Give (withKey v s) i)))
+    go true = tt
+    go false = full-grown (s .term .before) mostHarmonyKeys (s .positions) x (Give (withKey v s) i) (omega arith)
 
 used-grown : (s : Progress) (u : NumberUse) (v : ℕ) (x : Span) → Grown (s .term .before) (used s u v x)
 used-grown s RatioFirst v x = omega arith
@@ -110,13 +119,18 @@ used-grown s WidthUp v x = omega arith
 used-grown s WidthDown v x = omega arith
 used-grown s WidthTimes v x = omega arith
 used-grown s WidthOver v x = omega arith
+used-grown s Key v x = key-grown s v _ x
+used-grown s StarredKey v x = key-grown s v _ x
 
 numbered-grown : (text : List ℕ) (s : Progress) (u : NumberUse) (a b : ℕ) (x : Span) → Grown (s .term .before) (numbered text s u a b x)
 numbered-grown text s u a b x = go (judged u (slice a b text))
   where
     go : (v : WrittenNumber) → Grown (s .term .before) (ifAllowed s u a x v)
-    go Outside = inl refl
+    go Outside = tt
     go (Value v) = used-grown s u v x
+
+order-grown : (s : Progress) (x : Span) (o : Outcome) → Grown (s .term .before) o → Grown (s .term .before) (orderCounted s x o)
+order-grown s x o h = full-grown (s .term .before) (limit AnOrder) (soFar AnOrder (s .counts)) x o h
 
 pub acted-grown : (text : List ℕ) (s : Progress) (a : Action) (x : Span) → Grown (s .term .before) (acted text s a x)
 unfolding acted
@@ -131,15 +145,17 @@ acted-grown text s (Name Base) x = omega arith
 acted-grown text s (Name Position) x = positioned-grown s _ x
 acted-grown text s (Name Start) x = omega arith
 acted-grown text s (Name Order) x = omega arith
+acted-grown text s (Name Trigger) x = omega arith
+acted-grown text s (Name CountedTrigger) x = order-grown s x _ (omega arith)
 acted-grown text s (Mark MutedPosition) x = positioned-grown s _ x
 acted-grown text s (Mark KeptPosition) x = positioned-grown s _ x
 acted-grown text s (Mark KeptAnchor) x = omega arith
 acted-grown text s (Mark KeptWidth) x = omega arith
 acted-grown text s (Mark Period) x = omega arith
 acted-grown text s (Mark Onward) x = omega arith
+acted-grown text s (Mark Star) x = full-grown (s .term .before) mostHarmonyKeys (s .positions) x (Go s) (omega arith)
 acted-grown text s Letter x = omega arith
-acted-grown text s CountOrder x =
-    full-grown (s .term .before) (limit AnOrder) (soFar AnOrder (s .counts)) x (Go (withCounts (oneMore AnOrder (s .counts)) s)) (omega arith)
+acted-grown text s CountOrder x = order-grown s x _ (omega arith)
 
 -- ---- the end of a text is its last symbol, and leads to the last node
 

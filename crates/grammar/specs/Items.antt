@@ -3,10 +3,10 @@ use mathlib.Core.List.{List, [], _∷_, _++_}
 use Prim.Native.Nat.{ℕ, _+_, _*_}
 use lib.ListN.{length, drop, getD}
 use Rattle.grammar.specs.declared.Kind.{Kind}
-use Rattle.grammar.specs.declared.Kind.the-variants.{Interval, Tone, System, Retuning, Logic, Order as AnOrder}
+use Rattle.grammar.specs.declared.Kind.the-variants.{Interval, Tone, System, Retuning, Logic, Order as AnOrder, Harmony}
 use Rattle.grammar.specs.Reading.{mostBytes}
 use Rattle.grammar.specs.declared.Item.{Item}
-use Rattle.grammar.specs.declared.Item.the-variants.{Declared, Ratio, Root, Add, Subtract, Frequency, Base, AnchorKey, MutedPosition, KeptPosition, TonePosition, AnchorKept, AnchorTo, AnchorUp, AnchorDown, WidthKept, WidthTo, WidthUp, WidthDown, WidthTimes, WidthOver, Period, Onward, Letter, Start, Order}
+use Rattle.grammar.specs.declared.Item.the-variants.{Declared, Ratio, Root, Add, Subtract, Frequency, Base, AnchorKey, MutedPosition, KeptPosition, TonePosition, AnchorKept, AnchorTo, AnchorUp, AnchorDown, WidthKept, WidthTo, WidthUp, WidthDown, WidthTimes, WidthOver, Period, Onward, Letter, Start, Order, Trigger, Key, StarredKey}
 
 -- the number of an item's variant
 abbrev pub declaredCode : Kind → ℕ
@@ -16,6 +16,7 @@ declaredCode System = 3
 declaredCode Retuning = 4
 declaredCode Logic = 5
 declaredCode AnOrder = 6
+declaredCode Harmony = 32
 
 -- an item in three numbers: that of its variant, its number if it has one, and a name's place or a second number
 pub record Cells : Type 0 where
@@ -53,6 +54,9 @@ cells Onward = cellsOf 28 0 0
 cells (Letter c) = cellsOf 29 c 0
 cells (Start p) = cellsOf 30 0 p
 cells (Order p) = cellsOf 31 0 p
+cells (Trigger p) = cellsOf 33 0 p
+cells (Key v) = cellsOf 34 v 0
+cells (StarredKey v) = cellsOf 35 v 0
 
 abbrev pub code : Item → ℕ
 code i = cells i .code
@@ -94,7 +98,8 @@ variants v p =
     ∷ AnchorKey v ∷ MutedPosition ∷ KeptPosition ∷ TonePosition p
     ∷ AnchorKept ∷ AnchorTo v ∷ AnchorUp v ∷ AnchorDown v
     ∷ WidthKept ∷ WidthTo v ∷ WidthUp v ∷ WidthDown v ∷ WidthTimes v ∷ WidthOver v
-    ∷ Period ∷ Onward ∷ Letter v ∷ Start p ∷ Order p ∷ []
+    ∷ Period ∷ Onward ∷ Letter v ∷ Start p ∷ Order p
+    ∷ Declared Harmony p ∷ Trigger p ∷ Key v ∷ StarredKey v ∷ []
 
 -- the item of three numbers (`item-back` of proofs/Rows.antt: those of an item give the item)
 unfoldable pub itemOf : ℕ → ℕ → ℕ → Item

@@ -7,18 +7,18 @@ use Prim.Native.Nat.{ℕ, zero, suc, _+_, _*_, _/_, _%_}
 use lib.Dec.{eqb}
 use lib.ListN.{getD}
 use Rattle.grammar.specs.declared.Kind.{Kind}
-use Rattle.grammar.specs.declared.Kind.the-variants.{Interval, Tone, System, Retuning, Logic, Order as AnOrder}
+use Rattle.grammar.specs.declared.Kind.the-variants.{Interval, Tone, System, Retuning, Logic, Order as AnOrder, Harmony}
 use Rattle.grammar.specs.declared.NumberUse.{NumberUse}
-use Rattle.grammar.specs.declared.NumberUse.the-variants.{RatioFirst, RatioSecond, Degree, Radicand, FirstFactor, Factor, Frequency, AnchorKey, AnchorTo, AnchorUp, AnchorDown, WidthTo, WidthUp, WidthDown, WidthTimes, WidthOver}
+use Rattle.grammar.specs.declared.NumberUse.the-variants.{RatioFirst, RatioSecond, Degree, Radicand, FirstFactor, Factor, Frequency, AnchorKey, AnchorTo, AnchorUp, AnchorDown, WidthTo, WidthUp, WidthDown, WidthTimes, WidthOver, Key, StarredKey}
 use Rattle.grammar.specs.declared.NameUse.{NameUse}
-use Rattle.grammar.specs.declared.NameUse.the-variants.{Term, Base, Position, Start, Order}
+use Rattle.grammar.specs.declared.NameUse.the-variants.{Term, Base, Position, Start, Order, Trigger, CountedTrigger}
 use Rattle.grammar.specs.declared.MarkUse.{MarkUse}
-use Rattle.grammar.specs.declared.MarkUse.the-variants.{MutedPosition, KeptPosition, KeptAnchor, KeptWidth, Period, Onward}
+use Rattle.grammar.specs.declared.MarkUse.the-variants.{MutedPosition, KeptPosition, KeptAnchor, KeptWidth, Period, Onward, Star}
 use Rattle.grammar.specs.declared.Action.{Action}
 use Rattle.grammar.specs.declared.Action.the-variants.{Pass, Declare, Hold, Held, Number, Sign, Name, Mark, Letter, CountOrder}
 use Rattle.grammar.specs.declared.moves.Move.{Move}
 use Rattle.grammar.specs.declared.moves.Move.the-variants.{Missing, To}
-use Rattle.grammar.specs.Syntax.{Terminal, interval, tone, tonesystem, retuning, logic, key, root, unused, letter, name, number, equals, colon, plus, minus, times, divide, opening, closing, comma, at, widthOpen, widthClose, arrow, end, nothing, Node, Begin, Finish, IntervalName, IntervalEquals, IntervalBody, IntervalKind, SecondPart, RootRadicand, IntervalSign, IntervalTerm, IntervalTermName, IntervalNext, ToneName, ToneEquals, ToneBody, ToneSign, ToneTerm, ToneTermName, ToneNext, SystemName, SystemEquals, SystemAnchor, SystemOpen, SystemFirst, SystemPosition, SystemComma, SystemPeriod, SystemSign, SystemTerm, SystemTermName, RetuningName, RetuningEquals, RetuningBody, RetuningInside, RetuningNext, AnchorOperator, AnchorPlusNumber, AnchorMinusNumber, AnchorOpen, AnchorClose, WidthBody, WidthOperator, WidthPlusNumber, WidthMinusNumber, WidthTimesNumber, WidthOverNumber, WidthClose, WidthBracket, PeriodBody, PeriodSign, PeriodTerm, PeriodTermName, TonesSign, TonesTerm, TonesTermName, TonesPosition, LogicName, LogicKey, LogicLetter, LogicEquals, LogicStart, LogicOpen, OrderKey, OrderLetter, OrderArrow, OrderName, LogicNext, Rule, rules}
+use Rattle.grammar.specs.Syntax.{Terminal, interval, tone, tonesystem, retuning, logic, key, root, harmony, unused, letter, name, number, equals, colon, plus, minus, times, divide, opening, closing, comma, at, braceOpen, braceClose, widthOpen, widthClose, arrow, end, nothing, Node, Begin, Finish, IntervalName, IntervalEquals, IntervalBody, IntervalKind, SecondPart, RootRadicand, IntervalSign, IntervalTerm, IntervalTermName, IntervalNext, ToneName, ToneEquals, ToneBody, ToneSign, ToneTerm, ToneTermName, ToneNext, SystemName, SystemEquals, SystemAnchor, SystemOpen, SystemFirst, SystemPosition, SystemComma, SystemPeriod, SystemSign, SystemTerm, SystemTermName, RetuningName, RetuningEquals, RetuningBody, RetuningInside, RetuningNext, AnchorOperator, AnchorPlusNumber, AnchorMinusNumber, AnchorOpen, AnchorClose, WidthBody, WidthOperator, WidthPlusNumber, WidthMinusNumber, WidthTimesNumber, WidthOverNumber, WidthClose, WidthBracket, PeriodBody, PeriodSign, PeriodTerm, PeriodTermName, TonesSign, TonesTerm, TonesTermName, TonesPosition, LogicName, LogicTrigger, LogicLetter, LogicEquals, LogicStart, LogicOpen, OrderTrigger, OrderLetter, OrderArrow, OrderName, LogicNext, HarmonyName, HarmonyEquals, HarmonyOpen, HarmonyKey, HarmonyStarred, HarmonyComma, HarmonyNext, Rule, rules}
 use Rattle.grammar.specs.Terminals.{terminalNumber, picked}
 
 -- ---- nodes and terminals
@@ -82,16 +82,23 @@ nodeNumber TonesTerm = 53
 nodeNumber TonesTermName = 54
 nodeNumber TonesPosition = 55
 nodeNumber LogicName = 56
-nodeNumber LogicKey = 57
+nodeNumber LogicTrigger = 57
 nodeNumber LogicLetter = 58
 nodeNumber LogicEquals = 59
 nodeNumber LogicStart = 60
 nodeNumber LogicOpen = 61
-nodeNumber OrderKey = 62
+nodeNumber OrderTrigger = 62
 nodeNumber OrderLetter = 63
 nodeNumber OrderArrow = 64
 nodeNumber OrderName = 65
 nodeNumber LogicNext = 66
+nodeNumber HarmonyName = 67
+nodeNumber HarmonyEquals = 68
+nodeNumber HarmonyOpen = 69
+nodeNumber HarmonyKey = 70
+nodeNumber HarmonyStarred = 71
+nodeNumber HarmonyComma = 72
+nodeNumber HarmonyNext = 73
 
 -- the nodes in the order of their numbers; past them nothing follows
 abbrev pub nodes : List Node
@@ -105,9 +112,10 @@ nodes =
     AnchorPlusNumber ∷ AnchorMinusNumber ∷ AnchorOpen ∷ AnchorClose ∷ WidthBody ∷ WidthOperator ∷
     WidthPlusNumber ∷ WidthMinusNumber ∷ WidthTimesNumber ∷ WidthOverNumber ∷ WidthClose ∷ WidthBracket ∷
     PeriodBody ∷ PeriodSign ∷ PeriodTerm ∷ PeriodTermName ∷ TonesSign ∷ TonesTerm ∷
-    TonesTermName ∷ TonesPosition ∷ LogicName ∷ LogicKey ∷ LogicLetter ∷ LogicEquals ∷
-    LogicStart ∷ LogicOpen ∷ OrderKey ∷ OrderLetter ∷ OrderArrow ∷ OrderName ∷
-    LogicNext ∷ []
+    TonesTermName ∷ TonesPosition ∷ LogicName ∷ LogicTrigger ∷ LogicLetter ∷ LogicEquals ∷
+    LogicStart ∷ LogicOpen ∷ OrderTrigger ∷ OrderLetter ∷ OrderArrow ∷ OrderName ∷
+    LogicNext ∷ HarmonyName ∷ HarmonyEquals ∷ HarmonyOpen ∷ HarmonyKey ∷ HarmonyStarred ∷
+    HarmonyComma ∷ HarmonyNext ∷ []
 
 abbrev pub nodeAt : ℕ → Node
 nodeAt n = getD nodes n Finish
@@ -115,8 +123,8 @@ nodeAt n = getD nodes n Finish
 -- the terminals in the order of their numbers; past them is none that a rule is for
 abbrev pub terminals : List Terminal
 terminals =
-    interval ∷ tone ∷ tonesystem ∷ retuning ∷ logic ∷ key ∷ root ∷ unused ∷ letter ∷ name ∷ number ∷ equals ∷ colon ∷ plus ∷ minus ∷ times
-    ∷ divide ∷ opening ∷ closing ∷ comma ∷ at ∷ widthOpen ∷ widthClose ∷ arrow ∷ end ∷ nothing ∷ []
+    interval ∷ tone ∷ tonesystem ∷ retuning ∷ logic ∷ key ∷ root ∷ harmony ∷ unused ∷ letter ∷ name ∷ number ∷ equals ∷ colon ∷ plus ∷ minus
+    ∷ times ∷ divide ∷ opening ∷ closing ∷ comma ∷ at ∷ braceOpen ∷ braceClose ∷ widthOpen ∷ widthClose ∷ arrow ∷ end ∷ nothing ∷ []
 
 abbrev pub terminalAt : ℕ → Terminal
 terminalAt t = getD terminals t nothing
@@ -124,27 +132,30 @@ terminalAt t = getD terminals t nothing
 -- ---- actions
 
 abbrev pub kinds : List Kind
-kinds = Interval ∷ Tone ∷ System ∷ Retuning ∷ Logic ∷ AnOrder ∷ []
+kinds = Interval ∷ Tone ∷ System ∷ Retuning ∷ Logic ∷ AnOrder ∷ Harmony ∷ []
 
 abbrev pub numberUses : List NumberUse
 numberUses =
     RatioFirst ∷ RatioSecond ∷ Degree ∷ Radicand ∷ FirstFactor ∷ Factor ∷ Frequency ∷ AnchorKey ∷ AnchorTo ∷ AnchorUp ∷ AnchorDown
-    ∷ WidthTo ∷ WidthUp ∷ WidthDown ∷ WidthTimes ∷ WidthOver ∷ []
+    ∷ WidthTo ∷ WidthUp ∷ WidthDown ∷ WidthTimes ∷ WidthOver ∷ Key ∷ StarredKey ∷ []
 
 abbrev pub nameUses : List NameUse
-nameUses = Term ∷ Base ∷ Position ∷ Start ∷ Order ∷ []
+nameUses = Term ∷ Base ∷ Position ∷ Start ∷ Order ∷ Trigger ∷ CountedTrigger ∷ []
 
 abbrev pub markUses : List MarkUse
-markUses = MutedPosition ∷ KeptPosition ∷ KeptAnchor ∷ KeptWidth ∷ Period ∷ Onward ∷ []
+markUses = MutedPosition ∷ KeptPosition ∷ KeptAnchor ∷ KeptWidth ∷ Period ∷ Onward ∷ Star ∷ []
 
 abbrev pub plainActions : List Action
 plainActions = Pass ∷ Hold ∷ CountOrder ∷ Sign false ∷ Sign true ∷ Letter ∷ []
 
--- an action by its number: 16 for each class, and its place there
+-- an action by its number: 32 for each class, and its place there
+abbrev pub classSize : ℕ
+classSize = 32
+
 unfoldable pub actionAt : ℕ → Action
 actionAt n =
-    let i = n % 16 in
-    let class = n / 16 in
+    let i = n % classSize in
+    let class = n / classSize in
     cond (eqb class 1) (Declare (getD kinds i Interval))
     (cond (eqb class 2) (Held (getD numberUses i RatioFirst))
     (cond (eqb class 3) (Number (getD numberUses i RatioFirst))
@@ -161,6 +172,7 @@ kindNumber System = 2
 kindNumber Retuning = 3
 kindNumber Logic = 4
 kindNumber AnOrder = 5
+kindNumber Harmony = 6
 
 abbrev pub numberUseNumber : NumberUse → ℕ
 numberUseNumber RatioFirst = 0
@@ -179,6 +191,8 @@ numberUseNumber WidthUp = 12
 numberUseNumber WidthDown = 13
 numberUseNumber WidthTimes = 14
 numberUseNumber WidthOver = 15
+numberUseNumber Key = 16
+numberUseNumber StarredKey = 17
 
 abbrev pub nameUseNumber : NameUse → ℕ
 nameUseNumber Term = 0
@@ -186,6 +200,8 @@ nameUseNumber Base = 1
 nameUseNumber Position = 2
 nameUseNumber Start = 3
 nameUseNumber Order = 4
+nameUseNumber Trigger = 5
+nameUseNumber CountedTrigger = 6
 
 abbrev pub markUseNumber : MarkUse → ℕ
 markUseNumber MutedPosition = 0
@@ -194,6 +210,7 @@ markUseNumber KeptAnchor = 2
 markUseNumber KeptWidth = 3
 markUseNumber Period = 4
 markUseNumber Onward = 5
+markUseNumber Star = 6
 
 abbrev pub signNumber : Bool → ℕ
 signNumber false = 3
@@ -205,11 +222,11 @@ actionNumber Hold = 1
 actionNumber CountOrder = 2
 actionNumber (Sign m) = signNumber m
 actionNumber Letter = 5
-actionNumber (Declare k) = 16 + kindNumber k
-actionNumber (Held u) = 32 + numberUseNumber u
-actionNumber (Number u) = 48 + numberUseNumber u
-actionNumber (Name u) = 64 + nameUseNumber u
-actionNumber (Mark u) = 80 + markUseNumber u
+actionNumber (Declare k) = 32 + kindNumber k
+actionNumber (Held u) = 64 + numberUseNumber u
+actionNumber (Number u) = 96 + numberUseNumber u
+actionNumber (Name u) = 128 + nameUseNumber u
+actionNumber (Mark u) = 160 + markUseNumber u
 
 -- ---- a move: a rule's action and its next node's number, if there is a rule
 
@@ -228,10 +245,10 @@ MovesByName = (n : Node) (t : Terminal) → moveOf (nodeNumber n) (terminalNumbe
 -- ---- the code's two tables: for each node (row) and terminal (column) the next node's number and the action's, 0 where there is no rule
 
 abbrev pub nodeCount : ℕ
-nodeCount = 67
+nodeCount = 74
 
 abbrev pub terminalCount : ℕ
-terminalCount = 26
+terminalCount = 29
 
 abbrev pub nextBy : Option Rule → ℕ
 nextBy none = 0

@@ -1,4 +1,4 @@
--- Reading a text symbol by symbol into items: document 01, "Declarations", "Numbers allowed", and the numbers 2, 3, 4 and 9.
+-- Reading a text symbol by symbol into items: document 01, "Declarations", "Numbers allowed", and the numbers 2, 3, 4 and 9; document 02, 5/13.
 use mathlib.Core.Bool.{Bool, true, false, cond}
 use mathlib.Core.List.{List, [], _∷_}
 use mathlib.Core.Option.{Option, some, none}
@@ -11,15 +11,15 @@ use Rattle.numerals.specs.Numbers.{decimalOf, wholeOf}
 use Rattle.numerals.specs.declared.WrittenNumber.{WrittenNumber}
 use Rattle.numerals.specs.declared.WrittenNumber.the-variants.{Outside, Value}
 use Rattle.grammar.specs.declared.Kind.{Kind}
-use Rattle.grammar.specs.declared.Kind.the-variants.{Interval, Tone, System, Retuning, Logic, Order as AnOrder}
+use Rattle.grammar.specs.declared.Kind.the-variants.{Interval, Tone, System, Retuning, Logic, Order as AnOrder, Harmony}
 use Rattle.grammar.specs.declared.NumberUse.{NumberUse}
-use Rattle.grammar.specs.declared.NumberUse.the-variants.{RatioFirst, RatioSecond, Degree, Radicand, FirstFactor, Factor, Frequency, AnchorKey, AnchorTo, AnchorUp, AnchorDown, WidthTo, WidthUp, WidthDown, WidthTimes, WidthOver}
+use Rattle.grammar.specs.declared.NumberUse.the-variants.{RatioFirst, RatioSecond, Degree, Radicand, FirstFactor, Factor, Frequency, AnchorKey, AnchorTo, AnchorUp, AnchorDown, WidthTo, WidthUp, WidthDown, WidthTimes, WidthOver, Key, StarredKey}
 use Rattle.grammar.specs.declared.NumberRange.{NumberRange}
 use Rattle.grammar.specs.declared.NumberRange.the-variants.{Decimal, Whole}
 use Rattle.grammar.specs.declared.NameUse.{NameUse}
-use Rattle.grammar.specs.declared.NameUse.the-variants.{Term, Base, Position, Start, Order}
+use Rattle.grammar.specs.declared.NameUse.the-variants.{Term, Base, Position, Start, Order, Trigger, CountedTrigger}
 use Rattle.grammar.specs.declared.MarkUse.{MarkUse}
-use Rattle.grammar.specs.declared.MarkUse.the-variants.{MutedPosition, KeptPosition, KeptAnchor, KeptWidth, Period, Onward}
+use Rattle.grammar.specs.declared.MarkUse.the-variants.{MutedPosition, KeptPosition, KeptAnchor, KeptWidth, Period, Onward, Star}
 use Rattle.grammar.specs.declared.Action.{Action}
 use Rattle.grammar.specs.declared.Action.the-variants.{Pass, Declare, Hold, Held, Number, Sign, Name, Mark, Letter, CountOrder}
 use Rattle.grammar.specs.declared.Item.{Item}
@@ -35,14 +35,15 @@ use Rattle.symbols.specs.Symbols.{symbols}
 use Rattle.symbols.specs.declared.Symbol.{Symbol}
 use Rattle.grammar.specs.declared.reading.Reading.{Reading}
 use Rattle.grammar.specs.Syntax.{Terminal, Node, Begin, Rule, rules}
-use Rattle.limits.specs.Limits.{leastDegree, mostDegree, mostFactor, mostAnchor, mostAmount, leastDivisor, mostIntervals, mostToneNames, mostSystems, mostLogics, mostRetunings, mostOrders}
+use Rattle.sets.specs.Sets.{has, added}
+use Rattle.limits.specs.Limits.{leastDegree, mostDegree, mostFactor, mostAnchor, mostAmount, leastDivisor, mostIntervals, mostToneNames, mostSystems, mostLogics, mostRetunings, mostOrders, mostHarmonies, mostHarmonyKey, mostHarmonyKeys}
 pub use Rattle.limits.specs.Limits.{mostBytes, mostTerms, mostPositions}
 use Rattle.grammar.specs.Terminals.{terminalOf, startOf, spanOf, isNothing, picked, letterAt}
 
 -- ---- "Numbers allowed"
 
 -- a number by its use: "ratio parts, radicand, frequency .. at most four places", "root degree: whole, 1 to 65,535", "factor: whole, 0 to 999",
--- "anchor in a tone system: whole, 0 to 127", "n in anchor and width retunings: whole, 0 to 9,999; after `/` from 1"
+-- "anchor in a tone system: whole, 0 to 127", "n in anchor and width retunings: whole, 0 to 9,999; after `/` from 1"; of a harmony "key numbers from 0 to 59"
 abbrev pub allowed : NumberUse → NumberRange
 allowed RatioFirst = Decimal
 allowed RatioSecond = Decimal
@@ -60,6 +61,8 @@ allowed WidthUp = Whole 0 mostAmount
 allowed WidthDown = Whole 0 mostAmount
 allowed WidthTimes = Whole 0 mostAmount
 allowed WidthOver = Whole leastDivisor mostAmount
+allowed Key = Whole 0 mostHarmonyKey
+allowed StarredKey = Whole 0 mostHarmonyKey
 
 -- the value of the number that these bytes write, if it is in a range
 abbrev pub numberIn : NumberRange → List ℕ → WrittenNumber
@@ -69,7 +72,7 @@ numberIn (Whole low high) bytes = wholeOf low high bytes
 abbrev pub judged : NumberUse → List ℕ → WrittenNumber
 judged u bytes = numberIn (allowed u) bytes
 
--- "intervals, tones: 256 each; tone systems, logics: 32 each; retunings: 128; orders in all logics together: 512"
+-- "intervals, tones: 256 each; tone systems, logics: 32 each; retunings: 128; orders in all logics together: 512"; "at most 64 harmonies"
 abbrev pub limit : Kind → ℕ
 limit Interval = mostIntervals
 limit Tone = mostToneNames
@@ -77,6 +80,7 @@ limit System = mostSystems
 limit Retuning = mostRetunings
 limit Logic = mostLogics
 limit AnOrder = mostOrders
+limit Harmony = mostHarmonies
 
 -- ---- progress, with one part changed
 
@@ -87,26 +91,32 @@ soFar System c = c .systems
 soFar Retuning c = c .retunings
 soFar Logic c = c .logics
 soFar AnOrder c = c .orders
+soFar Harmony c = c .harmonies
 
 abbrev pub oneMore : Kind → Counts → Counts
-oneMore Interval c = record { intervals = c .intervals + 1; tones = c .tones; systems = c .systems; retunings = c .retunings; logics = c .logics; orders = c .orders }
-oneMore Tone c = record { intervals = c .intervals; tones = c .tones + 1; systems = c .systems; retunings = c .retunings; logics = c .logics; orders = c .orders }
-oneMore System c = record { intervals = c .intervals; tones = c .tones; systems = c .systems + 1; retunings = c .retunings; logics = c .logics; orders = c .orders }
-oneMore Retuning c = record { intervals = c .intervals; tones = c .tones; systems = c .systems; retunings = c .retunings + 1; logics = c .logics; orders = c .orders }
-oneMore Logic c = record { intervals = c .intervals; tones = c .tones; systems = c .systems; retunings = c .retunings; logics = c .logics + 1; orders = c .orders }
-oneMore AnOrder c = record { intervals = c .intervals; tones = c .tones; systems = c .systems; retunings = c .retunings; logics = c .logics; orders = c .orders + 1 }
+oneMore Interval c = record { intervals = c .intervals + 1; tones = c .tones; systems = c .systems; retunings = c .retunings; logics = c .logics; orders = c .orders; harmonies = c .harmonies }
+oneMore Tone c = record { intervals = c .intervals; tones = c .tones + 1; systems = c .systems; retunings = c .retunings; logics = c .logics; orders = c .orders; harmonies = c .harmonies }
+oneMore System c = record { intervals = c .intervals; tones = c .tones; systems = c .systems + 1; retunings = c .retunings; logics = c .logics; orders = c .orders; harmonies = c .harmonies }
+oneMore Retuning c = record { intervals = c .intervals; tones = c .tones; systems = c .systems; retunings = c .retunings + 1; logics = c .logics; orders = c .orders; harmonies = c .harmonies }
+oneMore Logic c = record { intervals = c .intervals; tones = c .tones; systems = c .systems; retunings = c .retunings; logics = c .logics + 1; orders = c .orders; harmonies = c .harmonies }
+oneMore AnOrder c = record { intervals = c .intervals; tones = c .tones; systems = c .systems; retunings = c .retunings; logics = c .logics; orders = c .orders + 1; harmonies = c .harmonies }
+oneMore Harmony c = record { intervals = c .intervals; tones = c .tones; systems = c .systems; retunings = c .retunings; logics = c .logics; orders = c .orders; harmonies = c .harmonies + 1 }
 
 abbrev pub withFirst : FirstNumber → Progress → Progress
-withFirst n s = record { first = n; term = s .term; positions = s .positions; counts = s .counts }
+withFirst n s = record { first = n; term = s .term; positions = s .positions; keys = s .keys; counts = s .counts }
 
 abbrev pub withTerm : NextTerm → Progress → Progress
-withTerm t s = record { first = s .first; term = t; positions = s .positions; counts = s .counts }
+withTerm t s = record { first = s .first; term = t; positions = s .positions; keys = s .keys; counts = s .counts }
 
 abbrev pub withPositions : ℕ → Progress → Progress
-withPositions n s = record { first = s .first; term = s .term; positions = n; counts = s .counts }
+withPositions n s = record { first = s .first; term = s .term; positions = n; keys = s .keys; counts = s .counts }
+
+-- the key numbers that the harmony under way has named so far, as a set
+abbrev pub withKeys : ℕ → Progress → Progress
+withKeys k s = record { first = s .first; term = s .term; positions = s .positions; keys = k; counts = s .counts }
 
 abbrev pub withCounts : Counts → Progress → Progress
-withCounts c s = record { first = s .first; term = s .term; positions = s .positions; counts = c }
+withCounts c s = record { first = s .first; term = s .term; positions = s .positions; keys = s .keys; counts = c }
 
 -- an interval's first number: held from its place to the place after it, then judged
 abbrev pub heldFirst : Span → Progress → Progress
@@ -129,14 +139,17 @@ noTerm s = nextTerm false 1 0 s
 abbrev pub unlessFull : ℕ → ℕ → Span → Outcome → Outcome
 unlessFull most n x o = cond (leb most n) (Refuse itemTooMany (x .start)) o
 
--- a declaration begins with its name; there is no term and no position yet
+-- a declaration begins with its name; there is no term, no position and no key yet
 abbrev pub counted : Progress → Kind → Item → Span → Outcome
 counted s k i x =
-    unlessFull (limit k) (soFar k (s .counts)) x (Give (withCounts (oneMore k (s .counts)) (withPositions 0 (noTerm s))) i)
+    unlessFull (limit k) (soFar k (s .counts)) x (Give (withCounts (oneMore k (s .counts)) (withKeys 0 (withPositions 0 (noTerm s)))) i)
 
--- an order begins with KEY
-abbrev pub orderCounted : Progress → Span → Outcome
-orderCounted s x = unlessFull (limit AnOrder) (soFar AnOrder (s .counts)) x (Go (withCounts (oneMore AnOrder (s .counts)) s))
+-- an order begins with KEY, or with the name of its harmony
+abbrev pub orderCounted : Progress → Span → Outcome → Outcome
+orderCounted s x o = unlessFull (limit AnOrder) (soFar AnOrder (s .counts)) x o
+
+abbrev pub withOrder : Progress → Progress
+withOrder s = withCounts (oneMore AnOrder (s .counts)) s
 
 -- a sign belongs to its term
 abbrev pub signed : Progress → Bool → Span → Outcome
@@ -154,12 +167,25 @@ termed s factor x = Give (nextTerm false 1 (s .term .before + 1) s) (termItem (s
 abbrev pub positioned : Progress → Item → Span → Outcome
 positioned s i x = unlessFull mostPositions (s .positions) x (Give (withPositions (s .positions + 1) (noTerm s)) i)
 
+-- a key of a harmony: "at most 64 harmonies of at most 60 keys"
+abbrev pub keyCounted : Progress → Span → Outcome → Outcome
+keyCounted s x o = unlessFull mostHarmonyKeys (s .positions) x o
+
+abbrev pub withKey : ℕ → Progress → Progress
+withKey v s = withKeys (added (s .keys) v) (withPositions (s .positions + 1) s)
+
+-- "3 also for .. a number named twice"; its number begins a key, unless a star does
+abbrev pub keyNamed : Progress → ℕ → Item → Span → Outcome
+keyNamed s v i x = cond (has (s .keys) v) (Refuse symbolNotAllowed (x .start)) (keyCounted s x (Give (withKey v s) i))
+
 abbrev pub named : Progress → NameUse → Span → Outcome
 named s Term x = termed s (s .term .factor) x
 named s Base x = Give s (item.Base (x .start))
 named s Position x = positioned s (item.TonePosition (x .start)) x
 named s Start x = Give s (item.Start (x .start))
 named s Order x = Give s (item.Order (x .start))
+named s Trigger x = Give s (item.Trigger (x .start))
+named s CountedTrigger x = orderCounted s x (Give (withOrder s) (item.Trigger (x .start)))
 
 abbrev pub marked : Progress → MarkUse → Span → Outcome
 marked s MutedPosition x = positioned s item.MutedPosition x
@@ -168,6 +194,7 @@ marked s KeptAnchor x = Give s item.AnchorKept
 marked s KeptWidth x = Give s item.WidthKept
 marked s Period x = Give s item.Period
 marked s Onward x = Give s item.Onward
+marked s Star x = keyCounted s x (Go s)
 
 -- a number of which the value is allowed, at the symbol x
 abbrev pub used : Progress → NumberUse → ℕ → Span → Outcome
@@ -187,6 +214,8 @@ used s WidthUp v x = Give s (item.WidthUp v)
 used s WidthDown v x = Give s (item.WidthDown v)
 used s WidthTimes v x = Give s (item.WidthTimes v)
 used s WidthOver v x = Give s (item.WidthOver v)
+used s Key v x = keyNamed s v (item.Key v) x
+used s StarredKey v x = keyNamed s v (item.StarredKey v) x
 
 -- "number out of range, too many places, or a point where whole is asked; its place": the number from `start` to `end`
 abbrev pub ifAllowed : Progress → NumberUse → ℕ → Span → WrittenNumber → Outcome
@@ -207,7 +236,7 @@ acted text s (Sign m) x = signed s m x
 acted text s (Name u) x = named s u x
 acted text s (Mark u) x = marked s u x
 acted text s Letter x = Give s (item.Letter (letterAt text x))
-acted text s CountOrder x = orderCounted s x
+acted text s CountOrder x = orderCounted s x (Go (withOrder s))
 
 -- ---- one symbol
 
@@ -257,7 +286,8 @@ begun = record {
     first = record { start = 0; end = 0; value = 0 };
     term = record { minus = false; factor = 1; before = 0 };
     positions = 0;
-    counts = record { intervals = 0; tones = 0; systems = 0; retunings = 0; logics = 0; orders = 0 };
+    keys = 0;
+    counts = record { intervals = 0; tones = 0; systems = 0; retunings = 0; logics = 0; orders = 0; harmonies = 0 };
   };
 }
 

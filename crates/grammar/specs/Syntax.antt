@@ -1,21 +1,21 @@
 -- The syntax of a text as diagrams: for each node the symbols that may follow, the node that each leads to, and what it does.
--- Document 01, "Declarations"; 001, the syntax diagrams.
+-- Document 01, "Declarations"; 001, the syntax diagrams; document 02, 5/13.
 use mathlib.Core.Bool.{Bool, true, false}
 use mathlib.Core.List.{List, [], _∷_, _++_}
 use Rattle.grammar.specs.declared.Kind.{Kind}
-use Rattle.grammar.specs.declared.Kind.the-variants.{Interval, Tone, System, Retuning, Logic}
+use Rattle.grammar.specs.declared.Kind.the-variants.{Interval, Tone, System, Retuning, Logic, Harmony}
 use Rattle.grammar.specs.declared.Action.{Action}
 use Rattle.grammar.specs.declared.Action.the-variants.{Pass, Declare, Hold, Held, Number, Sign, Name, Mark, Letter, CountOrder}
-use Rattle.grammar.specs.declared.NumberUse.the-variants.{RatioFirst, RatioSecond, Degree, Radicand, FirstFactor, Factor, Frequency, AnchorKey, AnchorTo, AnchorUp, AnchorDown, WidthTo, WidthUp, WidthDown, WidthTimes, WidthOver}
-use Rattle.grammar.specs.declared.NameUse.the-variants.{Term, Base, Position, Start as CalledAtStart, Order}
-use Rattle.grammar.specs.declared.MarkUse.the-variants.{MutedPosition, KeptPosition, KeptAnchor, KeptWidth, Period, Onward}
+use Rattle.grammar.specs.declared.NumberUse.the-variants.{RatioFirst, RatioSecond, Degree, Radicand, FirstFactor, Factor, Frequency, AnchorKey, AnchorTo, AnchorUp, AnchorDown, WidthTo, WidthUp, WidthDown, WidthTimes, WidthOver, Key, StarredKey}
+use Rattle.grammar.specs.declared.NameUse.the-variants.{Term, Base, Position, Start as CalledAtStart, Order, Trigger, CountedTrigger}
+use Rattle.grammar.specs.declared.MarkUse.the-variants.{MutedPosition, KeptPosition, KeptAnchor, KeptWidth, Period, Onward, Star}
 
 -- the kinds of symbols that the syntax tells apart: reserved words, a one-letter name, any other name, numbers, marks, the text's end.
 -- `unused` are the reserved words of no use here, `nothing` is a place where no symbol begins.
 pub data Terminal : Type 0 where
-  interval tone tonesystem retuning logic key root unused : Terminal
+  interval tone tonesystem retuning logic key root harmony unused : Terminal
   letter name number : Terminal
-  equals colon plus minus times divide opening closing comma at widthOpen widthClose arrow : Terminal
+  equals colon plus minus times divide opening closing comma at braceOpen braceClose widthOpen widthClose arrow : Terminal
   end nothing : Terminal
 
 -- the nodes of the diagrams, each named by what comes next: `IntervalKind` by the symbol that tells which kind of interval it is, `IntervalNext` by the next
@@ -30,7 +30,8 @@ pub data Node : Type 0 where
   WidthBody WidthOperator WidthPlusNumber WidthMinusNumber WidthTimesNumber WidthOverNumber WidthClose WidthBracket : Node
   PeriodBody PeriodSign PeriodTerm PeriodTermName : Node
   TonesSign TonesTerm TonesTermName TonesPosition : Node
-  LogicName LogicKey LogicLetter LogicEquals LogicStart LogicOpen OrderKey OrderLetter OrderArrow OrderName LogicNext : Node
+  LogicName LogicTrigger LogicLetter LogicEquals LogicStart LogicOpen OrderTrigger OrderLetter OrderArrow OrderName LogicNext : Node
+  HarmonyName HarmonyEquals HarmonyOpen HarmonyKey HarmonyStarred HarmonyComma HarmonyNext : Node
 
 -- in a node, a symbol that is allowed, the next node, and what is done
 pub record Rule : Type 0 where
@@ -47,7 +48,7 @@ onName n a = on letter n a ∷ on name n a ∷ []
 
 -- "A text is any sequence of blocks, an empty one too: a kind word and one or more declarations `name = ..`."
 abbrev pub blocks : List Rule
-blocks = on interval IntervalName Pass ∷ on tone ToneName Pass ∷ on tonesystem SystemName Pass ∷ on retuning RetuningName Pass ∷ on logic LogicName Pass ∷ on end Finish Pass ∷ []
+blocks = on interval IntervalName Pass ∷ on tone ToneName Pass ∷ on tonesystem SystemName Pass ∷ on retuning RetuningName Pass ∷ on logic LogicName Pass ∷ on harmony HarmonyName Pass ∷ on end Finish Pass ∷ []
 
 -- after a whole declaration: the next one of its block, the next block, or the end
 abbrev pub declarations : Kind → Node → List Rule
@@ -137,14 +138,24 @@ rules TonesPosition =
     ∷ onName TonesSign (Name Position)
 -- LOGIC ..                "`name KEY letter = start [ orders ]`; start is a tone system or retuning name or nothing;
 --                         orders, if any, are each `KEY letter -> name`. A letter is a one-letter name from a to z."
-rules LogicName = onName LogicKey (Declare Logic)
-rules LogicKey = on key LogicLetter Pass ∷ []
+--                         Document 02, 5/13, of a harmony: "Its bare name is a trigger beside `KEY letter`, in logics and orders"
+rules LogicName = onName LogicTrigger (Declare Logic)
+rules LogicTrigger = on key LogicLetter Pass ∷ onName LogicEquals (Name Trigger)
 rules LogicLetter = on letter LogicEquals Letter ∷ []
 rules LogicEquals = on equals LogicStart Pass ∷ []
-rules LogicStart = on opening OrderKey Pass ∷ onName LogicOpen (Name CalledAtStart)
-rules LogicOpen = on opening OrderKey Pass ∷ []
-rules OrderKey = on key OrderLetter CountOrder ∷ on closing LogicNext Pass ∷ []
+rules LogicStart = on opening OrderTrigger Pass ∷ onName LogicOpen (Name CalledAtStart)
+rules LogicOpen = on opening OrderTrigger Pass ∷ []
+rules OrderTrigger = on key OrderLetter CountOrder ∷ onName OrderArrow (Name CountedTrigger) ++ on closing LogicNext Pass ∷ []
 rules OrderLetter = on letter OrderArrow Letter ∷ []
 rules OrderArrow = on arrow OrderName Pass ∷ []
-rules OrderName = onName OrderKey (Name Order)
-rules LogicNext = declarations Logic LogicKey
+rules OrderName = onName OrderTrigger (Name Order)
+rules LogicNext = declarations Logic LogicTrigger
+-- HARMONY name = ..       document 02, 5/13: "A harmony is declared, as `HARMONY C = { 0, 4, *7 }` (or HARMONIE), by key numbers from 0 to 59 in braces;
+--                         a star before a number means that it may be held or not."
+rules HarmonyName = onName HarmonyEquals (Declare Harmony)
+rules HarmonyEquals = on equals HarmonyOpen Pass ∷ []
+rules HarmonyOpen = on braceOpen HarmonyKey Pass ∷ []
+rules HarmonyKey = on times HarmonyStarred (Mark Star) ∷ on number HarmonyComma (Number Key) ∷ []
+rules HarmonyStarred = on number HarmonyComma (Number StarredKey) ∷ []
+rules HarmonyComma = on comma HarmonyKey Pass ∷ on braceClose HarmonyNext Pass ∷ []
+rules HarmonyNext = declarations Harmony HarmonyEquals

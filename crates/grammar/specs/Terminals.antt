@@ -16,7 +16,7 @@ use Rattle.symbols.specs.declared.spelling.Letter.{Letter}
 use Rattle.symbols.specs.declared.spelling.Letter.the-variants.{Missing, Capital}
 use Rattle.symbols.specs.Names.{spelled, letterOf}
 use Rattle.grammar.specs.declared.Span.{Span}
-use Rattle.grammar.specs.Syntax.{Terminal, interval, tone, tonesystem, retuning, logic, key, root, unused, letter, name, number, equals, colon, plus, minus, times, divide, opening, closing, comma, at, widthOpen, widthClose, arrow, end, nothing, Rule}
+use Rattle.grammar.specs.Syntax.{Terminal, interval, tone, tonesystem, retuning, logic, key, root, harmony, unused, letter, name, number, equals, colon, plus, minus, times, divide, opening, closing, comma, at, braceOpen, braceClose, widthOpen, widthClose, arrow, end, nothing, Rule}
 
 -- a number tells two terminals apart (`terminal-back` of proofs/Numbered.antt: no two share one)
 abbrev pub terminalNumber : Terminal → ℕ
@@ -27,25 +27,28 @@ terminalNumber retuning = 3
 terminalNumber logic = 4
 terminalNumber key = 5
 terminalNumber root = 6
-terminalNumber unused = 7
-terminalNumber letter = 8
-terminalNumber name = 9
-terminalNumber number = 10
-terminalNumber equals = 11
-terminalNumber colon = 12
-terminalNumber plus = 13
-terminalNumber minus = 14
-terminalNumber times = 15
-terminalNumber divide = 16
-terminalNumber opening = 17
-terminalNumber closing = 18
-terminalNumber comma = 19
-terminalNumber at = 20
-terminalNumber widthOpen = 21
-terminalNumber widthClose = 22
-terminalNumber arrow = 23
-terminalNumber end = 24
-terminalNumber nothing = 25
+terminalNumber harmony = 7
+terminalNumber unused = 8
+terminalNumber letter = 9
+terminalNumber name = 10
+terminalNumber number = 11
+terminalNumber equals = 12
+terminalNumber colon = 13
+terminalNumber plus = 14
+terminalNumber minus = 15
+terminalNumber times = 16
+terminalNumber divide = 17
+terminalNumber opening = 18
+terminalNumber closing = 19
+terminalNumber comma = 20
+terminalNumber at = 21
+terminalNumber braceOpen = 22
+terminalNumber braceClose = 23
+terminalNumber widthOpen = 24
+terminalNumber widthClose = 25
+terminalNumber arrow = 26
+terminalNumber end = 27
+terminalNumber nothing = 28
 
 abbrev pub sameTerminal : Terminal → Terminal → Bool
 sameTerminal t u = eqb (terminalNumber t) (terminalNumber u)
@@ -69,6 +72,7 @@ ofWord word.Retuning = retuning
 ofWord word.Logic = logic
 ofWord word.Key = key
 ofWord word.Root = root
+ofWord word.Harmony = harmony
 ofWord word.Unused = unused
 ofWord word.Plain = name
 
@@ -91,6 +95,8 @@ ofMark mark.Open = opening
 ofMark mark.Close = closing
 ofMark mark.Comma = comma
 ofMark mark.At = at
+ofMark mark.BraceOpen = braceOpen
+ofMark mark.BraceClose = braceClose
 ofMark mark.WidthOpen = widthOpen
 ofMark mark.WidthClose = widthClose
 ofMark mark.Arrow = arrow

@@ -18,6 +18,9 @@ use limits::MOST_AMOUNT;
 use limits::MOST_ANCHOR;
 use limits::MOST_DEGREE;
 use limits::MOST_FACTOR;
+use limits::MOST_HARMONIES;
+use limits::MOST_HARMONY_KEY;
+use limits::MOST_HARMONY_KEYS;
 use limits::MOST_INTERVALS;
 use limits::MOST_LOGICS;
 use limits::MOST_ORDERS;
@@ -30,15 +33,18 @@ use numerals::WrittenNumber;
 use symbols::spelling;
 use symbols::spelling::Letter;
 ghost use mathlib.Core.Path.{_≡_};
-ghost use Prim.Native.Nat.{_<_};
+ghost use Prim.Native.Nat.{_<_, _≤_};
 ghost use lib.Dec.{leb};
 ghost use lib.Seq.{slice};
 ghost use Rattle.status.specs.Status.{itemTooMany};
+ghost use Rattle.limits.specs.Limits.{mostHarmonyKey};
 ghost use Rattle.grammar.specs.Terminals.{letterAt};
-ghost use Rattle.grammar.specs.Reading.{allowed, judged, limit, soFar, oneMore, heldFirst, judgedFirst, noTerm, nextTerm, counted, signed, termed, positioned, named, marked, used, numbered, orderCounted, acted};
-ghost use Rattle.grammar.specs.Inner.{roomForTerm};
+ghost use Rattle.grammar.specs.Reading.{allowed, judged, limit, soFar, oneMore, heldFirst, judgedFirst, noTerm, nextTerm, counted, signed, termed, positioned, named, marked, used, numbered, orderCounted, withOrder, keyCounted, keyNamed, acted};
+ghost use Rattle.grammar.specs.Inner.{roomForTerm, inRange};
 
 const MOST_ANCHOR_KEY: u32 = MOST_ANCHOR as u32;
+
+const LAST_KEY: u32 = MOST_HARMONY_KEY as u32;
 
 fn limit_of(kind: Kind) -> u16
     ensures { λ r. ⌜ r ≡ limit kind ⌝ }
@@ -50,6 +56,7 @@ fn limit_of(kind: Kind) -> u16
         Kind::Retuning => MOST_RETUNINGS,
         Kind::Logic => MOST_LOGICS,
         Kind::Order => MOST_ORDERS,
+        Kind::Harmony => MOST_HARMONIES,
     }
 }
 
@@ -63,6 +70,7 @@ fn count_of(counts: Counts, kind: Kind) -> u16
         Kind::Retuning => counts.retunings,
         Kind::Logic => counts.logics,
         Kind::Order => counts.orders,
+        Kind::Harmony => counts.harmonies,
     }
 }
 
@@ -84,6 +92,7 @@ fn count_one_more(mut counts: Counts, kind: Kind) -> Counts
         Kind::Retuning => counts.retunings += 1,
         Kind::Logic => counts.logics += 1,
         Kind::Order => counts.orders += 1,
+        Kind::Harmony => counts.harmonies += 1,
     }
     counts
 }
@@ -127,20 +136,38 @@ fn declare(s: Progress, kind: Kind, x: Span) -> Outcome
     }
     let mut next = await_first_term(s);
     next.positions = 0;
+    next.keys = 0;
     next.counts = count_one_more(counts, kind);
     Outcome::Give(next, Item::Declared(kind, x.start))
 }
 
-// An order begins with KEY.
-fn count_order(mut s: Progress, x: Span) -> Outcome
-    ensures { λ r. ⌜ r ≡ orderCounted s x ⌝ }
+// One order more.
+fn add_order(mut s: Progress) -> Progress
+    requires { ⌜ soFar Kind.Order (s .counts) < limit Kind.Order ⌝ }
+    ensures { λ r. ⌜ r ≡ withOrder s ⌝ }
 {
-    let counts = s.counts;
-    if is_full(counts, Kind::Order) {
+    s.counts = count_one_more(s.counts, Kind::Order);
+    s
+}
+
+// An order begins with KEY.
+fn count_order(s: Progress, x: Span) -> Outcome
+    ensures { λ r. ⌜ r ≡ orderCounted s x (Outcome.Go (withOrder s)) ⌝ }
+{
+    if is_full(s.counts, Kind::Order) {
         return refuse_item(x);
     }
-    s.counts = count_one_more(counts, Kind::Order);
-    Outcome::Go(s)
+    Outcome::Go(add_order(s))
+}
+
+// An order begins with the name of its harmony.
+fn begin_order(s: Progress, x: Span) -> Outcome
+    ensures { λ r. ⌜ r ≡ orderCounted s x (Outcome.Give (withOrder s) (Item.Trigger (x .start))) ⌝ }
+{
+    if is_full(s.counts, Kind::Order) {
+        return refuse_item(x);
+    }
+    Outcome::Give(add_order(s), Item::Trigger(x.start))
 }
 
 // A term begins with its sign.
@@ -178,6 +205,37 @@ fn add_position(s: Progress, item: Item, x: Span) -> Outcome
     Outcome::Give(next, item)
 }
 
+// A key of a harmony begins with its star.
+fn await_key(s: Progress, x: Span) -> Outcome
+    ensures { λ r. ⌜ r ≡ keyCounted s x (Outcome.Go s) ⌝ }
+{
+    if MOST_HARMONY_KEYS <= s.positions {
+        return refuse_item(x);
+    }
+    Outcome::Go(s)
+}
+
+// A harmony names a key. One that it has named already may not stand there.
+fn name_key(mut s: Progress, value: u32, item: Item, x: Span) -> Outcome
+    requires { ⌜ value ≤ mostHarmonyKey ⌝ }
+    ensures { λ r. ⌜ r ≡ keyNamed s value item x ⌝ }
+{
+    let key = value as u8;
+    if sets::has(s.keys, key) {
+        return Outcome::Refuse {
+            number: status::SYMBOL_NOT_ALLOWED,
+            place: x.start,
+        };
+    }
+    let positions = s.positions;
+    if MOST_HARMONY_KEYS <= positions {
+        return refuse_item(x);
+    }
+    s.positions = positions + 1;
+    s.keys = sets::with(s.keys, key);
+    Outcome::Give(s, item)
+}
+
 fn use_name(s: Progress, purpose: NameUse, x: Span) -> Outcome
     requires { ⌜ roomForTerm s ⌝ }
     ensures { λ r. ⌜ r ≡ named s purpose x ⌝ }
@@ -188,6 +246,8 @@ fn use_name(s: Progress, purpose: NameUse, x: Span) -> Outcome
         NameUse::Position => add_position(s, Item::TonePosition(x.start), x),
         NameUse::Start => Outcome::Give(s, Item::Start(x.start)),
         NameUse::Order => Outcome::Give(s, Item::Order(x.start)),
+        NameUse::Trigger => Outcome::Give(s, Item::Trigger(x.start)),
+        NameUse::CountedTrigger => begin_order(s, x),
     }
 }
 
@@ -201,6 +261,7 @@ fn use_mark(s: Progress, purpose: MarkUse, x: Span) -> Outcome
         MarkUse::KeptWidth => Outcome::Give(s, Item::WidthKept),
         MarkUse::Period => Outcome::Give(s, Item::Period),
         MarkUse::Onward => Outcome::Give(s, Item::Onward),
+        MarkUse::Star => await_key(s, x),
     }
 }
 
@@ -254,6 +315,8 @@ fn range_of(purpose: NumberUse) -> NumberRange
         NumberUse::WidthDown => NumberRange::Whole(0, MOST_AMOUNT),
         NumberUse::WidthTimes => NumberRange::Whole(0, MOST_AMOUNT),
         NumberUse::WidthOver => NumberRange::Whole(LEAST_DIVISOR, MOST_AMOUNT),
+        NumberUse::Key => NumberRange::Whole(0, LAST_KEY),
+        NumberUse::StarredKey => NumberRange::Whole(0, LAST_KEY),
     }
 }
 
@@ -268,7 +331,7 @@ fn judge(text: &[u8], purpose: NumberUse, start: usize, end: usize) -> WrittenNu
 }
 
 fn use_number(s: Progress, purpose: NumberUse, value: u32, x: Span) -> Outcome
-    requires { ⌜ roomForTerm s ⌝ }
+    requires { ⌜ roomForTerm s × inRange (allowed purpose) value ⌝ }
     ensures { λ r. ⌜ r ≡ used s purpose value x ⌝ }
 {
     match purpose {
@@ -288,6 +351,8 @@ fn use_number(s: Progress, purpose: NumberUse, value: u32, x: Span) -> Outcome
         NumberUse::WidthDown => Outcome::Give(s, Item::WidthDown(value)),
         NumberUse::WidthTimes => Outcome::Give(s, Item::WidthTimes(value)),
         NumberUse::WidthOver => Outcome::Give(s, Item::WidthOver(value)),
+        NumberUse::Key => name_key(s, value, Item::Key(value), x),
+        NumberUse::StarredKey => name_key(s, value, Item::StarredKey(value), x),
     }
 }
 

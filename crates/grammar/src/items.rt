@@ -19,6 +19,7 @@ fn declared_code(kind: Kind) -> u32
         Kind::Retuning => 4,
         Kind::Logic => 5,
         Kind::Order => 6,
+        Kind::Harmony => 32,
     }
 }
 
@@ -53,6 +54,9 @@ fn row_of(item: Item) -> [u32; 3]
         Item::Letter(letter) => [29, letter, 0],
         Item::Start(name) => [30, 0, name],
         Item::Order(name) => [31, 0, name],
+        Item::Trigger(name) => [33, 0, name],
+        Item::Key(n) => [34, n, 0],
+        Item::StarredKey(n) => [35, n, 0],
     }
 }
 
@@ -91,6 +95,10 @@ fn item_of(code: u32, value: u32, place: u32) -> Item
         29 => Item::Letter(value),
         30 => Item::Start(place),
         31 => Item::Order(place),
+        32 => Item::Declared(Kind::Harmony, place),
+        33 => Item::Trigger(place),
+        34 => Item::Key(value),
+        35 => Item::StarredKey(value),
         _ => Item::MutedPosition,
     }
 }

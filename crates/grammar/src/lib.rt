@@ -13,6 +13,7 @@ pub enum Kind {
     Retuning,
     Logic,
     Order,
+    Harmony,
 }
 
 // What a number is for.
@@ -33,6 +34,8 @@ pub enum NumberUse {
     WidthDown,
     WidthTimes,
     WidthOver,
+    Key,
+    StarredKey,
 }
 
 // The numbers that a use allows: 0.0001 to 429496.7295 with at most four places, or whole ones from the first to the second.
@@ -48,6 +51,9 @@ pub enum NameUse {
     Position,
     Start,
     Order,
+    // The harmony that triggers a logic, or an order, which is counted at it.
+    Trigger,
+    CountedTrigger,
 }
 
 // What a mark stands for, where it says more than that the syntax goes on.
@@ -58,6 +64,7 @@ pub enum MarkUse {
     KeptWidth,
     Period,
     Onward,
+    Star,
 }
 
 // What is done at a symbol.
@@ -109,6 +116,11 @@ pub enum Item {
     Start(u32),
     // What an order calls; its trigger stands right before.
     Order(u32),
+    // The harmony that triggers a logic or an order.
+    Trigger(u32),
+    // A key number of a harmony.
+    Key(u32),
+    StarredKey(u32),
 }
 
 // How many declarations and orders there are so far.
@@ -119,6 +131,7 @@ pub struct Counts {
     pub retunings: u16,
     pub logics: u16,
     pub orders: u16,
+    pub harmonies: u16,
 }
 
 // An interval's first number: its place, the place after it, and its value once it is judged.
@@ -139,8 +152,10 @@ pub struct NextTerm {
 pub struct Progress {
     pub first: FirstNumber,
     pub term: NextTerm,
-    // How many positions the list under way has.
+    // How many positions the list under way has, or keys the harmony.
     pub positions: u8,
+    // The key numbers that the harmony under way has named so far, as a set.
+    pub keys: u64,
     pub counts: Counts,
 }
 

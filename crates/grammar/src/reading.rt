@@ -119,6 +119,7 @@ fn begin() -> Progress
             before: 0,
         },
         positions: 0,
+        keys: 0,
         counts: Counts {
             intervals: 0,
             tones: 0,
@@ -126,6 +127,7 @@ fn begin() -> Progress
             retunings: 0,
             logics: 0,
             orders: 0,
+            harmonies: 0,
         },
     }
 }

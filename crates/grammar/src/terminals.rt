@@ -18,43 +18,49 @@ const KEY: u8 = 5;
 
 const ROOT: u8 = 6;
 
-const UNUSED: u8 = 7;
+const HARMONY: u8 = 7;
 
-pub const LETTER: u8 = 8;
+const UNUSED: u8 = 8;
 
-const NAME: u8 = 9;
+pub const LETTER: u8 = 9;
 
-pub const NUMBER: u8 = 10;
+const NAME: u8 = 10;
 
-const EQUALS: u8 = 11;
+pub const NUMBER: u8 = 11;
 
-const COLON: u8 = 12;
+const EQUALS: u8 = 12;
 
-const PLUS: u8 = 13;
+const COLON: u8 = 13;
 
-const MINUS: u8 = 14;
+const PLUS: u8 = 14;
 
-const TIMES: u8 = 15;
+const MINUS: u8 = 15;
 
-const DIVIDE: u8 = 16;
+const TIMES: u8 = 16;
 
-const OPENING: u8 = 17;
+const DIVIDE: u8 = 17;
 
-const CLOSING: u8 = 18;
+const OPENING: u8 = 18;
 
-const COMMA: u8 = 19;
+const CLOSING: u8 = 19;
 
-const AT: u8 = 20;
+const COMMA: u8 = 20;
 
-const WIDTH_OPEN: u8 = 21;
+const AT: u8 = 21;
 
-const WIDTH_CLOSE: u8 = 22;
+const BRACE_OPEN: u8 = 22;
 
-const ARROW: u8 = 23;
+const BRACE_CLOSE: u8 = 23;
 
-pub const END: u8 = 24;
+const WIDTH_OPEN: u8 = 24;
 
-pub const NOTHING: u8 = 25;
+const WIDTH_CLOSE: u8 = 25;
+
+const ARROW: u8 = 26;
+
+pub const END: u8 = 27;
+
+pub const NOTHING: u8 = 28;
 
 pub fn of_word(word: Word) -> u8
     ensures { λ r. ⌜ r ≡ terminalNumber (ofWord word) ⌝ }
@@ -68,6 +74,7 @@ pub fn of_word(word: Word) -> u8
         Word::Logic => LOGIC,
         Word::Key => KEY,
         Word::Root => ROOT,
+        Word::Harmony => HARMONY,
         Word::Unused => UNUSED,
     }
 }
@@ -86,6 +93,8 @@ pub fn of_mark(kind: MarkKind) -> u8
         MarkKind::Close => CLOSING,
         MarkKind::Comma => COMMA,
         MarkKind::At => AT,
+        MarkKind::BraceOpen => BRACE_OPEN,
+        MarkKind::BraceClose => BRACE_CLOSE,
         MarkKind::WidthOpen => WIDTH_OPEN,
         MarkKind::WidthClose => WIDTH_CLOSE,
         MarkKind::Arrow => ARROW,

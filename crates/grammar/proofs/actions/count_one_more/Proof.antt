@@ -40,6 +40,12 @@ enum-told-6 c = search needs
 add-counts-6 : tie.Need-add-counts-6
 add-counts-6 c = omega (arith, simp (c .before .enum-told6 .given .1) at (c .before .before .before .pre))
 
+enum-told-7 : tie.Need-enum-told-7
+enum-told-7 c = search needs
+
+add-counts-7 : tie.Need-add-counts-7
+add-counts-7 c = omega (arith, simp (c .before .enum-told7 .given .1) at (c .before .before .before .pre))
+
 returns : tie.Need-returns
 returns c =
     simp (c .before .enum-told .given .1)
@@ -64,6 +70,10 @@ returns-6 : tie.Need-returns-6
 returns-6 c =
     simp (c .before .enum-told6 .given .1)
 
+returns-7 : tie.Need-returns-7
+returns-7 c =
+    simp (c .before .enum-told7 .given .1)
+
 pub count-one-more-spec : {M : Type 1} → statement M
 count-one-more-spec =
     tie.close
@@ -80,9 +90,12 @@ count-one-more-spec =
     add-counts-5
     enum-told-6
     add-counts-6
+    enum-told-7
+    add-counts-7
     returns
     returns-2
     returns-3
     returns-4
     returns-5
-    returns-6)
+    returns-6
+    returns-7)

@@ -14,13 +14,12 @@ refuse-item-requires c κs = search needs
 returns : tie.Need-returns
 returns c = simp (← c .refuse-item .ensures, ← c .before .before .is-full .ensures, c .before .if1 .taken)
 
-count-one-more-requires : tie.Need-count-one-more-requires
-count-one-more-requires c κs = leb-false _ _ (sym (c .before .is-full .ensures) ∙ c .if1 .left)
+add-order-requires : tie.Need-add-order-requires
+add-order-requires c κs = leb-false _ _ (sym (c .before .is-full .ensures) ∙ c .if1 .left)
 
 returns-2 : tie.Need-returns-2
-returns-2 c = simp (c .count-one-more .ensures, ← c .before .before .is-full .ensures, c .before .if1 .left)
+returns-2 c = simp (← c .add-order .ensures, ← c .before .before .is-full .ensures, c .before .if1 .left)
 
 pub count-order-spec : {M : Type 1} → statement M
 count-order-spec =
-    tie.close
-    (tie.spec is-full-requires refuse-item-requires returns count-one-more-requires returns-2)
+    tie.close (tie.spec is-full-requires refuse-item-requires returns add-order-requires returns-2)

@@ -1,5 +1,7 @@
 -- `read_number` gives what `numbered` says: by whether the number is allowed.
 use borrow.Author.Needs.{needs}
+use Rattle.grammar.specs.Reading.{allowed}
+use Rattle.grammar.proofs.Judged.{judged-most}
 use Rattle.grammar.proofs.actions.read_number.Statement.{statement}
 use Rattle.grammar.proofs.actions.read_number.Tie as tie
 
@@ -20,7 +22,7 @@ returns c =
     )
 
 use-number-requires : tie.Need-use-number-requires
-use-number-requires c κs = search needs
+use-number-requires c κs = (c .before .before .before .before .before .pre, judged-most (allowed (c .before .before .before .before .before .args .purpose)) _ (c .before .before .before .judge .ensures) (c .before .value .given .1))
 
 returns-2 : tie.Need-returns-2
 returns-2 c =

@@ -27,6 +27,12 @@ enum-told-5 c = search needs
 enum-told-6 : tie.Need-enum-told-6
 enum-told-6 c = search needs
 
+enum-told-7 : tie.Need-enum-told-7
+enum-told-7 c = search needs
+
+await-key-requires : tie.Need-await-key-requires
+await-key-requires c κs = search needs
+
 returns : tie.Need-returns
 returns c =
     simp (
@@ -57,6 +63,13 @@ returns-6 : tie.Need-returns-6
 returns-6 c =
     simp (c .enum-told6 .given .1)
 
+returns-7 : tie.Need-returns-7
+returns-7 c =
+    simp (
+      ← c .await-key .ensures,
+      c .before .enum-told7 .given .1,
+    )
+
 pub use-mark-spec : {M : Type 1} → statement M
 use-mark-spec =
     tie.close
@@ -69,9 +82,12 @@ use-mark-spec =
     enum-told-4
     enum-told-5
     enum-told-6
+    enum-told-7
+    await-key-requires
     returns
     returns-2
     returns-3
     returns-4
     returns-5
-    returns-6)
+    returns-6
+    returns-7)

@@ -24,6 +24,15 @@ enum-told-4 c = search needs
 enum-told-5 : tie.Need-enum-told-5
 enum-told-5 c = search needs
 
+enum-told-6 : tie.Need-enum-told-6
+enum-told-6 c = search needs
+
+enum-told-7 : tie.Need-enum-told-7
+enum-told-7 c = search needs
+
+begin-order-requires : tie.Need-begin-order-requires
+begin-order-requires c κs = search needs
+
 returns : tie.Need-returns
 returns c =
     simp (
@@ -50,6 +59,17 @@ returns-5 : tie.Need-returns-5
 returns-5 c =
     simp (c .enum-told5 .given .1)
 
+returns-6 : tie.Need-returns-6
+returns-6 c =
+    simp (c .enum-told6 .given .1)
+
+returns-7 : tie.Need-returns-7
+returns-7 c =
+    simp (
+      ← c .begin-order .ensures,
+      c .before .enum-told7 .given .1,
+    )
+
 pub use-name-spec : {M : Type 1} → statement M
 use-name-spec =
     tie.close
@@ -61,8 +81,13 @@ use-name-spec =
     add-position-requires
     enum-told-4
     enum-told-5
+    enum-told-6
+    enum-told-7
+    begin-order-requires
     returns
     returns-2
     returns-3
     returns-4
-    returns-5)
+    returns-5
+    returns-6
+    returns-7)

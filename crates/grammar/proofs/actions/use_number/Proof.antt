@@ -63,6 +63,18 @@ enum-told-15 c = search needs
 enum-told-16 : tie.Need-enum-told-16
 enum-told-16 c = search needs
 
+enum-told-17 : tie.Need-enum-told-17
+enum-told-17 c = search needs
+
+name-key-requires : tie.Need-name-key-requires
+name-key-requires c κs = simp (c .enum-told17 .given .1) at (c .before .before .pre .1)
+
+enum-told-18 : tie.Need-enum-told-18
+enum-told-18 c = search needs
+
+name-key-requires-2 : tie.Need-name-key-requires-2
+name-key-requires-2 c κs = simp (c .enum-told18 .given .1) at (c .before .before .pre .1)
+
 returns : tie.Need-returns
 returns c =
     simp (
@@ -139,6 +151,20 @@ returns-16 : tie.Need-returns-16
 returns-16 c =
     simp (c .enum-told16 .given .1)
 
+returns-17 : tie.Need-returns-17
+returns-17 c =
+    simp (
+      ← c .name-key .ensures,
+      c .before .enum-told17 .given .1,
+    )
+
+returns-18 : tie.Need-returns-18
+returns-18 c =
+    simp (
+      ← c .name-key2 .ensures,
+      c .before .enum-told18 .given .1,
+    )
+
 pub use-number-spec : {M : Type 1} → statement M
 use-number-spec =
     tie.close
@@ -163,6 +189,10 @@ use-number-spec =
     enum-told-14
     enum-told-15
     enum-told-16
+    enum-told-17
+    name-key-requires
+    enum-told-18
+    name-key-requires-2
     returns
     returns-2
     returns-3
@@ -178,4 +208,6 @@ use-number-spec =
     returns-13
     returns-14
     returns-15
-    returns-16)
+    returns-16
+    returns-17
+    returns-18)

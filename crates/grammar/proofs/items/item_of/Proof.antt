@@ -159,7 +159,27 @@ returns-31 c =
 
 returns-32 : tie.Need-returns-32
 unfolding itemOf
-returns-32 c = rest _ (drop 1 (variants (c .before .args .value) (c .before .args .place))) (c .before .args .code) (c .match .rest)
+returns-32 c =
+    simp (c .match .keys32)
+
+returns-33 : tie.Need-returns-33
+unfolding itemOf
+returns-33 c =
+    simp (c .match .keys33)
+
+returns-34 : tie.Need-returns-34
+unfolding itemOf
+returns-34 c =
+    simp (c .match .keys34)
+
+returns-35 : tie.Need-returns-35
+unfolding itemOf
+returns-35 c =
+    simp (c .match .keys35)
+
+returns-36 : tie.Need-returns-36
+unfolding itemOf
+returns-36 c = rest _ (drop 1 (variants (c .before .args .value) (c .before .args .place))) (c .before .args .code) (c .match .rest)
 
 pub item-of-spec : {M : Type 1} → statement M
 item-of-spec =
@@ -196,4 +216,8 @@ item-of-spec =
     returns-29
     returns-30
     returns-31
-    returns-32)
+    returns-32
+    returns-33
+    returns-34
+    returns-35
+    returns-36)

@@ -85,6 +85,15 @@ enum-known-item-19 c = search needs
 enum-known-item-20 : tie.Need-enum-known-item-20
 enum-known-item-20 c = search needs
 
+enum-known-item-21 : tie.Need-enum-known-item-21
+enum-known-item-21 c = search needs
+
+enum-known-item-22 : tie.Need-enum-known-item-22
+enum-known-item-22 c = search needs
+
+enum-known-item-23 : tie.Need-enum-known-item-23
+enum-known-item-23 c = search needs
+
 returns : tie.Need-returns
 returns c =
     simp (
@@ -192,6 +201,18 @@ returns-26 : tie.Need-returns-26
 returns-26 c =
     simp (c .before .item20 .given .1)
 
+returns-27 : tie.Need-returns-27
+returns-27 c =
+    simp (c .before .item21 .given .1)
+
+returns-28 : tie.Need-returns-28
+returns-28 c =
+    simp (c .before .item22 .given .1)
+
+returns-29 : tie.Need-returns-29
+returns-29 c =
+    simp (c .before .item23 .given .1)
+
 pub row-of-spec : {M : Type 1} → statement M
 row-of-spec =
     tie.close
@@ -223,6 +244,9 @@ row-of-spec =
     enum-known-item-18
     enum-known-item-19
     enum-known-item-20
+    enum-known-item-21
+    enum-known-item-22
+    enum-known-item-23
     returns
     returns-2
     returns-3
@@ -248,4 +272,7 @@ row-of-spec =
     returns-23
     returns-24
     returns-25
-    returns-26)
+    returns-26
+    returns-27
+    returns-28
+    returns-29)

@@ -22,7 +22,10 @@ returns-5 : tie.Need-returns-5
 returns-5 c = search needs
 
 returns-6 : tie.Need-returns-6
-returns-6 c = rest _ (drop 1 kinds) (c .before .args .index) (c .match .rest)
+returns-6 c = search needs
+
+returns-7 : tie.Need-returns-7
+returns-7 c = rest _ (drop 1 kinds) (c .before .args .index) (c .match .rest)
 
 pub kind-at-spec : {M : Type 1} → statement M
-kind-at-spec = tie.close (tie.spec returns returns-2 returns-3 returns-4 returns-5 returns-6)
+kind-at-spec = tie.close (tie.spec returns returns-2 returns-3 returns-4 returns-5 returns-6 returns-7)

@@ -52,7 +52,13 @@ returns-15 : tie.Need-returns-15
 returns-15 c = search needs
 
 returns-16 : tie.Need-returns-16
-returns-16 c = rest _ (drop 1 numberUses) (c .before .args .index) (c .match .rest)
+returns-16 c = search needs
+
+returns-17 : tie.Need-returns-17
+returns-17 c = search needs
+
+returns-18 : tie.Need-returns-18
+returns-18 c = rest _ (drop 1 numberUses) (c .before .args .index) (c .match .rest)
 
 pub number-use-at-spec : {M : Type 1} → statement M
 number-use-at-spec =
@@ -73,4 +79,4 @@ number-use-at-spec =
     returns-13
     returns-14
     returns-15
-    returns-16)
+    returns-16 returns-17 returns-18)
