@@ -22,7 +22,7 @@ use Rattle.program.specs.Program.{Declaration, declarationOf, periodBy, periodO
 use Rattle.valuation.specs.Inner.{itemsBetween}
 use Rattle.filling.specs.Tables.{tonesOf, changesOf, startCode, rowOf}
 use Rattle.filling.specs.Inner.{valueIn, letterOf, callOf, calledBy, begins, Summable, FitParts, Stored, rowAfter, plainRow, Lists, listed, Rowed}
-use Rattle.filling.proofs.Inside.{tag, Inside, add, subtract, muted, kept, tone, start, order, outside, no-begin}
+use Rattle.filling.proofs.Inside.{tag, Inside, add, subtract, muted, kept, tone, letter, start, order, outside, no-begin}
 use Rattle.valuation.proofs.Between.{between-none}
 use Rattle.filling.proofs.Items.{item-next}
 
@@ -64,7 +64,7 @@ as-interval z item.Period h = refl
 as-interval z item.Onward h = refl
 as-interval z (item.Letter a) h = refl
 as-interval z (item.Start a) h = refl
-as-interval z (item.Order a b) h = refl
+as-interval z (item.Order a) h = refl
 
 -- `[ ]` and no `@`: the period is a new one
 abbrev pub noOnward : List ℕ
@@ -96,7 +96,7 @@ as-fresh item.Period h rest = refl
 as-fresh item.Onward h rest = absurd (miss noOnward 22 tt h)
 as-fresh (item.Letter a) h rest = refl
 as-fresh (item.Start a) h rest = refl
-as-fresh (item.Order a b) h rest = refl
+as-fresh (item.Order a) h rest = refl
 
 -- no list and no sum
 abbrev pub plains : List ℕ
@@ -128,7 +128,7 @@ as-plain values used item.Period h e rest = absurd (miss plains 21 tt h)
 as-plain values used item.Onward h e rest = absurd (miss plains 22 tt h)
 as-plain values used (item.Letter a) h e rest = absurd (miss plains 23 tt h)
 as-plain values used (item.Start a) h e rest = record { row = refl; lists = λ l. refl; fit = λ f. f }
-as-plain values used (item.Order a b) h e rest = record { row = refl; lists = λ l. refl; fit = λ f. f }
+as-plain values used (item.Order a) h e rest = record { row = refl; lists = λ l. refl; fit = λ f. f }
 
 -- ---- positions
 
@@ -139,6 +139,7 @@ as-tones muted e rest = refl
 as-tones kept e rest = refl
 as-tones tone e rest = refl
 as-tones start e rest = absurd (clash e refl)
+as-tones letter e rest = absurd (clash e refl)
 as-tones order e rest = absurd (clash e refl)
 as-tones (outside o) e rest = absurd (clash e (no-begin o))
 

@@ -12,7 +12,7 @@ use Rattle.values.proofs.Cases.{clash}
 use Rattle.program.specs.Program.{Grouped, termThen, groupThen, grouped}
 use Rattle.valuation.specs.Inner.{itemsBetween}
 use Rattle.filling.specs.Inner.{begins, positionBy, positionAt}
-use Rattle.filling.proofs.Inside.{Inside, add, subtract, muted, kept, tone, start, order, outside, inside, no-begin}
+use Rattle.filling.proofs.Inside.{Inside, add, subtract, muted, kept, tone, letter, start, order, outside, inside, no-begin}
 use Rattle.filling.proofs.Items.{termsFrom, terms-end, terms-next, groups-end, groups-next}
 
 before-none : {i : Item} → Inside i → (g : Grouped) → begins (part i) ≡ true → groupThen (part i) g .before ≡ []
@@ -21,6 +21,7 @@ before-none subtract g e = absurd (clash e refl)
 before-none muted g e = refl
 before-none kept g e = refl
 before-none tone g e = refl
+before-none letter g e = absurd (clash e refl)
 before-none start g e = absurd (clash e refl)
 before-none order g e = absurd (clash e refl)
 before-none (outside o) g e = absurd (clash e (no-begin o))
@@ -31,6 +32,7 @@ before-first subtract g e = refl
 before-first muted g e = absurd (clash refl e)
 before-first kept g e = absurd (clash refl e)
 before-first tone g e = absurd (clash refl e)
+before-first letter g e = refl
 before-first start g e = refl
 before-first order g e = refl
 before-first (outside o) g e =

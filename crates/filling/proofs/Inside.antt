@@ -2,7 +2,7 @@
 use mathlib.Core.Path.{_≡_, refl, ap}
 use mathlib.Core.Bool.{false}
 use mathlib.Core.List.{List, [], _∷_}
-use mathlib.Core.Option.{Option}
+use mathlib.Core.Option.{Option, some, none}
 use Prim.Native.Nat.{ℕ}
 use lib.Dec.{ltb}
 use lib.ListN.{length}
@@ -13,15 +13,15 @@ use Rattle.grammar.specs.declared.Item.the-variants as item
 use Rattle.grammar.proofs.Item as variants
 use Rattle.names.specs.Parts.{part}
 use Rattle.values.specs.Values.{Term}
-use Rattle.program.specs.Program.{Grouped, Order, termThen, systemPositionThen, groupThen, orderThen, startThen}
-use Rattle.filling.specs.Inner.{begins, positionBy}
+use Rattle.program.specs.Program.{Grouped, Order, Ordered, termThen, systemPositionThen, groupThen, triggeredBy, orderThen, startThen}
+use Rattle.filling.specs.Inner.{begins, positionBy, orderBy}
 
 -- an item that gives nothing to any list
 pub record Outside (i : Item) : Type 0 where
   pub term : (ts : List Term) → termThen (part i) ts ≡ ts
   pub place : (l : List (Option ℕ)) → systemPositionThen (part i) l ≡ l
   pub group : (g : Grouped) → groupThen (part i) g ≡ g
-  pub order : (l : List Order) → orderThen (part i) l ≡ l
+  pub order : (g : Ordered) → orderThen (part i) g ≡ record { call = none; orders = g .orders }
   pub start : (s : Option ℕ) → startThen (part i) s ≡ s
 
 -- the others, one by one
@@ -31,37 +31,38 @@ pub data Inside : Item → Type 0 where
   muted : Inside item.MutedPosition
   kept : Inside item.KeptPosition
   tone : {n : ℕ} → Inside (item.TonePosition n)
+  letter : {c : ℕ} → Inside (item.Letter c)
   start : {n : ℕ} → Inside (item.Start n)
-  order : {c n : ℕ} → Inside (item.Order c n)
+  order : {n : ℕ} → Inside (item.Order n)
   outside : {i : Item} → Outside i → Inside i
 
 pub inside : (i : Item) → Inside i
-inside (item.Declared a b) = outside (record { term = λ ts. refl; place = λ l. refl; group = λ g. refl; order = λ l. refl; start = λ s. refl })
-inside (item.Ratio a b) = outside (record { term = λ ts. refl; place = λ l. refl; group = λ g. refl; order = λ l. refl; start = λ s. refl })
-inside (item.Root a b) = outside (record { term = λ ts. refl; place = λ l. refl; group = λ g. refl; order = λ l. refl; start = λ s. refl })
+inside (item.Declared a b) = outside (record { term = λ ts. refl; place = λ l. refl; group = λ g. refl; order = λ g. refl; start = λ s. refl })
+inside (item.Ratio a b) = outside (record { term = λ ts. refl; place = λ l. refl; group = λ g. refl; order = λ g. refl; start = λ s. refl })
+inside (item.Root a b) = outside (record { term = λ ts. refl; place = λ l. refl; group = λ g. refl; order = λ g. refl; start = λ s. refl })
 inside (item.Add a b) = add
 inside (item.Subtract a b) = subtract
-inside (item.Frequency a) = outside (record { term = λ ts. refl; place = λ l. refl; group = λ g. refl; order = λ l. refl; start = λ s. refl })
-inside (item.Base a) = outside (record { term = λ ts. refl; place = λ l. refl; group = λ g. refl; order = λ l. refl; start = λ s. refl })
-inside (item.AnchorKey a) = outside (record { term = λ ts. refl; place = λ l. refl; group = λ g. refl; order = λ l. refl; start = λ s. refl })
+inside (item.Frequency a) = outside (record { term = λ ts. refl; place = λ l. refl; group = λ g. refl; order = λ g. refl; start = λ s. refl })
+inside (item.Base a) = outside (record { term = λ ts. refl; place = λ l. refl; group = λ g. refl; order = λ g. refl; start = λ s. refl })
+inside (item.AnchorKey a) = outside (record { term = λ ts. refl; place = λ l. refl; group = λ g. refl; order = λ g. refl; start = λ s. refl })
 inside item.MutedPosition = muted
 inside item.KeptPosition = kept
 inside (item.TonePosition a) = tone
-inside item.AnchorKept = outside (record { term = λ ts. refl; place = λ l. refl; group = λ g. refl; order = λ l. refl; start = λ s. refl })
-inside (item.AnchorTo a) = outside (record { term = λ ts. refl; place = λ l. refl; group = λ g. refl; order = λ l. refl; start = λ s. refl })
-inside (item.AnchorUp a) = outside (record { term = λ ts. refl; place = λ l. refl; group = λ g. refl; order = λ l. refl; start = λ s. refl })
-inside (item.AnchorDown a) = outside (record { term = λ ts. refl; place = λ l. refl; group = λ g. refl; order = λ l. refl; start = λ s. refl })
-inside item.WidthKept = outside (record { term = λ ts. refl; place = λ l. refl; group = λ g. refl; order = λ l. refl; start = λ s. refl })
-inside (item.WidthTo a) = outside (record { term = λ ts. refl; place = λ l. refl; group = λ g. refl; order = λ l. refl; start = λ s. refl })
-inside (item.WidthUp a) = outside (record { term = λ ts. refl; place = λ l. refl; group = λ g. refl; order = λ l. refl; start = λ s. refl })
-inside (item.WidthDown a) = outside (record { term = λ ts. refl; place = λ l. refl; group = λ g. refl; order = λ l. refl; start = λ s. refl })
-inside (item.WidthTimes a) = outside (record { term = λ ts. refl; place = λ l. refl; group = λ g. refl; order = λ l. refl; start = λ s. refl })
-inside (item.WidthOver a) = outside (record { term = λ ts. refl; place = λ l. refl; group = λ g. refl; order = λ l. refl; start = λ s. refl })
-inside item.Period = outside (record { term = λ ts. refl; place = λ l. refl; group = λ g. refl; order = λ l. refl; start = λ s. refl })
-inside item.Onward = outside (record { term = λ ts. refl; place = λ l. refl; group = λ g. refl; order = λ l. refl; start = λ s. refl })
-inside (item.Letter a) = outside (record { term = λ ts. refl; place = λ l. refl; group = λ g. refl; order = λ l. refl; start = λ s. refl })
+inside item.AnchorKept = outside (record { term = λ ts. refl; place = λ l. refl; group = λ g. refl; order = λ g. refl; start = λ s. refl })
+inside (item.AnchorTo a) = outside (record { term = λ ts. refl; place = λ l. refl; group = λ g. refl; order = λ g. refl; start = λ s. refl })
+inside (item.AnchorUp a) = outside (record { term = λ ts. refl; place = λ l. refl; group = λ g. refl; order = λ g. refl; start = λ s. refl })
+inside (item.AnchorDown a) = outside (record { term = λ ts. refl; place = λ l. refl; group = λ g. refl; order = λ g. refl; start = λ s. refl })
+inside item.WidthKept = outside (record { term = λ ts. refl; place = λ l. refl; group = λ g. refl; order = λ g. refl; start = λ s. refl })
+inside (item.WidthTo a) = outside (record { term = λ ts. refl; place = λ l. refl; group = λ g. refl; order = λ g. refl; start = λ s. refl })
+inside (item.WidthUp a) = outside (record { term = λ ts. refl; place = λ l. refl; group = λ g. refl; order = λ g. refl; start = λ s. refl })
+inside (item.WidthDown a) = outside (record { term = λ ts. refl; place = λ l. refl; group = λ g. refl; order = λ g. refl; start = λ s. refl })
+inside (item.WidthTimes a) = outside (record { term = λ ts. refl; place = λ l. refl; group = λ g. refl; order = λ g. refl; start = λ s. refl })
+inside (item.WidthOver a) = outside (record { term = λ ts. refl; place = λ l. refl; group = λ g. refl; order = λ g. refl; start = λ s. refl })
+inside item.Period = outside (record { term = λ ts. refl; place = λ l. refl; group = λ g. refl; order = λ g. refl; start = λ s. refl })
+inside item.Onward = outside (record { term = λ ts. refl; place = λ l. refl; group = λ g. refl; order = λ g. refl; start = λ s. refl })
+inside (item.Letter a) = letter
 inside (item.Start a) = start
-inside (item.Order a b) = order
+inside (item.Order a) = order
 
 -- ---- an item that is not one of some variants: where a match falls through
 
@@ -78,6 +79,7 @@ no-term subtract h = absurd (miss noTerms 4 tt h)
 no-term muted h = refl
 no-term kept h = refl
 no-term tone h = refl
+no-term letter h = refl
 no-term start h = refl
 no-term order h = refl
 no-term (outside o) h = o .term []
@@ -92,6 +94,7 @@ no-place subtract h = refl
 no-place muted h = absurd (miss noPlaces 8 tt h)
 no-place kept h = refl
 no-place tone h = absurd (miss noPlaces 10 tt h)
+no-place letter h = refl
 no-place start h = refl
 no-place order h = refl
 no-place (outside o) h = o .place []
@@ -106,23 +109,45 @@ no-position subtract h ts = refl
 no-position muted h ts = absurd (miss noPositions 8 tt h)
 no-position kept h ts = absurd (miss noPositions 9 tt h)
 no-position tone h ts = absurd (miss noPositions 10 tt h)
+no-position letter h ts = refl
 no-position start h ts = refl
 no-position order h ts = refl
 no-position (outside o) h ts = ap (λ (g : Grouped). g .positions) (o .group (record { before = ts; positions = [] }))
 
--- but an order
-abbrev pub noOrders : List ℕ
-noOrders = 0 ∷ 1 ∷ 2 ∷ 3 ∷ 4 ∷ 5 ∷ 6 ∷ 7 ∷ 8 ∷ 9 ∷ 10 ∷ 11 ∷ 12 ∷ 13 ∷ 14 ∷ 15 ∷ 16 ∷ 17 ∷ 18 ∷ 19 ∷ 20 ∷ 21 ∷ 22 ∷ 23 ∷ 24 ∷ []
+-- but a letter, with which an order begins
+abbrev pub noLetters : List ℕ
+noLetters = 0 ∷ 1 ∷ 2 ∷ 3 ∷ 4 ∷ 5 ∷ 6 ∷ 7 ∷ 8 ∷ 9 ∷ 10 ∷ 11 ∷ 12 ∷ 13 ∷ 14 ∷ 15 ∷ 16 ∷ 17 ∷ 18 ∷ 19 ∷ 20 ∷ 21 ∷ 22 ∷ 24 ∷ 25 ∷ []
 
-pub no-order : {i : Item} → Inside i → OneOf noOrders (tag i) → (l : List Order) → orderThen (part i) l ≡ l
-no-order add h l = refl
-no-order subtract h l = refl
-no-order muted h l = refl
-no-order kept h l = refl
-no-order tone h l = refl
-no-order start h l = refl
-no-order order h l = absurd (miss noOrders 25 tt h)
-no-order (outside o) h l = o .order l
+pub no-order : {i : Item} → Inside i → OneOf noLetters (tag i) → (called : Option ℕ) → orderBy (part i) called ≡ []
+no-order add h called = refl
+no-order subtract h called = refl
+no-order muted h called = refl
+no-order kept h called = refl
+no-order tone h called = refl
+no-order letter h called = absurd (miss noLetters 23 tt h)
+no-order start h called = refl
+no-order order h called = refl
+no-order (outside o) h called = ap (λ (g : Ordered). g .orders) (o .order (record { call = called; orders = [] }))
+
+-- but what an order calls
+abbrev pub noCalls : List ℕ
+noCalls = 0 ∷ 1 ∷ 2 ∷ 3 ∷ 4 ∷ 5 ∷ 6 ∷ 7 ∷ 8 ∷ 9 ∷ 10 ∷ 11 ∷ 12 ∷ 13 ∷ 14 ∷ 15 ∷ 16 ∷ 17 ∷ 18 ∷ 19 ∷ 20 ∷ 21 ∷ 22 ∷ 23 ∷ 24 ∷ []
+
+-- before a letter no call waits
+letter-call : (c : ℕ) (called : Option ℕ) (l : List Order) → triggeredBy c called l .call ≡ none
+letter-call c none l = refl
+letter-call c (some n) l = refl
+
+pub no-call : {i : Item} → Inside i → OneOf noCalls (tag i) → (g : Ordered) → orderThen (part i) g .call ≡ none
+no-call add h g = refl
+no-call subtract h g = refl
+no-call muted h g = refl
+no-call kept h g = refl
+no-call tone h g = refl
+no-call (letter {c}) h g = letter-call c (g .call) (g .orders)
+no-call start h g = refl
+no-call order h g = absurd (miss noCalls 25 tt h)
+no-call (outside o) h g = ap (λ (h : Ordered). h .call) (o .order g)
 
 -- but a start
 abbrev pub noStarts : List ℕ
@@ -134,6 +159,7 @@ no-start subtract h s = refl
 no-start muted h s = refl
 no-start kept h s = refl
 no-start tone h s = refl
+no-start letter h s = refl
 no-start start h s = absurd (miss noStarts 24 tt h)
 no-start order h s = refl
 no-start (outside o) h s = o .start s

@@ -1,17 +1,17 @@
 -- Laws of the lists that the items from one place to another of a slice give, item by item. Assumes nothing.
 use mathlib.Core.Path.{_≡_, refl, sym, _∙_, ap}
 use mathlib.Core.List.{List, [], _∷_, _++_}
-use mathlib.Core.Option.{Option, none}
+use mathlib.Core.Option.{Option, some, none}
 use Prim.Native.Nat.{ℕ, _+_, _≤_, _<_}
 use Rattle.grammar.specs.declared.Item.{Item}
 use Rattle.grammar.specs.Items.{itemAt}
 use Rattle.names.specs.Parts.{part}
 use Rattle.values.specs.Values.{Term}
-use Rattle.program.specs.Program.{Order, Grouped, termThen, termsOf, systemPositionThen, systemPositionsOf, groupThen, grouped, orderThen, ordersOf, startThen, startOf}
+use Rattle.program.specs.Program.{Order, Grouped, Ordered, termThen, termsOf, systemPositionThen, systemPositionsOf, groupThen, grouped, triggeredBy, orderThen, ordered, ordersOf, startThen, startOf}
 use Rattle.valuation.specs.Inner.{itemsBetween}
-use Rattle.filling.specs.Inner.{positionBy}
+use Rattle.filling.specs.Inner.{positionBy, orderBy}
 use Rattle.valuation.proofs.Between.{between-none, between-here}
-use Rattle.filling.proofs.Inside.{Inside, add, subtract, muted, kept, tone, start, order, outside, inside}
+use Rattle.filling.proofs.Inside.{Inside, add, subtract, muted, kept, tone, letter, start, order, outside, inside}
 
 -- ---- what the first item gives, and what those after it give
 
@@ -21,6 +21,7 @@ term-first subtract ts = refl
 term-first muted ts = refl
 term-first kept ts = refl
 term-first tone ts = refl
+term-first letter ts = refl
 term-first start ts = refl
 term-first order ts = refl
 term-first (outside o) ts = o .term ts ∙ ap (λ (us : List Term). us ++ ts) (sym (o .term []))
@@ -31,19 +32,27 @@ place-first subtract l = refl
 place-first muted l = refl
 place-first kept l = refl
 place-first tone l = refl
+place-first letter l = refl
 place-first start l = refl
 place-first order l = refl
 place-first (outside o) l = o .place l ∙ ap (λ (m : List (Option ℕ)). m ++ l) (sym (o .place []))
 
-order-first : {i : Item} → Inside i → (l : List Order) → orderThen (part i) l ≡ orderThen (part i) [] ++ l
-order-first add l = refl
-order-first subtract l = refl
-order-first muted l = refl
-order-first kept l = refl
-order-first tone l = refl
-order-first start l = refl
-order-first order l = refl
-order-first (outside o) l = o .order l ∙ ap (λ (m : List Order). m ++ l) (sym (o .order []))
+letter-first : (c : ℕ) (called : Option ℕ) (l : List Order) → triggeredBy c called l .orders ≡ triggeredBy c called [] .orders ++ l
+letter-first c none l = refl
+letter-first c (some n) l = refl
+
+order-first : {i : Item} → Inside i → (g : Ordered) → orderThen (part i) g .orders ≡ orderBy (part i) (g .call) ++ g .orders
+order-first add g = refl
+order-first subtract g = refl
+order-first muted g = refl
+order-first kept g = refl
+order-first tone g = refl
+order-first (letter {c}) g = letter-first c (g .call) (g .orders)
+order-first start g = refl
+order-first order g = refl
+order-first (outside o) g =
+    ap (λ (h : Ordered). h .orders) (o .order g)
+    ∙ ap (λ (h : Ordered). h .orders ++ g .orders) (sym (o .order (record { call = g .call; orders = [] })))
 
 position-first : {i : Item} → Inside i → (g : Grouped) → groupThen (part i) g .positions ≡ positionBy (part i) (g .before) ++ g .positions
 position-first add g = refl
@@ -51,6 +60,7 @@ position-first subtract g = refl
 position-first muted g = refl
 position-first kept g = refl
 position-first tone g = refl
+position-first letter g = refl
 position-first start g = refl
 position-first order g = refl
 position-first (outside o) g =
@@ -72,9 +82,9 @@ module _ (l : List ℕ) (i to : ℕ) where
     unfolding systemPositionsOf
     places-end = ap systemPositionsOf (between-none l i to k)
 
-    pub orders-end : ordersOf (itemsBetween l i to) ≡ []
-    unfolding ordersOf
-    orders-end = ap ordersOf (between-none l i to k)
+    pub ordered-end : ordered (itemsBetween l i to) ≡ record { call = none; orders = [] }
+    unfolding ordered
+    ordered-end = ap ordered (between-none l i to k)
 
     pub groups-end : grouped (itemsBetween l i to) ≡ record { before = []; positions = [] }
     unfolding grouped
@@ -96,9 +106,13 @@ module _ (l : List ℕ) (i to : ℕ) where
     unfolding systemPositionsOf
     places-next = ap systemPositionsOf item-next ∙ place-first (inside x) (systemPositionsOf (itemsBetween l (i + 1) to))
 
-    pub orders-next : ordersOf (itemsBetween l i to) ≡ orderThen (part x) [] ++ ordersOf (itemsBetween l (i + 1) to)
-    unfolding ordersOf
-    orders-next = ap ordersOf item-next ∙ order-first (inside x) (ordersOf (itemsBetween l (i + 1) to))
+    pub ordered-next : ordered (itemsBetween l i to) ≡ orderThen (part x) (ordered (itemsBetween l (i + 1) to))
+    unfolding ordered
+    ordered-next = ap ordered item-next
+
+    pub orders-next : ordersOf (itemsBetween l i to)
+        ≡ orderBy (part x) (ordered (itemsBetween l (i + 1) to) .call) ++ ordersOf (itemsBetween l (i + 1) to)
+    orders-next = ap (λ (g : Ordered). g .orders) ordered-next ∙ order-first (inside x) (ordered (itemsBetween l (i + 1) to))
 
     pub groups-next : grouped (itemsBetween l i to) ≡ groupThen (part x) (grouped (itemsBetween l (i + 1) to))
     unfolding grouped

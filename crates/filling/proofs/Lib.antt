@@ -7,6 +7,7 @@ pub mod Forms
 pub mod Groups
 pub mod Inside
 pub mod Items
+pub mod Orders
 pub mod Terms
 pub mod Totals
 pub mod Writing

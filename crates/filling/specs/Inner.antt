@@ -21,7 +21,7 @@ use Rattle.tables.specs.declared.Counts.{Counts}
 use Rattle.tables.specs.declared.Row.{Row}
 use Rattle.tables.specs.declared.Row.the-variants as row
 use Rattle.tables.specs.Layout.{Tables, mostRows, rowWidth, mostTones, mostChanges, mostOrders, countsSize, numbersOf, written, amountNumber, soundingOf, pitchOf, changeCode, changeNumber}
-use Rattle.program.specs.Program.{Declaration, ratio, root, sequence, frequency, from, system, anchor, width, freshPeriod, onwardPeriod, tones, logic, Program, Position, mute, kept, named, Order, groupThen, grouped}
+use Rattle.program.specs.Program.{Declaration, ratio, root, sequence, frequency, from, system, anchor, width, freshPeriod, onwardPeriod, tones, logic, Program, Position, mute, kept, named, Order, groupThen, grouped, orderThen, ordered}
 use Rattle.program.specs.Meaning.{valueOf}
 use Rattle.program.specs.Allowed.{Each}
 use Rattle.valuation.specs.Inner.{itemsBetween}
@@ -29,6 +29,8 @@ use Rattle.filling.specs.declared.lists.ToneHere.{ToneHere}
 use Rattle.filling.specs.declared.lists.ToneHere.the-variants as toneHere
 use Rattle.filling.specs.declared.lists.ChangeHere.{ChangeHere}
 use Rattle.filling.specs.declared.lists.ChangeHere.the-variants as changeHere
+use Rattle.filling.specs.declared.lists.OrderHere.{OrderHere}
+use Rattle.filling.specs.declared.lists.OrderHere.the-variants as orderHere
 use Rattle.filling.specs.Tables.{tonesOf, changesOf, ordersOf, startCode, rowOf}
 
 -- a slice has the value of each declaration
@@ -66,7 +68,14 @@ begins q = ltb 0 (length (positionBy q []))
 abbrev pub positionAt : List ℕ → ℕ → ℕ → List Position
 positionAt items i to = positionBy (part (itemAt items i)) (grouped (itemsBetween items (i + 1) to) .before)
 
--- what an item gives to the tones, or a position to the changes
+-- the order that begins with a part and calls this, if one does
+abbrev pub orderBy : Part → Option ℕ → List Order
+orderBy q called = orderThen q (record { call = called; orders = [] }) .orders
+
+abbrev pub orderAt : List ℕ → ℕ → ℕ → List Order
+orderAt items i to = orderBy (part (itemAt items i)) (ordered (itemsBetween items (i + 1) to) .call)
+
+-- what an item gives to the tones, a position to the changes, or a trigger with its call to the orders
 abbrev pub tonesHere : ToneHere → List Tone
 tonesHere toneHere.Nothing = []
 tonesHere (toneHere.Tone t) = t ∷ []
@@ -74,6 +83,10 @@ tonesHere (toneHere.Tone t) = t ∷ []
 abbrev pub changesHere : ChangeHere → List ToneChange
 changesHere changeHere.Nothing = []
 changesHere (changeHere.Change x) = x ∷ []
+
+abbrev pub ordersHere : OrderHere → List Order
+ordersHere orderHere.Nothing = []
+ordersHere (orderHere.Order c n) = record { letter = c; calls = n } ∷ []
 
 -- an order's letter and what it calls
 abbrev pub letterOf : Order → ℕ

@@ -17,7 +17,7 @@ ghost use Rattle.program.specs.Program.{systemPositionThen, systemPositionsOf, 
 ghost use Rattle.program.specs.Allowed.{Each};
 ghost use Rattle.valuation.specs.Inner.{itemsBetween};
 ghost use Rattle.filling.specs.Tables.{sumOf, toneOf, changeOf};
-ghost use Rattle.filling.specs.Inner.{valueIn, begins, positionAt, letterOf, callOf, calledBy, tonesHere, changesHere, Summable, FitSystemPosition, FitPosition, FitOrder, Appended};
+ghost use Rattle.filling.specs.Inner.{valueIn, begins, positionAt, orderAt, letterOf, callOf, calledBy, tonesHere, changesHere, ordersHere, Summable, FitSystemPosition, FitPosition, FitOrder, Appended};
 
 // A tone of a tone system, where an item is one of its positions.
 enum ToneHere {
@@ -29,6 +29,12 @@ enum ToneHere {
 enum ChangeHere {
     Nothing,
     Change(ToneChange),
+}
+
+// An order of a logic, where one begins: its trigger, and what it calls.
+enum OrderHere {
+    Nothing,
+    Order(u32, u32),
 }
 
 fn read_tone(item: Item, values: &[i64]) -> ToneHere
@@ -145,6 +151,23 @@ pub fn write_changes(
     count
 }
 
+// An order begins with its trigger; what it calls stands right after.
+fn read_order(items: &[u32], i: usize, to: usize) -> OrderHere
+    requires { ⌜ i < to ⌝ }
+    ensures { λ r. ⌜ ordersHere r ≡ orderAt (now (items .entry)) i to ⌝ }
+{
+    let Item::Letter(letter) = items::item_at(items, i) else {
+        return OrderHere::Nothing;
+    };
+    if to <= i + 1 {
+        return OrderHere::Nothing;
+    }
+    let Item::Order(called) = items::item_at(items, i + 1) else {
+        return OrderHere::Nothing;
+    };
+    OrderHere::Order(letter, called)
+}
+
 // Writes the orders of a logic. Answers how many orders there are then.
 pub fn write_orders(items: &[u32], from: usize, to: usize, orders: &mut [u16], at: usize) -> usize
     requires { ⌜ Each FitOrder (ordersOf (itemsBetween (now items) from to)) ⌝ }
@@ -153,7 +176,7 @@ pub fn write_orders(items: &[u32], from: usize, to: usize, orders: &mut [u16], a
 {
     let mut count = at;
     for i in from..to {
-        let Item::Order(letter, called) = items::item_at(items, i) else {
+        let OrderHere::Order(letter, called) = read_order(items, i, to) else {
             continue;
         };
         encode::store_order(orders, count, letter as u8, called as u16);

@@ -7,7 +7,6 @@ use Rattle.grammar.specs.declared.NumberUse.{NumberUse}
 use Rattle.grammar.specs.declared.NumberUse.the-variants.{RatioFirst, RatioSecond, Degree, Radicand, FirstFactor, Factor, Frequency, AnchorKey, AnchorTo, AnchorUp, AnchorDown, WidthTo, WidthUp, WidthDown, WidthTimes, WidthOver}
 use Rattle.grammar.specs.declared.NameUse.the-variants.{Term, Base, Position, Start, Order}
 use Rattle.grammar.specs.declared.MarkUse.the-variants.{MutedPosition, KeptPosition, KeptAnchor, KeptWidth, Period, Onward}
-use Rattle.grammar.specs.declared.LetterUse.the-variants.{LogicLetter, OrderLetter}
 use Rattle.grammar.specs.declared.Action.{Action}
 use Rattle.grammar.specs.declared.Action.the-variants.{Pass, Declare, Hold, Held, Number, Sign, Name, Mark, Letter, CountOrder}
 use Rattle.grammar.specs.Moves.{numberUseNumber, actionNumber, actionAt}
@@ -39,6 +38,7 @@ action-back Hold = refl
 action-back CountOrder = refl
 action-back (Sign false) = refl
 action-back (Sign true) = refl
+action-back Letter = refl
 action-back (Declare Interval) = refl
 action-back (Declare Tone) = refl
 action-back (Declare System) = refl
@@ -58,5 +58,3 @@ action-back (Mark KeptAnchor) = refl
 action-back (Mark KeptWidth) = refl
 action-back (Mark Period) = refl
 action-back (Mark Onward) = refl
-action-back (Letter LogicLetter) = refl
-action-back (Letter OrderLetter) = refl

@@ -46,7 +46,7 @@ item-back Period = refl
 item-back Onward = refl
 item-back (Letter c) = refl
 item-back (Start p) = refl
-item-back (Order c p) = refl
+item-back (Order p) = refl
 
 -- ---- what the functions on rows leave
 

@@ -29,7 +29,6 @@ use Rattle.grammar.specs.declared.NumberUse.{NumberUse}
 use Rattle.grammar.specs.declared.NumberUse.the-variants.{RatioFirst, RatioSecond, Degree, Radicand, FirstFactor, Factor, Frequency, AnchorKey, AnchorTo, AnchorUp, AnchorDown, WidthTo, WidthUp, WidthDown, WidthTimes, WidthOver}
 use Rattle.grammar.specs.declared.NameUse.the-variants.{Term, Base, Position, Start, Order}
 use Rattle.grammar.specs.declared.MarkUse.the-variants.{MutedPosition, KeptPosition, KeptAnchor, KeptWidth, Period, Onward}
-use Rattle.grammar.specs.declared.LetterUse.the-variants.{LogicLetter, OrderLetter}
 use Rattle.grammar.specs.declared.Action.{Action}
 use Rattle.grammar.specs.declared.Action.the-variants.{Pass, Declare, Hold, Held, Number, Sign, Name, Mark, Letter, CountOrder}
 use Rattle.grammar.specs.declared.Item.{Item}
@@ -138,8 +137,7 @@ acted-grown text s (Mark KeptAnchor) x = omega arith
 acted-grown text s (Mark KeptWidth) x = omega arith
 acted-grown text s (Mark Period) x = omega arith
 acted-grown text s (Mark Onward) x = omega arith
-acted-grown text s (Letter LogicLetter) x = omega arith
-acted-grown text s (Letter OrderLetter) x = omega arith
+acted-grown text s Letter x = omega arith
 acted-grown text s CountOrder x =
     full-grown (s .term .before) (limit AnOrder) (soFar AnOrder (s .counts)) x (Go (withCounts (oneMore AnOrder (s .counts)) s)) (omega arith)
 

@@ -52,7 +52,7 @@ cells Period = cellsOf 27 0 0
 cells Onward = cellsOf 28 0 0
 cells (Letter c) = cellsOf 29 c 0
 cells (Start p) = cellsOf 30 0 p
-cells (Order c p) = cellsOf 31 c p
+cells (Order p) = cellsOf 31 0 p
 
 abbrev pub code : Item → ℕ
 code i = cells i .code
@@ -94,7 +94,7 @@ variants v p =
     ∷ AnchorKey v ∷ MutedPosition ∷ KeptPosition ∷ TonePosition p
     ∷ AnchorKept ∷ AnchorTo v ∷ AnchorUp v ∷ AnchorDown v
     ∷ WidthKept ∷ WidthTo v ∷ WidthUp v ∷ WidthDown v ∷ WidthTimes v ∷ WidthOver v
-    ∷ Period ∷ Onward ∷ Letter v ∷ Start p ∷ Order v p ∷ []
+    ∷ Period ∷ Onward ∷ Letter v ∷ Start p ∷ Order p ∷ []
 
 -- the item of three numbers (`item-back` of proofs/Rows.antt: those of an item give the item)
 unfoldable pub itemOf : ℕ → ℕ → ℕ → Item

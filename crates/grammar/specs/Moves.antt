@@ -14,8 +14,6 @@ use Rattle.grammar.specs.declared.NameUse.{NameUse}
 use Rattle.grammar.specs.declared.NameUse.the-variants.{Term, Base, Position, Start, Order}
 use Rattle.grammar.specs.declared.MarkUse.{MarkUse}
 use Rattle.grammar.specs.declared.MarkUse.the-variants.{MutedPosition, KeptPosition, KeptAnchor, KeptWidth, Period, Onward}
-use Rattle.grammar.specs.declared.LetterUse.{LetterUse}
-use Rattle.grammar.specs.declared.LetterUse.the-variants.{LogicLetter as LetterOfLogic, OrderLetter as LetterOfOrder}
 use Rattle.grammar.specs.declared.Action.{Action}
 use Rattle.grammar.specs.declared.Action.the-variants.{Pass, Declare, Hold, Held, Number, Sign, Name, Mark, Letter, CountOrder}
 use Rattle.grammar.specs.declared.moves.Move.{Move}
@@ -139,11 +137,8 @@ nameUses = Term ∷ Base ∷ Position ∷ Start ∷ Order ∷ []
 abbrev pub markUses : List MarkUse
 markUses = MutedPosition ∷ KeptPosition ∷ KeptAnchor ∷ KeptWidth ∷ Period ∷ Onward ∷ []
 
-abbrev pub letterUses : List LetterUse
-letterUses = LetterOfLogic ∷ LetterOfOrder ∷ []
-
 abbrev pub plainActions : List Action
-plainActions = Pass ∷ Hold ∷ CountOrder ∷ Sign false ∷ Sign true ∷ []
+plainActions = Pass ∷ Hold ∷ CountOrder ∷ Sign false ∷ Sign true ∷ Letter ∷ []
 
 -- an action by its number: 16 for each class, and its place there
 unfoldable pub actionAt : ℕ → Action
@@ -155,8 +150,7 @@ actionAt n =
     (cond (eqb class 3) (Number (getD numberUses i RatioFirst))
     (cond (eqb class 4) (Name (getD nameUses i Term))
     (cond (eqb class 5) (Mark (getD markUses i MutedPosition))
-    (cond (eqb class 6) (Letter (getD letterUses i LetterOfLogic))
-    (getD plainActions i Pass))))))
+    (getD plainActions i Pass)))))
 
 -- ---- and the number of an action
 
@@ -201,10 +195,6 @@ markUseNumber KeptWidth = 3
 markUseNumber Period = 4
 markUseNumber Onward = 5
 
-abbrev pub letterUseNumber : LetterUse → ℕ
-letterUseNumber LetterOfLogic = 0
-letterUseNumber LetterOfOrder = 1
-
 abbrev pub signNumber : Bool → ℕ
 signNumber false = 3
 signNumber true = 4
@@ -214,12 +204,12 @@ actionNumber Pass = 0
 actionNumber Hold = 1
 actionNumber CountOrder = 2
 actionNumber (Sign m) = signNumber m
+actionNumber Letter = 5
 actionNumber (Declare k) = 16 + kindNumber k
 actionNumber (Held u) = 32 + numberUseNumber u
 actionNumber (Number u) = 48 + numberUseNumber u
 actionNumber (Name u) = 64 + nameUseNumber u
 actionNumber (Mark u) = 80 + markUseNumber u
-actionNumber (Letter u) = 96 + letterUseNumber u
 
 -- ---- a move: a rule's action and its next node's number, if there is a rule
 

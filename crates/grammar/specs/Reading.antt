@@ -20,8 +20,6 @@ use Rattle.grammar.specs.declared.NameUse.{NameUse}
 use Rattle.grammar.specs.declared.NameUse.the-variants.{Term, Base, Position, Start, Order}
 use Rattle.grammar.specs.declared.MarkUse.{MarkUse}
 use Rattle.grammar.specs.declared.MarkUse.the-variants.{MutedPosition, KeptPosition, KeptAnchor, KeptWidth, Period, Onward}
-use Rattle.grammar.specs.declared.LetterUse.{LetterUse}
-use Rattle.grammar.specs.declared.LetterUse.the-variants.{LogicLetter, OrderLetter}
 use Rattle.grammar.specs.declared.Action.{Action}
 use Rattle.grammar.specs.declared.Action.the-variants.{Pass, Declare, Hold, Held, Number, Sign, Name, Mark, Letter, CountOrder}
 use Rattle.grammar.specs.declared.Item.{Item}
@@ -99,19 +97,16 @@ oneMore Logic c = record { intervals = c .intervals; tones = c .tones; systems =
 oneMore AnOrder c = record { intervals = c .intervals; tones = c .tones; systems = c .systems; retunings = c .retunings; logics = c .logics; orders = c .orders + 1 }
 
 abbrev pub withFirst : FirstNumber → Progress → Progress
-withFirst n s = record { first = n; term = s .term; positions = s .positions; letter = s .letter; counts = s .counts }
+withFirst n s = record { first = n; term = s .term; positions = s .positions; counts = s .counts }
 
 abbrev pub withTerm : NextTerm → Progress → Progress
-withTerm t s = record { first = s .first; term = t; positions = s .positions; letter = s .letter; counts = s .counts }
+withTerm t s = record { first = s .first; term = t; positions = s .positions; counts = s .counts }
 
 abbrev pub withPositions : ℕ → Progress → Progress
-withPositions n s = record { first = s .first; term = s .term; positions = n; letter = s .letter; counts = s .counts }
-
-abbrev pub withLetter : ℕ → Progress → Progress
-withLetter c s = record { first = s .first; term = s .term; positions = s .positions; letter = c; counts = s .counts }
+withPositions n s = record { first = s .first; term = s .term; positions = n; counts = s .counts }
 
 abbrev pub withCounts : Counts → Progress → Progress
-withCounts c s = record { first = s .first; term = s .term; positions = s .positions; letter = s .letter; counts = c }
+withCounts c s = record { first = s .first; term = s .term; positions = s .positions; counts = c }
 
 -- an interval's first number: held from its place to the place after it, then judged
 abbrev pub heldFirst : Span → Progress → Progress
@@ -164,7 +159,7 @@ named s Term x = termed s (s .term .factor) x
 named s Base x = Give s (item.Base (x .start))
 named s Position x = positioned s (item.TonePosition (x .start)) x
 named s Start x = Give s (item.Start (x .start))
-named s Order x = Give s (item.Order (s .letter) (x .start))
+named s Order x = Give s (item.Order (x .start))
 
 abbrev pub marked : Progress → MarkUse → Span → Outcome
 marked s MutedPosition x = positioned s item.MutedPosition x
@@ -173,10 +168,6 @@ marked s KeptAnchor x = Give s item.AnchorKept
 marked s KeptWidth x = Give s item.WidthKept
 marked s Period x = Give s item.Period
 marked s Onward x = Give s item.Onward
-
-abbrev pub lettered : Progress → LetterUse → ℕ → Outcome
-lettered s LogicLetter c = Give s (item.Letter c)
-lettered s OrderLetter c = Go (withLetter c s)
 
 -- a number of which the value is allowed, at the symbol x
 abbrev pub used : Progress → NumberUse → ℕ → Span → Outcome
@@ -215,7 +206,7 @@ acted text s (Number u) x = numbered text s u (x .start) (x .end) x
 acted text s (Sign m) x = signed s m x
 acted text s (Name u) x = named s u x
 acted text s (Mark u) x = marked s u x
-acted text s (Letter u) x = lettered s u (letterAt text x)
+acted text s Letter x = Give s (item.Letter (letterAt text x))
 acted text s CountOrder x = orderCounted s x
 
 -- ---- one symbol
@@ -266,7 +257,6 @@ begun = record {
     first = record { start = 0; end = 0; value = 0 };
     term = record { minus = false; factor = 1; before = 0 };
     positions = 0;
-    letter = 0;
     counts = record { intervals = 0; tones = 0; systems = 0; retunings = 0; logics = 0; orders = 0 };
   };
 }

@@ -9,7 +9,6 @@ use Rattle.grammar.specs.declared.Action.the-variants.{Pass, Declare, Ho
 use Rattle.grammar.specs.declared.NumberUse.the-variants.{RatioFirst, RatioSecond, Degree, Radicand, FirstFactor, Factor, Frequency, AnchorKey, AnchorTo, AnchorUp, AnchorDown, WidthTo, WidthUp, WidthDown, WidthTimes, WidthOver}
 use Rattle.grammar.specs.declared.NameUse.the-variants.{Term, Base, Position, Start as CalledAtStart, Order}
 use Rattle.grammar.specs.declared.MarkUse.the-variants.{MutedPosition, KeptPosition, KeptAnchor, KeptWidth, Period, Onward}
-use Rattle.grammar.specs.declared.LetterUse.the-variants.{LogicLetter as LetterOfLogic, OrderLetter as LetterOfOrder}
 
 -- the kinds of symbols that the syntax tells apart: reserved words, a one-letter name, any other name, numbers, marks, the text's end.
 -- `unused` are the reserved words of no use here, `nothing` is a place where no symbol begins.
@@ -139,12 +138,12 @@ rules TonesPosition =
 --                         orders, if any, are each `KEY letter -> name`. A letter is a one-letter name from a to z."
 rules LogicName = onName LogicKey (Declare Logic)
 rules LogicKey = on key LogicLetter Pass ∷ []
-rules LogicLetter = on letter LogicEquals (Letter LetterOfLogic) ∷ []
+rules LogicLetter = on letter LogicEquals Letter ∷ []
 rules LogicEquals = on equals LogicStart Pass ∷ []
 rules LogicStart = on opening OrderKey Pass ∷ onName LogicOpen (Name CalledAtStart)
 rules LogicOpen = on opening OrderKey Pass ∷ []
 rules OrderKey = on key OrderLetter CountOrder ∷ on closing LogicNext Pass ∷ []
-rules OrderLetter = on letter OrderArrow (Letter LetterOfOrder) ∷ []
+rules OrderLetter = on letter OrderArrow Letter ∷ []
 rules OrderArrow = on arrow OrderName Pass ∷ []
 rules OrderName = onName OrderKey (Name Order)
 rules LogicNext = declarations Logic LogicKey

@@ -4,7 +4,6 @@ use crate::Counts;
 use crate::FirstNumber;
 use crate::Item;
 use crate::Kind;
-use crate::LetterUse;
 use crate::MarkUse;
 use crate::NameUse;
 use crate::NextTerm;
@@ -36,7 +35,7 @@ ghost use lib.Dec.{leb};
 ghost use lib.Seq.{slice};
 ghost use Rattle.status.specs.Status.{itemTooMany};
 ghost use Rattle.grammar.specs.Terminals.{letterAt};
-ghost use Rattle.grammar.specs.Reading.{allowed, judged, limit, soFar, oneMore, heldFirst, judgedFirst, noTerm, nextTerm, counted, signed, termed, positioned, named, marked, lettered, used, numbered, orderCounted, acted};
+ghost use Rattle.grammar.specs.Reading.{allowed, judged, limit, soFar, oneMore, heldFirst, judgedFirst, noTerm, nextTerm, counted, signed, termed, positioned, named, marked, used, numbered, orderCounted, acted};
 ghost use Rattle.grammar.specs.Inner.{roomForTerm};
 
 const MOST_ANCHOR_KEY: u32 = MOST_ANCHOR as u32;
@@ -188,7 +187,7 @@ fn use_name(s: Progress, purpose: NameUse, x: Span) -> Outcome
         NameUse::Base => Outcome::Give(s, Item::Base(x.start)),
         NameUse::Position => add_position(s, Item::TonePosition(x.start), x),
         NameUse::Start => Outcome::Give(s, Item::Start(x.start)),
-        NameUse::Order => Outcome::Give(s, Item::Order(s.letter, x.start)),
+        NameUse::Order => Outcome::Give(s, Item::Order(x.start)),
     }
 }
 
@@ -206,25 +205,13 @@ fn use_mark(s: Progress, purpose: MarkUse, x: Span) -> Outcome
 }
 
 // The capital of the letter that the symbol is, or 0.
-fn read_letter(text: &[u8], x: Span) -> u8
+fn read_letter(text: &[u8], x: Span) -> u32
     ensures { λ r. ⌜ r ≡ letterAt (now (text .entry)) x ⌝ }
 {
     let Letter::Capital(letter) = spelling::letter_at(text, x.start as usize, x.end as usize) else {
         return 0;
     };
-    letter
-}
-
-fn use_letter(mut s: Progress, purpose: LetterUse, letter: u32) -> Outcome
-    ensures { λ r. ⌜ r ≡ lettered s purpose letter ⌝ }
-{
-    match purpose {
-        LetterUse::LogicLetter => Outcome::Give(s, Item::Letter(letter)),
-        LetterUse::OrderLetter => {
-            s.letter = letter;
-            Outcome::Go(s)
-        }
-    }
+    letter as u32
 }
 
 // An interval's first number is judged later.
@@ -339,7 +326,7 @@ pub fn act(text: &[u8], s: Progress, action: Action, x: Span) -> Outcome
         Action::Sign(minus) => begin_term(s, minus, x),
         Action::Name(purpose) => use_name(s, purpose, x),
         Action::Mark(purpose) => use_mark(s, purpose, x),
-        Action::Letter(purpose) => use_letter(s, purpose, read_letter(text, x) as u32),
+        Action::Letter => Outcome::Give(s, Item::Letter(read_letter(text, x))),
         Action::CountOrder => count_order(s, x),
     }
 }

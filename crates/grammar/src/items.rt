@@ -52,7 +52,7 @@ fn row_of(item: Item) -> [u32; 3]
         Item::Onward => [28, 0, 0],
         Item::Letter(letter) => [29, letter, 0],
         Item::Start(name) => [30, 0, name],
-        Item::Order(letter, name) => [31, letter, name],
+        Item::Order(name) => [31, 0, name],
     }
 }
 
@@ -90,7 +90,7 @@ fn item_of(code: u32, value: u32, place: u32) -> Item
         28 => Item::Onward,
         29 => Item::Letter(value),
         30 => Item::Start(place),
-        31 => Item::Order(value, place),
+        31 => Item::Order(place),
         _ => Item::MutedPosition,
     }
 }

@@ -60,11 +60,6 @@ pub enum MarkUse {
     Onward,
 }
 
-pub enum LetterUse {
-    LogicLetter,
-    OrderLetter,
-}
-
 // What is done at a symbol.
 pub enum Action {
     Pass,
@@ -76,7 +71,7 @@ pub enum Action {
     Sign(bool),
     Name(NameUse),
     Mark(MarkUse),
-    Letter(LetterUse),
+    Letter,
     CountOrder,
 }
 
@@ -108,12 +103,12 @@ pub enum Item {
     // A period retuning: a sequence follows, or, with `@`, terms onto the old period.
     Period,
     Onward,
-    // The letter of a logic.
+    // The letter of a logic, or an order's trigger.
     Letter(u32),
     // What a logic's start calls.
     Start(u32),
-    // A letter, and the name that it calls.
-    Order(u32, u32),
+    // What an order calls; its trigger stands right before.
+    Order(u32),
 }
 
 // How many declarations and orders there are so far.
@@ -146,8 +141,6 @@ pub struct Progress {
     pub term: NextTerm,
     // How many positions the list under way has.
     pub positions: u8,
-    // The letter of the order under way.
-    pub letter: u32,
     pub counts: Counts,
 }
 

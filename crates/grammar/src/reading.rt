@@ -119,7 +119,6 @@ fn begin() -> Progress
             before: 0,
         },
         positions: 0,
-        letter: 0,
         counts: Counts {
             intervals: 0,
             tones: 0,

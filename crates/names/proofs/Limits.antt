@@ -23,7 +23,6 @@ use Rattle.grammar.specs.declared.NumberUse.{NumberUse}
 use Rattle.grammar.specs.declared.NumberUse.the-variants.{RatioFirst, RatioSecond, Degree, Radicand, FirstFactor, Factor, Frequency, AnchorKey, AnchorTo, AnchorUp, AnchorDown, WidthTo, WidthUp, WidthDown, WidthTimes, WidthOver}
 use Rattle.grammar.specs.declared.NameUse.the-variants.{Term, Base, Position, Start, Order}
 use Rattle.grammar.specs.declared.MarkUse.the-variants.{MutedPosition, KeptPosition, KeptAnchor, KeptWidth, Period, Onward}
-use Rattle.grammar.specs.declared.LetterUse.the-variants.{LogicLetter, OrderLetter}
 use Rattle.grammar.specs.declared.Action.{Action}
 use Rattle.grammar.specs.declared.Action.the-variants.{Pass, Declare, Hold, Held, Number, Sign, Name, Mark, Letter, CountOrder}
 use Rattle.grammar.specs.declared.Item.{Item}
@@ -158,7 +157,7 @@ isFit (Number u) = true
 isFit (Sign m) = true
 isFit (Name u) = true
 isFit (Mark u) = true
-isFit (Letter u) = true
+isFit Letter = true
 isFit CountOrder = true
 
 acted-counts : (text : List ℕ) (s : Progress) (a : Action) (x : Span) → T (isFit a) → Counts′ (s .counts) (x .start) (acted text s a x)
@@ -181,8 +180,7 @@ acted-counts text s (Mark KeptAnchor) x t = same
 acted-counts text s (Mark KeptWidth) x t = same
 acted-counts text s (Mark Period) x t = same
 acted-counts text s (Mark Onward) x t = same
-acted-counts text s (Letter LogicLetter) x t = same
-acted-counts text s (Letter OrderLetter) x t = same
+acted-counts text s Letter x t = same
 acted-counts text s CountOrder x t =
     full-counts (s .counts) (x .start) (limit AnOrder) (soFar AnOrder (s .counts)) x (Go (withCounts (oneMore AnOrder (s .counts)) s))
     (λ _. order-apart)

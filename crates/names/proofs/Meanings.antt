@@ -40,7 +40,7 @@ amountOf subtract a = a
 amountOf base a = 0
 amountOf position a = 0
 amountOf start a = 0
-amountOf order a = a
+amountOf order a = 0
 
 part-numbered : (u : Use) (a n : ℕ) → part (numbered u a n) ≡ uses u (amountOf u a) n
 unfolding amountOf

@@ -99,7 +99,7 @@ rebuilt item.Period = tt
 rebuilt item.Onward = tt
 rebuilt (item.Letter a) = tt
 rebuilt (item.Start a) = refl
-rebuilt (item.Order a b) = refl
+rebuilt (item.Order a) = refl
 
 pub numbered-part : (x : Item) {u : Use} {a p : ℕ} → part x ≡ uses u a p → numbered u a p ≡ x
 unfolding Rebuilt

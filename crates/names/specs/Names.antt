@@ -84,7 +84,7 @@ numbered subtract f n = item.Subtract f n
 numbered base f n = item.Base n
 numbered position f n = item.TonePosition n
 numbered start f n = item.Start n
-numbered order c n = item.Order c n
+numbered order f n = item.Order n
 
 -- what becomes of the items: each name that is used replaced by the number of its declaration, or the place of the first that is not declared
 pub data Resolved : Type 0 where

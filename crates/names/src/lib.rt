@@ -92,7 +92,7 @@ fn role_of(item: Item) -> Role
         Item::Base(place) => Role::Uses(Scope::Tones, place),
         Item::TonePosition(place) => Role::Uses(Scope::Tones, place),
         Item::Start(place) => Role::Uses(Scope::Starts, place),
-        Item::Order(_, place) => Role::Uses(Scope::Orders, place),
+        Item::Order(place) => Role::Uses(Scope::Orders, place),
         _ => Role::Nothing,
     }
 }

@@ -18,7 +18,7 @@ use Rattle.grammar.specs.declared.Outcome.the-variants.{Go, Give, Refuse}
 use Rattle.grammar.specs.Syntax.{Terminal}
 use Rattle.grammar.specs.Terminals.{terminalOf, spanOf}
 use Rattle.grammar.specs.Reading.{mostTerms, mostPositions, acted}
-use Rattle.program.specs.Allowed.{Decimal, Degree, Letter}
+use Rattle.program.specs.Allowed.{Decimal, Degree}
 use Rattle.program.proofs.Formed.{TermItems, no-term, add-term, subtract-term, PlaceItems, no-place, muted-place, tone-place, PositionItems, no-position, muted-position, kept-position, tone-position, StartItems, OrderItems, Some, Body, Formed, declaration}
 use Rattle.program.proofs.Walk.{Keeps, refuses, goes, gives}
 
@@ -63,7 +63,7 @@ pub data Stage : Type 0 where
   place places : Stage
   -- positions of a tones retuning, if any; of the one under way, a term and signed ones, or signed terms, if any
   positions toneTerm toneTerms : Stage
-  -- a logic's start, its orders, and the rest of an order after its letter
+  -- a logic's start, its orders, and, after an order's trigger, what it calls and further orders
   start orders order : Stage
 
 pub data Nothing : List Item → Type 0 where
@@ -79,6 +79,10 @@ pub data SomePlaces (n : ℕ) : List Item → Type 0 where
 -- terms of a position, at most n, and further positions, at most m
 pub data ToneTerms (n m : ℕ) : List Item → Type 0 where
   terms-then : {ts is : List Item} → TermItems n ts → PositionItems m is → ToneTerms n m (ts ++ is)
+
+-- what an order calls, and further orders
+pub data Calls : List Item → Type 0 where
+  call-then : {q : ℕ} {is : List Item} → OrderItems is → Calls (item.Order q ∷ is)
 
 pub data Starts : List Item → Type 0 where
   start-then : {ss os : List Item} → StartItems ss → OrderItems os → Starts (ss ++ os)
@@ -111,7 +115,7 @@ Comes toneTerm s is = ToneTerms (termAndLeft s) (positionsLeft s) is
 Comes toneTerms s is = ToneTerms (termsLeft s) (positionsLeft s) is
 Comes start s is = Starts is
 Comes orders s is = OrderItems is
-Comes order s is = Letter (s .letter) → OrderItems is
+Comes order s is = Calls is
 
 -- the rest of the declaration under way, and whole ones
 pub data Ahead (P : Stage) (s : Progress) : List Item → Type 0 where

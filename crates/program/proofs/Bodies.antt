@@ -72,7 +72,7 @@ place-in item.Period = refl
 place-in item.Onward = refl
 place-in (item.Letter c) = refl
 place-in (item.Start p) = refl
-place-in (item.Order c p) = refl
+place-in (item.Order p) = refl
 
 -- ---- the items up to the first declared name
 

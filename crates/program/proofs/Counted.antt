@@ -15,7 +15,6 @@ use Rattle.grammar.specs.declared.NumberUse.{NumberUse}
 use Rattle.grammar.specs.declared.NumberUse.the-variants.{RatioFirst, RatioSecond, Degree, Radicand, FirstFactor, Factor, Frequency, AnchorKey, AnchorTo, AnchorUp, AnchorDown, WidthTo, WidthUp, WidthDown, WidthTimes, WidthOver}
 use Rattle.grammar.specs.declared.NameUse.the-variants.{Term, Base, Position, Start, Order}
 use Rattle.grammar.specs.declared.MarkUse.the-variants.{MutedPosition, KeptPosition, KeptAnchor, KeptWidth, Period, Onward}
-use Rattle.grammar.specs.declared.LetterUse.the-variants.{LogicLetter, OrderLetter as LetterOfOrder}
 use Rattle.grammar.specs.declared.Action.{Action}
 use Rattle.grammar.specs.declared.Action.the-variants.{Pass, Declare, Hold, Held, Number, Sign, Name, Mark, Letter, CountOrder}
 use Rattle.grammar.specs.declared.Item.{Item}
@@ -94,7 +93,7 @@ weight (Name Position) = 1
 weight (Name Start) = 1
 weight (Name Order) = 2
 weight (Mark u) = 1
-weight (Letter u) = 1
+weight Letter = 1
 weight CountOrder = 0
 
 -- an outcome by what it counts and gives
@@ -107,7 +106,7 @@ data Counting (s : Progress) : Action → Outcome → Type 0 where
   naming : {k : Kind} {p : ℕ} {t : Progress} → soFar k (s .counts) < limit k → t .counts ≡ oneMore k (s .counts)
       → Counting s (Declare k) (Give t (item.Declared k p))
   ordering : {t : Progress} → soFar AnOrder (s .counts) < limit AnOrder → t .counts ≡ oneMore AnOrder (s .counts) → Counting s CountOrder (Go t)
-  calling : {c q : ℕ} {t : Progress} → t .counts ≡ s .counts → Counting s (Name Order) (Give t (item.Order c q))
+  calling : {q : ℕ} {t : Progress} → t .counts ≡ s .counts → Counting s (Name Order) (Give t (item.Order q))
 
 module _ (s : Progress) (x : Span) where
   -- an action of weight 1
@@ -165,8 +164,7 @@ module _ (s : Progress) (x : Span) where
   acted-counting text (Mark KeptWidth) = giving refl refl refl refl
   acted-counting text (Mark Period) = giving refl refl refl refl
   acted-counting text (Mark Onward) = giving refl refl refl refl
-  acted-counting text (Letter LogicLetter) = giving refl refl refl refl
-  acted-counting text (Letter LetterOfOrder) = passing refl refl
+  acted-counting text Letter = giving refl refl refl refl
   acted-counting text CountOrder = full CountOrder (limit AnOrder) (soFar AnOrder (s .counts)) _ (λ h. ordering h refl)
 
 -- ---- declared names
@@ -203,7 +201,7 @@ names-kept k s (giving {t = t} {i = i} w e f g) =
 names-kept k s (naming {k = m} {p = p} {t = t} h e) =
     gives t (item.Declared m p) (λ is l. one-left k m (s .counts) (namesOf k (declared is)) h (omega (arith, ap (left k) e)))
 names-kept k s (ordering {t = t} h e) = goes t (λ is l. omega (arith, ap (left k) e, less-left k AnOrder (s .counts)))
-names-kept k s (calling {c = c} {q = p} {t = t} e) = gives t (item.Order c p) (λ is l. omega (arith, ap (left k) e))
+names-kept k s (calling {q = p} {t = t} e) = gives t (item.Order p) (λ is l. omega (arith, ap (left k) e))
 
 pub few-names : (text : List ℕ) → readItems text .number ≡ done → (k : Kind) → namesOf k (declared (readItems text .items)) ≤ limit k
 unfolding declared namesOf
@@ -242,7 +240,7 @@ orders-kept q r s b (giving {t = t} {i = i} w e f g) =
 orders-kept q r s b (naming {k = m} {p = p} {t = t} h e) =
     gives t (item.Declared m p) (λ is l. omega (arith, ap (left AnOrder) e, less-left AnOrder m (s .counts)))
 orders-kept q r s b (ordering {t = t} h e) = goes t (λ is l. omega (arith, ap (left AnOrder) e))
-orders-kept q r s b (calling {c = c} {q = p} {t = t} e) = gives t (item.Order c p) (λ is l. omega (arith, ap (left AnOrder) e))
+orders-kept q r s b (calling {q = p} {t = t} e) = gives t (item.Order p) (λ is l. omega (arith, ap (left AnOrder) e))
 
 pub few-orders : (text : List ℕ) → readItems text .number ≡ done → orderItems (readItems text .items) ≤ limit AnOrder
 unfolding orderItems

@@ -13,7 +13,7 @@ use Rattle.names.specs.Parts as parts
 use Rattle.names.specs.Parts.{Part, declares, gives, uses, says, part}
 use Rattle.names.specs.Names.{Named, namedBy, declared, meant}
 use Rattle.program.specs.Program.{Declaration, sequence, system, freshPeriod, tones, logic, Program}
-use Rattle.program.specs.Program.{termThen, termsOf, systemPositionsOf, grouped, ordersOf, startOf, periodOf, declarationOf, upTo, partsOf, programThen, programOf}
+use Rattle.program.specs.Program.{termThen, termsOf, systemPositionsOf, grouped, ordered, ordersOf, startOf, periodOf, declarationOf, upTo, partsOf, programThen, programOf}
 use Rattle.program.specs.Allowed.{kindOf, Refers, Each, FitTerm, Terms, FitSystemPosition, FitPosition, FitStart, FitOrder, Fits, orderCount}
 use Rattle.program.proofs.Formed.{TermItems, no-term, add-term, subtract-term, PlaceItems, no-place, muted-place, tone-place}
 use Rattle.program.proofs.Formed.{PositionItems, no-position, muted-position, kept-position, tone-position}
@@ -34,12 +34,12 @@ Plain (uses parts.subtract f n) = Unit
 Plain (uses parts.base f n) = Unit
 Plain (uses parts.position f n) = Unit
 Plain (uses parts.start f n) = Unit
-Plain (uses parts.order c n) = ⊥
+Plain (uses parts.order f n) = ⊥
 
 pub data Inside : ℕ → List Item → Type 0 where
   no-item : Inside 0 []
   plain : {n : ℕ} {i : Item} {is : List Item} → Plain (part i) → Inside n is → Inside n (i ∷ is)
-  one-order : {n c q : ℕ} {is : List Item} → Inside n is → Inside (suc n) (item.Order c q ∷ is)
+  one-order : {n q : ℕ} {is : List Item} → Inside n is → Inside (suc n) (item.Order q ∷ is)
 
 before : {n : ℕ} {xs ys : List Item} → Inside 0 xs → Inside n ys → Inside n (xs ++ ys)
 before no-item w = w
@@ -56,7 +56,7 @@ module _ (i : Item) (xs ys : List Item) (ds : Program) (ns : List Named) (n : �
   plain-item (uses parts.base a p) h = (refl, refl, refl, refl)
   plain-item (uses parts.position a p) h = (refl, refl, refl, refl)
   plain-item (uses parts.start a p) h = (refl, refl, refl, refl)
-  plain-item (uses parts.order c p) h = absurd h
+  plain-item (uses parts.order a p) h = absurd h
 
 -- what stands behind them is read as if it stood alone
 pub record Passed (n : ℕ) (is rest : List Item) : Type 0 where
@@ -72,9 +72,9 @@ passed rest (plain {i} {is} h w) =
     let p = passed rest w in
     let l = plain-item i (partsOf (is ++ rest)) (is ++ rest) (programOf (is ++ rest)) (declared (is ++ rest)) (orderItems (is ++ rest)) (part i) h in
     record { these = l .0 ∙ ap (λ xs. i ∷ xs) (p .these); program = l .1 ∙ p .program; names = l .2 ∙ p .names; orders = l .3 ∙ p .orders }
-passed rest (one-order {c} {q} w) =
+passed rest (one-order {q} w) =
     let p = passed rest w in
-    record { these = ap (λ xs. item.Order c q ∷ xs) (p .these); program = p .program; names = p .names; orders = ap suc (p .orders) ∙ omega arith }
+    record { these = ap (λ xs. item.Order q ∷ xs) (p .these); program = p .program; names = p .names; orders = ap suc (p .orders) ∙ omega arith }
 
 terms-inside : {n : ℕ} {is : List Item} → TermItems n is → Inside 0 is
 terms-inside no-term = no-item
@@ -97,9 +97,9 @@ start-inside no-start = no-item
 start-inside a-start = plain tt no-item
 
 orders-inside : {is : List Item} → OrderItems is → Inside (length (ordersOf is)) is
-unfolding ordersOf
+unfolding ordered
 orders-inside no-order = no-item
-orders-inside (an-order c w) = one-order (orders-inside w)
+orders-inside (an-order c w) = plain tt (one-order (orders-inside w))
 
 -- ---- what is read out of the parts of a body
 
@@ -155,7 +155,7 @@ no-start-in no-order = refl
 no-start-in (an-order c w) = no-start-in w
 
 orders-after : {is : List Item} (os : List Item) → StartItems is → ordersOf (is ++ os) ≡ ordersOf os
-unfolding ordersOf
+unfolding ordered
 orders-after os no-start = refl
 orders-after os a-start = refl
 
@@ -225,9 +225,9 @@ module _ (p : Program) where
   start-fits a-start w r = r .0
 
   orders-fit : {is : List Item} → OrderItems is → AllRefer is → Each (FitOrder p) (ordersOf is)
-  unfolding ordersOf
+  unfolding ordered
   orders-fit no-order r = tt
-  orders-fit (an-order c w) r = (record { letter = c; calls = r .0 }, orders-fit w (r .1))
+  orders-fit (an-order c w) r = (record { letter = c; calls = r .1 .0 }, orders-fit w (r .1 .1))
 
   -- ---- a body declares something of its kind that fits
 

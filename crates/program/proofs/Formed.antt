@@ -41,7 +41,7 @@ pub data StartItems : List Item → Type 0 where
 
 pub data OrderItems : List Item → Type 0 where
   no-order : OrderItems []
-  an-order : {c q : ℕ} {is : List Item} → Letter c → OrderItems is → OrderItems (item.Order c q ∷ is)
+  an-order : {c q : ℕ} {is : List Item} → Letter c → OrderItems is → OrderItems (item.Letter c ∷ item.Order q ∷ is)
 
 -- something stands there
 pub data Some : List Item → Type 0 where
@@ -89,7 +89,7 @@ orderPart (uses parts.subtract f q) n = n
 orderPart (uses parts.base f q) n = n
 orderPart (uses parts.position f q) n = n
 orderPart (uses parts.start f q) n = n
-orderPart (uses parts.order c q) n = suc n
+orderPart (uses parts.order f q) n = suc n
 
 unfoldable pub orderItems : List Item → ℕ
 orderItems [] = 0

@@ -4,7 +4,6 @@ use mathlib.Core.List.{List, _∷_}
 use Prim.Native.Nat.{ℕ}
 use Rattle.grammar.specs.declared.Kind.the-variants.{Logic, Order as AnOrder}
 use Rattle.grammar.specs.declared.NameUse.the-variants.{Start, Order}
-use Rattle.grammar.specs.declared.LetterUse.the-variants.{LogicLetter, OrderLetter}
 use Rattle.grammar.specs.declared.Action.the-variants.{Pass, Name, Letter as ALetter, CountOrder}
 use Rattle.grammar.specs.declared.Item.{Item}
 use Rattle.grammar.specs.declared.Item.the-variants as item
@@ -12,21 +11,24 @@ use Rattle.grammar.specs.Syntax.{Terminal, letter}
 use Rattle.grammar.specs.Terminals.{spanOf}
 use Rattle.grammar.specs.Reading.{limit, soFar, acted}
 use Rattle.program.specs.Allowed.{Letter}
-use Rattle.program.proofs.Formed.{no-start, a-start, an-order, Body, a-logic}
+use Rattle.program.proofs.Formed.{no-start, a-start, OrderItems, an-order, Body, a-logic}
 use Rattle.program.proofs.Ranges.{letter-there}
-use Rattle.program.proofs.Ahead.{body, start, orders, order, Starts, start-then, passed, given, Move}
+use Rattle.program.proofs.Ahead.{body, start, orders, order, Calls, call-then, Starts, start-then, passed, given, Move}
 use Rattle.program.proofs.Steps.{full, passing}
 
 logic-with : {c : ℕ} {is : List Item} → Letter c → Starts is → Body Logic (item.Letter c ∷ is)
 logic-with l (start-then ss os) = a-logic l ss os
 
-pub logic-letter : Move letter (body Logic) (ALetter LogicLetter) start
+pub logic-letter : Move letter (body Logic) ALetter start
 unfolding acted
 logic-letter = record { leads = λ text s y e. given (λ f. f) (λ is f c. logic-with (letter-there text y e) c) }
 
-pub order-letter : Move letter orders (ALetter OrderLetter) order
+order-with : {c : ℕ} {is : List Item} → Letter c → Calls is → OrderItems (item.Letter c ∷ is)
+order-with l (call-then os) = an-order l os
+
+pub order-letter : Move letter orders ALetter order
 unfolding acted
-order-letter = record { leads = λ text s y e. passed (λ f. f) (λ is c. c (letter-there text y e)) }
+order-letter = record { leads = λ text s y e. given (λ f. f) (λ is f c. order-with (letter-there text y e) c) }
 
 module _ {t : Terminal} where
   pub start-name : Move t start (Name Start) orders
@@ -44,4 +46,4 @@ module _ {t : Terminal} where
 
   pub order-name : Move t order (Name Order) orders
   unfolding acted
-  order-name = record { leads = λ text s y e. given (λ f. f) (λ is f os l. an-order l os) }
+  order-name = record { leads = λ text s y e. given (λ f. f) (λ is f os. call-then os) }

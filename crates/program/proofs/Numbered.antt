@@ -95,7 +95,7 @@ module _ (number : Use → ℕ → ℕ) where
   order-counted (uses base a p) i n e = refl
   order-counted (uses position a p) i n e = refl
   order-counted (uses start a p) i n e = refl
-  order-counted (uses order c p) i n e = refl
+  order-counted (uses order a p) i n e = refl
 
   orders-counted : (is : List Item) → orderItems (withNumbers number is) ≡ orderItems is
   unfolding orderItems

@@ -35,7 +35,7 @@ unfolding Hold verdicts leadingZeros grammarSyntax.rules symbolsBytes.isBlank sy
     namesNames.meanings valuesValues.plus valuesValues.total valuesValues.shifted valuesValues.ranged valuesValues.valueAt valuesValues.anyOf valuesValues.leads
     valuesValues.isBeyond valuesValues.firstFrom valuesValues.verdict valuesValues.outcome valuesValues.number valuesValues.numbers valuesValues.handed
     valuesValues.valueTable centsLog.highestBit centsLog.bits centsLog.L centsMeasure.nearest centsMeasure.measure Program.termsOf Program.systemPositionsOf
-    Program.grouped Program.ordersOf Program.startOf Program.partsOf Program.programOf Meaning.valueOf Meaning.valued Text.readText
+    Program.grouped Program.ordered Program.startOf Program.partsOf Program.programOf Meaning.valueOf Meaning.valued Text.readText
 read = (refl, refl, (refl, (refl, (refl, (refl, (refl, (refl, (refl, (refl, (refl, (refl, (refl, (refl, (refl, tt))))))))))))))
 
 pub case-s-read : Text.readText text ≡ Text.accepted program

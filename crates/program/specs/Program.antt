@@ -72,14 +72,30 @@ Program = List Placed
 
 -- ---- the parts of a declaration, in the order of the text
 
--- a part as the lists of a declaration see it: a term, a position, a start, an order, or none of these
+-- a part as the lists of a declaration see it: a term, a position, a start, a letter, what an order calls, or none of these
 pub data AsListed : Type 0 where
   unlisted : AsListed
   a-term : Term → AsListed
   muted-position kept-position : AsListed
   tone-position : ℕ → AsListed
   a-start : ℕ → AsListed
-  an-order : Order → AsListed
+  a-letter : ℕ → AsListed
+  a-call : ℕ → AsListed
+
+abbrev pub givenListed : Given → ℕ → AsListed
+givenListed parts.letter c = a-letter c
+givenListed parts.ratio a = unlisted
+givenListed parts.root a = unlisted
+givenListed parts.frequency a = unlisted
+givenListed parts.anchorKey a = unlisted
+givenListed parts.anchorTo a = unlisted
+givenListed parts.anchorUp a = unlisted
+givenListed parts.anchorDown a = unlisted
+givenListed parts.widthTo a = unlisted
+givenListed parts.widthUp a = unlisted
+givenListed parts.widthDown a = unlisted
+givenListed parts.widthTimes a = unlisted
+givenListed parts.widthOver a = unlisted
 
 abbrev pub useListed : Use → ℕ → ℕ → AsListed
 useListed parts.add f n = a-term (record { minus = false; factor = f; of = n })
@@ -87,7 +103,7 @@ useListed parts.subtract f n = a-term (record { minus = true; factor = f; of = n
 useListed parts.base f n = unlisted
 useListed parts.position f n = tone-position n
 useListed parts.start f n = a-start n
-useListed parts.order c n = an-order (record { letter = c; calls = n })
+useListed parts.order f n = a-call n
 
 abbrev pub markListed : Said → AsListed
 markListed parts.muted = muted-position
@@ -99,7 +115,7 @@ markListed parts.onward = unlisted
 
 abbrev pub asListed : Part → AsListed
 asListed (declares k p) = unlisted
-asListed (gives g a b) = unlisted
+asListed (gives g a b) = givenListed g a
 asListed (uses u a b) = useListed u a b
 asListed (says m) = markListed m
 
@@ -111,7 +127,8 @@ withTerm muted-position ts = ts
 withTerm kept-position ts = ts
 withTerm (tone-position n) ts = ts
 withTerm (a-start n) ts = ts
-withTerm (an-order o) ts = ts
+withTerm (a-letter c) ts = ts
+withTerm (a-call n) ts = ts
 
 abbrev pub termThen : Part → List Term → List Term
 termThen p ts = withTerm (asListed p) ts
@@ -128,7 +145,8 @@ withSystemPosition unlisted l = l
 withSystemPosition (a-term t) l = l
 withSystemPosition kept-position l = l
 withSystemPosition (a-start n) l = l
-withSystemPosition (an-order o) l = l
+withSystemPosition (a-letter c) l = l
+withSystemPosition (a-call n) l = l
 
 abbrev pub systemPositionThen : Part → List (Option ℕ) → List (Option ℕ)
 systemPositionThen p l = withSystemPosition (asListed p) l
@@ -149,7 +167,8 @@ withGroup kept-position g = record { before = []; positions = kept (g .before) �
 withGroup (tone-position n) g = record { before = []; positions = named n (g .before) ∷ g .positions }
 withGroup unlisted g = g
 withGroup (a-start n) g = g
-withGroup (an-order o) g = g
+withGroup (a-letter c) g = g
+withGroup (a-call n) g = g
 
 abbrev pub groupThen : Part → Grouped → Grouped
 groupThen p g = withGroup (asListed p) g
@@ -158,21 +177,34 @@ unfoldable pub grouped : List Item → Grouped
 grouped [] = record { before = []; positions = [] }
 grouped (i ∷ is) = groupThen (part i) (grouped is)
 
-abbrev pub withOrder : AsListed → List Order → List Order
-withOrder (an-order o) l = o ∷ l
-withOrder unlisted l = l
-withOrder (a-term t) l = l
-withOrder muted-position l = l
-withOrder kept-position l = l
-withOrder (tone-position n) l = l
-withOrder (a-start n) l = l
+-- the orders of a logic, from the end: what is called waits for its trigger, which stands right before it
+pub record Ordered : Type 0 where
+  pub call : Option ℕ
+  pub orders : List Order
 
-abbrev pub orderThen : Part → List Order → List Order
-orderThen p l = withOrder (asListed p) l
+abbrev pub triggeredBy : ℕ → Option ℕ → List Order → Ordered
+triggeredBy c none l = record { call = none; orders = l }
+triggeredBy c (some n) l = record { call = none; orders = record { letter = c; calls = n } ∷ l }
 
-unfoldable pub ordersOf : List Item → List Order
-ordersOf [] = []
-ordersOf (i ∷ is) = orderThen (part i) (ordersOf is)
+abbrev pub withOrder : AsListed → Ordered → Ordered
+withOrder (a-letter c) g = triggeredBy c (g .call) (g .orders)
+withOrder (a-call n) g = record { call = some n; orders = g .orders }
+withOrder unlisted g = record { call = none; orders = g .orders }
+withOrder (a-term t) g = record { call = none; orders = g .orders }
+withOrder muted-position g = record { call = none; orders = g .orders }
+withOrder kept-position g = record { call = none; orders = g .orders }
+withOrder (tone-position n) g = record { call = none; orders = g .orders }
+withOrder (a-start n) g = record { call = none; orders = g .orders }
+
+abbrev pub orderThen : Part → Ordered → Ordered
+orderThen p g = withOrder (asListed p) g
+
+unfoldable pub ordered : List Item → Ordered
+ordered [] = record { call = none; orders = [] }
+ordered (i ∷ is) = orderThen (part i) (ordered is)
+
+abbrev pub ordersOf : List Item → List Order
+ordersOf is = ordered is .orders
 
 -- what a logic's start calls
 abbrev pub withStart : AsListed → Option ℕ → Option ℕ
@@ -182,7 +214,8 @@ withStart (a-term t) s = s
 withStart muted-position s = s
 withStart kept-position s = s
 withStart (tone-position n) s = s
-withStart (an-order o) s = s
+withStart (a-letter c) s = s
+withStart (a-call n) s = s
 
 abbrev pub startThen : Part → Option ℕ → Option ℕ
 startThen p s = withStart (asListed p) s

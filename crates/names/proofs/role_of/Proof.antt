@@ -44,7 +44,7 @@ without item.Period h = refl
 without item.Onward h = refl
 without (item.Letter a) h = refl
 without (item.Start a) h = absurd (miss nameless 24 tt h)
-without (item.Order a b) h = absurd (miss nameless 25 tt h)
+without (item.Order a) h = absurd (miss nameless 25 tt h)
 
 enum-known-item : tie.Need-enum-known-item
 enum-known-item c = search needs

@@ -45,7 +45,7 @@ without item.Period h = refl
 without item.Onward h = refl
 without (item.Letter a) h = refl
 without (item.Start a) h = refl
-without (item.Order a b) h = refl
+without (item.Order a) h = refl
 
 enum-known-item : tie.Need-enum-known-item
 enum-known-item c = search needs

@@ -1,18 +1,17 @@
 -- The invariant: what is written and what is left of the orders (`Making`). The measure is the items that are left.
 use Prim.Native.Nat.{_+_, _-_}
 use mathlib.Core.Path.{_≡_, refl, sym, _∙_, ap, subst}
-use mathlib.Core.List.{List, [], _∷_, map, map-id}
+use mathlib.Core.List.{List, [], _∷_, _++_, map, map-id}
 use native.Mathlib.Omega.{arith}
-use Rattle.names.specs.Parts.{part}
+use borrow.Author.Needs.{needs}
 use Rattle.tables.specs.Layout.{triggersIn, callsIn}
 use Rattle.tables.proofs.Columns.{columns-length}
-use Rattle.program.specs.Program.{Order, orderThen, ordersOf}
+use Rattle.program.specs.Program.{Order, Ordered, ordersOf}
+use Rattle.program.specs.Allowed.{Each}
 use Rattle.valuation.specs.Inner.{itemsBetween}
-use Rattle.filling.specs.Inner.{letterOf, callOf, FitOrder, Appended}
-use Rattle.filling.proofs.Inside.{inside, no-order}
-use Rattle.filling.proofs.Items.{orders-end, orders-next}
+use Rattle.filling.specs.Inner.{orderAt, letterOf, callOf, ordersHere, FitOrder, Appended}
+use Rattle.filling.proofs.Items.{ordered-end, orders-next}
 use Rattle.filling.proofs.Writing.{Making, making-none, making-all, making-now, making-skip, making-room, making-next, making-first-length, making-second-length}
-use borrow.Author.Needs.{needs}
 use Rattle.filling.proofs.lists.write_orders.Statement.{statement}
 use Rattle.filling.proofs.lists.write_orders.Tie as tie
 
@@ -21,8 +20,9 @@ abbrev asIs : Order → Order
 asIs x = x
 
 abbrev Inv-loop : tie.InvT-loop
-Inv-loop items from to orders₀ at count₀ i₀ orders count i = Making FitOrder asIs letterOf callOf (ordersOf (itemsBetween items from to)) at (triggersIn orders₀) (callsIn orders₀) (ordersOf (itemsBetween items i to))
-    (triggersIn orders) (callsIn orders) count
+Inv-loop items from to orders₀ at count₀ i₀ orders count i =
+    Making FitOrder asIs letterOf callOf (ordersOf (itemsBetween items from to)) at (triggersIn orders₀) (callsIn orders₀)
+    (ordersOf (itemsBetween items i to)) (triggersIn orders) (callsIn orders) count
 
 abbrev μ-loop : tie.MeasureT-loop
 μ-loop items from to orders₀ at count₀ i₀ orders count i = to - i
@@ -30,11 +30,24 @@ abbrev μ-loop : tie.MeasureT-loop
 loop-holds : tie.Need-loop-holds Inv-loop μ-loop
 loop-holds c = making-none (c .before .before .pre .0)
 
-item-at-requires : tie.Need-item-at-requires Inv-loop μ-loop
-item-at-requires c κs = search needs
+-- the order that begins with the present item, and those after it
+module _ (c : tie.In-loop Inv-loop μ-loop) where
+  abbrev present : List Order
+  present = let args = c .before .before .before .before .args in orderAt (args .items .now) (c .before .loop .i) (args .to)
+
+  next : let args = c .before .before .before .before .args in
+      ordersOf (itemsBetween (args .items .now) (c .before .loop .i) (args .to))
+      ≡ present ++ ordersOf (itemsBetween (args .items .now) (c .before .loop .i + 1) (args .to))
+  next = orders-next _ _ _ refl (c .loop-test .taken)
+
+read-order-requires : tie.Need-read-order-requires Inv-loop μ-loop
+read-order-requires c κs = c .loop-test .taken
 
 enum-known-letter : tie.Need-enum-known-letter Inv-loop μ-loop
 enum-known-letter c = search needs
+
+enum-told : tie.Need-enum-told Inv-loop μ-loop
+enum-told c = search needs
 
 add-i : tie.Need-add-i Inv-loop μ-loop
 add-i c = search needs
@@ -42,23 +55,27 @@ add-i c = search needs
 loop-less : tie.Need-loop-less Inv-loop μ-loop
 loop-less c = search needs
 
+-- what is read is what is there
+same : {xs : List Order} → {ys : List Order} → xs ≡ ys → xs ≡ map asIs ys
+same e = e ∙ sym (map-id _)
+
 loop-again : tie.Need-loop-again Inv-loop μ-loop
-loop-again c = making-skip (c .before .before .before .loop .inv) (orderThen (part (c .before .item-at .result)) []) _
-    (orders-next _ _ _ (c .before .item-at .ensures) (c .before .before .loop-test .taken))
-    (ap (map asIs) (sym (no-order (inside (c .before .item-at .result)) (c .match .keys2) [])))
+loop-again c =
+    let here = c .before .before .before in
+    making-skip (here .before .loop .inv) (present here) _ (next here) (same (ap ordersHere (sym (c .enum-told .given .1)) ∙ c .before .before .read-order .ensures))
 
--- the present order, and those after it
+-- the order that it gives
 module _ (c : tie.After-letter Inv-loop μ-loop) where
-  abbrev present : Order
-  present = record { letter = c .letter .given .0 .0; calls = c .letter .given .0 .1 .0 }
+  abbrev order : Order
+  order = record { letter = c .letter .given .0 .0; calls = c .letter .given .0 .1 .0 }
 
-  next : let args = c .before .before .before .before .before .before .before .args in
-      ordersOf (itemsBetween (args .items .now) (c .before .before .before .before .loop .i) (args .to))
-      ≡ present ∷ ordersOf (itemsBetween (args .items .now) (c .before .before .before .before .loop .i + 1) (args .to))
-  next = orders-next _ _ _ (sym (c .letter .given .1) ∙ c .before .before .item-at .ensures) (c .before .before .before .loop-test .taken)
+  given : order ∷ [] ≡ present (c .before .before .before)
+  given = ap ordersHere (sym (c .letter .given .1)) ∙ c .before .before .read-order .ensures
 
-  fit : FitOrder present
-  fit = making-now (c .before .before .before .before .loop .inv) (present ∷ []) _ next .0
+  fit : FitOrder order
+  fit =
+      let here = c .before .before .before in
+      (subst (Each FitOrder) (sym given) (making-now (here .before .loop .inv) (present here) _ (next here))) .0
 
 cast-store-order : tie.Need-cast-store-order Inv-loop μ-loop
 cast-store-order c = record { fits = fit (c .before .before) .letter }
@@ -70,8 +87,10 @@ store-order-requires : tie.Need-store-order-requires Inv-loop μ-loop
 store-order-requires c κs = search needs
 
 add-count : tie.Need-add-count Inv-loop μ-loop
-add-count c = let told = (c .before .before .before .before .before) in
-    let room = making-room (c .before .before .before .before .before .before .before .before .before .loop .inv) (present told ∷ []) _ (next told) refl (c .before .before .before .before .before .before .before .before .before .before .before .before .pre .1) in
+add-count c =
+    let told = c .before .before .before .before .before in
+    let here = told .before .before .before in
+    let room = making-room (here .before .loop .inv) (present here) _ (next here) (same (given told)) (here .before .before .before .before .pre .1) in
     omega (arith, room)
 
 add-i-2 : tie.Need-add-i-2 Inv-loop μ-loop
@@ -81,8 +100,11 @@ loop-less-2 : tie.Need-loop-less-2 Inv-loop μ-loop
 loop-less-2 c = search needs
 
 loop-again-2 : tie.Need-loop-again-2 Inv-loop μ-loop
-loop-again-2 c = let told = (c .before .before .before .before .before) in
-    making-next (c .before .before .before .before .before .before .before .before .before .loop .inv) (present told ∷ []) _ (next told) refl (c .before .before .store-order .ensures .0) (c .before .before .store-order .ensures .1)
+loop-again-2 c =
+    let told = c .before .before .before .before .before in
+    let here = told .before .before .before in
+    let stored = c .before .before .store-order .ensures in
+    making-next (here .before .loop .inv) (present here) _ (next here) (same (given told)) (stored .0) (stored .1)
 
 same-length : tie.Need-same-length Inv-loop μ-loop
 same-length c = let inv = c .before .loop .inv in
@@ -93,7 +115,7 @@ returns c = let os = c .before .before .before .before .args .orders .now in
     subst
     (λ (l : List Order). Appended letterOf callOf l (c .before .before .before .before .args .at) (triggersIn os) (callsIn os) (c .before .loop .count) (triggersIn (c .before .loop .orders)) (callsIn (c .before .loop .orders)))
     (map-id _)
-    (making-all (c .before .loop .inv) (orders-end _ _ _ (c .loop-test .left)))
+    (making-all (c .before .loop .inv) (ap (λ (g : Ordered). g .orders) (ordered-end _ _ _ (c .loop-test .left))))
 
 pub write-orders-spec : {M : Type 1} → statement M
 write-orders-spec =
@@ -102,8 +124,9 @@ write-orders-spec =
     Inv-loop
     μ-loop
     loop-holds
-    item-at-requires
+    read-order-requires
     enum-known-letter
+    enum-told
     add-i
     loop-less
     loop-again

@@ -49,20 +49,14 @@ enum-known-action-6 c = search needs
 use-mark-requires : tie.Need-use-mark-requires
 use-mark-requires c κs = search needs
 
-enum-known-action-7 : tie.Need-enum-known-action-7
-enum-known-action-7 c = search needs
+enum-told-3 : tie.Need-enum-told-3
+enum-told-3 c = search needs
 
 read-letter-requires : tie.Need-read-letter-requires
 read-letter-requires c κs = search needs
 
-cast-use-letter : tie.Need-cast-use-letter
-cast-use-letter c = search needs
-
-use-letter-requires : tie.Need-use-letter-requires
-use-letter-requires c κs = search needs
-
-enum-told-3 : tie.Need-enum-told-3
-enum-told-3 c = search needs
+enum-told-4 : tie.Need-enum-told-4
+enum-told-4 c = search needs
 
 count-order-requires : tie.Need-count-order-requires
 count-order-requires c κs = search needs
@@ -132,9 +126,8 @@ returns-9 : tie.Need-returns-9
 unfolding acted
 returns-9 c =
     simp (
-      ← c .use-letter .ensures,
-      ← c .before .read-letter .ensures,
-      c .before .before .before .action7 .given .1,
+      ← c .read-letter .ensures,
+      c .before .enum-told3 .given .1,
     )
 
 returns-10 : tie.Need-returns-10
@@ -142,7 +135,7 @@ unfolding acted
 returns-10 c =
     simp (
       ← c .count-order .ensures,
-      c .before .enum-told3 .given .1,
+      c .before .enum-told4 .given .1,
     )
 
 pub act-spec : {M : Type 1} → statement M
@@ -164,11 +157,9 @@ act-spec =
     use-name-requires
     enum-known-action-6
     use-mark-requires
-    enum-known-action-7
-    read-letter-requires
-    cast-use-letter
-    use-letter-requires
     enum-told-3
+    read-letter-requires
+    enum-told-4
     count-order-requires
     returns
     returns-2

@@ -25,6 +25,9 @@ returns c =
       ← c .before .before .letter-at .ensures,
     )
 
+cast-result : tie.Need-cast-result
+cast-result c = search needs
+
 returns-2 : tie.Need-returns-2
 returns-2 c =
     simp (
@@ -42,4 +45,5 @@ read-letter-spec =
     enum-known-letter
     enum-told
     returns
+    cast-result
     returns-2)

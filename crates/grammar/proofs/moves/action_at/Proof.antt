@@ -20,9 +20,6 @@ name-use-at-requires c κs = search needs
 mark-use-at-requires : tie.Need-mark-use-at-requires
 mark-use-at-requires c κs = search needs
 
-letter-use-at-requires : tie.Need-letter-use-at-requires
-letter-use-at-requires c κs = search needs
-
 plain-action-at-requires : tie.Need-plain-action-at-requires
 plain-action-at-requires c κs = search needs
 
@@ -70,16 +67,7 @@ returns-6 : tie.Need-returns-6
 unfolding actionAt
 returns-6 c =
     simp (
-      ← c .letter-use-at .ensures,
-      c .before .match .keys6,
-    )
-
-returns-7 : tie.Need-returns-7
-unfolding actionAt
-returns-7 c =
-    simp (
       ← c .plain-action-at .ensures,
-      ne-eqb _ _ (c .before .match .rest .0 .0 .0 .0 .0 .1),
       ne-eqb _ _ (c .before .match .rest .0 .0 .0 .0 .1),
       ne-eqb _ _ (c .before .match .rest .0 .0 .0 .1),
       ne-eqb _ _ (c .before .match .rest .0 .0 .1),
@@ -96,12 +84,10 @@ action-at-spec =
     number-use-at-requires-2
     name-use-at-requires
     mark-use-at-requires
-    letter-use-at-requires
     plain-action-at-requires
     returns
     returns-2
     returns-3
     returns-4
     returns-5
-    returns-6
-    returns-7)
+    returns-6)

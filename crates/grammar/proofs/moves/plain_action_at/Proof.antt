@@ -19,7 +19,10 @@ returns-4 : tie.Need-returns-4
 returns-4 c = search needs
 
 returns-5 : tie.Need-returns-5
-returns-5 c = rest _ (drop 1 plainActions) (c .before .args .index) (c .match .rest)
+returns-5 c = search needs
+
+returns-6 : tie.Need-returns-6
+returns-6 c = rest _ (drop 1 plainActions) (c .before .args .index) (c .match .rest)
 
 pub plain-action-at-spec : {M : Type 1} → statement M
-plain-action-at-spec = tie.close (tie.spec returns returns-2 returns-3 returns-4 returns-5)
+plain-action-at-spec = tie.close (tie.spec returns returns-2 returns-3 returns-4 returns-5 returns-6)
