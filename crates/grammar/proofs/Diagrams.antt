@@ -98,11 +98,11 @@ end-at-finish n t {r} e f = go (sameTerminal (r .symbol) end) refl
 
 -- ---- where there is no move
 
-pub past-nodes : (k t : ℕ) → 67 ≤ k → Missing ≡ moveOf k t
+pub past-nodes : (k t : ℕ) → nodeCount ≤ k → Missing ≡ moveOf k t
 unfolding moveOf picked rules
 past-nodes k t h = ap (λ (q : Node). moveBy (picked (rules q) (terminalAt t))) (sym (List·getD-eq-default nodes Finish h))
 
-pub past-terminals : (k t : ℕ) → 26 ≤ t → Missing ≡ moveOf k t
+pub past-terminals : (k t : ℕ) → terminalCount ≤ t → Missing ≡ moveOf k t
 unfolding moveOf
 past-terminals k t h =
     ap moveBy (sym (none-at-nothing (nodeAt k))) ∙ ap (λ (u : Terminal). moveBy (picked (rules (nodeAt k)) u)) (sym (List·getD-eq-default terminals nothing h))
@@ -139,7 +139,7 @@ module _ {next acts : List ℕ} (m : Moves next acts) where
     unfolding actionTable
     act-at = ap (λ (l : List ℕ). getD l i 0) (m .actions) ∙ at actionEntry (nodeCount * terminalCount) i h
 
-module _ (k t i : ℕ) (row : i / 26 ≡ k) (column : i % 26 ≡ t) {n : ℕ} (next : n ≡ nextEntry i) where
+module _ (k t i : ℕ) (row : i / terminalCount ≡ k) (column : i % terminalCount ≡ t) {n : ℕ} (next : n ≡ nextEntry i) where
   pub no-move : n ≡ 0 → Missing ≡ moveOf k t
   unfolding moveOf
   no-move z = go (picked (rules (nodeAt k)) (terminalAt t)) refl (next ∙ rw (row, column))

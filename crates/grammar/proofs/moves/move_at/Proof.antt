@@ -3,7 +3,7 @@
 use mathlib.Core.Path.{_∙_, ap}
 use Prim.Native.Nat.{_+_, _*_}
 use native.Mathlib.Omega.{arith}
-use Rattle.grammar.specs.Moves.{actionAt}
+use Rattle.grammar.specs.Moves.{actionAt, terminalCount}
 use Rattle.grammar.proofs.Diagrams.{past-nodes, past-terminals, next-size, acts-size, next-at, act-at, no-move, moved}
 use borrow.Author.Needs.{needs}
 use Rattle.grammar.proofs.moves.move_at.Statement.{statement}
@@ -31,7 +31,8 @@ returns-3 : tie.Need-returns-3
 returns-3 c =
     let k = c .before .before .before .before .before .before .args .node in
     let t = c .before .before .before .before .before .before .args .terminal in
-    no-move k t (k * 26 + t) (omega arith) (omega arith) (next-at (c .before .before .before .before .before .before .pre) (k * 26 + t) (omega arith)) (c .if3 .taken)
+    let i = k * terminalCount + t in
+    no-move k t i (omega arith) (omega arith) (next-at (c .before .before .before .before .before .before .pre) i (omega arith)) (c .if3 .taken)
 
 shared-slice-read-action-at : tie.Need-shared-slice-read-action-at
 shared-slice-read-action-at c = omega (arith, acts-size (c .before .before .before .before .before .before .before .pre))
@@ -43,8 +44,9 @@ returns-4 : tie.Need-returns-4
 returns-4 c =
     let k = c .before .before .before .before .before .before .before .before .args .node in
     let t = c .before .before .before .before .before .before .before .before .args .terminal in
-    moved k t (k * 26 + t) (omega arith) (omega arith) (next-at (c .before .before .before .before .before .before .before .before .pre) (k * 26 + t) (omega arith)) (c .before .before .if3 .left)
-    (c .action-at .ensures ∙ ap actionAt (act-at (c .before .before .before .before .before .before .before .before .pre) (k * 26 + t) (omega arith)))
+    let i = k * terminalCount + t in
+    moved k t i (omega arith) (omega arith) (next-at (c .before .before .before .before .before .before .before .before .pre) i (omega arith)) (c .before .before .if3 .left)
+    (c .action-at .ensures ∙ ap actionAt (act-at (c .before .before .before .before .before .before .before .before .pre) i (omega arith)))
 
 pub move-at-spec : {M : Type 1} → statement M
 move-at-spec =
