@@ -5,16 +5,16 @@ use mathlib.Core.List.{List, [], _∷_, _++_, map, append-assoc}
 use mathlib.Core.Logic.{⊎-elim}
 use mathlib.Core.Option.{Option, some, none}
 use mathlib.Core.Path.{_≡_, refl, sym, _∙_, ap, subst}
-use Prim.Native.Nat.{ℕ}
+use Prim.Native.Nat.{ℕ, zero, suc}
 use native.Mathlib.Omega.{arith}
 use lib.Dec.{T, eqb, eqb→eq}
 use Rattle.status.specs.Status.{noSymbol, symbolNotAllowed}
 use Rattle.symbols.specs.declared.Symbol.{Symbol}
 use Rattle.grammar.specs.declared.Outcome.{Outcome}
 use Rattle.grammar.specs.declared.Outcome.the-variants.{Go, Give, Refuse}
-use Rattle.grammar.specs.Syntax.{Terminal, nothing, key, letter, number, equals, opening, closing, widthClose, arrow, end, Rule, rules, Node, Begin, Finish, IntervalName, IntervalEquals, IntervalBody, IntervalKind, SecondPart, RootRadicand, IntervalSign, IntervalTerm, IntervalTermName, IntervalNext, ToneName, ToneEquals, ToneBody, ToneSign, ToneTerm, ToneTermName, ToneNext, SystemName, SystemEquals, SystemAnchor, SystemOpen, SystemFirst, SystemPosition, SystemComma, SystemPeriod, SystemSign, SystemTerm, SystemTermName, RetuningName, RetuningEquals, RetuningBody, RetuningInside, RetuningNext, AnchorOperator, AnchorPlusNumber, AnchorMinusNumber, AnchorOpen, AnchorClose, WidthBody, WidthOperator, WidthPlusNumber, WidthMinusNumber, WidthTimesNumber, WidthOverNumber, WidthClose, WidthBracket, PeriodBody, PeriodSign, PeriodTerm, PeriodTermName, TonesSign, TonesTerm, TonesTermName, TonesPosition, LogicName, LogicKey, LogicLetter, LogicEquals, LogicStart, LogicOpen, OrderKey, OrderLetter, OrderArrow, OrderName, LogicNext}
+use Rattle.grammar.specs.Syntax.{Terminal, nothing, Node, Begin, Finish, Rule, rules}
 use Rattle.grammar.specs.Terminals.{isNothing, picked, terminalOf, startOf, spanOf}
-use Rattle.grammar.specs.Moves.{nodeNumber}
+use Rattle.grammar.specs.Moves.{nodeNumber, nodeCount}
 use Rattle.grammar.specs.Reading.{acted, Standing, Moved, thenAt, byRule, stepped, begun}
 use Rattle.grammar.specs.Reading as reading
 use Rattle.grammar.specs.Live.{walked, NoContinuation, reached, ThreeExactly, Refused, two, three, four, nine, LowerNumber}
@@ -23,74 +23,17 @@ use Rattle.grammar.proofs.Turns.{Grown, acted-grown}
 
 -- ---- a continuation from every node, by one test
 
+lastOf : List Rule → Option Rule
+lastOf [] = none
+lastOf (r ∷ rs) = elim (lastOf rs) [ none ↦ some r | some last ↦ some last ]
+
+-- the symbols of the last rules from a node on, as far as k of them lead
+outward : ℕ → Node → List Terminal
+outward zero n = []
+outward (suc k) n = elim (lastOf (rules n)) [ none ↦ [] | some r ↦ r .symbol ∷ outward k (r .next) ]
+
 continuation : Node → List Terminal
-continuation Begin = end ∷ []
-continuation Finish = []
-continuation IntervalName = letter ∷ equals ∷ letter ∷ end ∷ []
-continuation IntervalEquals = equals ∷ letter ∷ end ∷ []
-continuation IntervalBody = letter ∷ end ∷ []
-continuation IntervalKind = letter ∷ end ∷ []
-continuation SecondPart = number ∷ end ∷ []
-continuation RootRadicand = number ∷ end ∷ []
-continuation IntervalSign = end ∷ []
-continuation IntervalTerm = letter ∷ end ∷ []
-continuation IntervalTermName = letter ∷ end ∷ []
-continuation IntervalNext = end ∷ []
-continuation ToneName = letter ∷ equals ∷ letter ∷ end ∷ []
-continuation ToneEquals = equals ∷ letter ∷ end ∷ []
-continuation ToneBody = letter ∷ end ∷ []
-continuation ToneSign = end ∷ []
-continuation ToneTerm = letter ∷ end ∷ []
-continuation ToneTermName = letter ∷ end ∷ []
-continuation ToneNext = end ∷ []
-continuation SystemName = letter ∷ equals ∷ number ∷ opening ∷ letter ∷ closing ∷ letter ∷ end ∷ []
-continuation SystemEquals = equals ∷ number ∷ opening ∷ letter ∷ closing ∷ letter ∷ end ∷ []
-continuation SystemAnchor = number ∷ opening ∷ letter ∷ closing ∷ letter ∷ end ∷ []
-continuation SystemOpen = opening ∷ letter ∷ closing ∷ letter ∷ end ∷ []
-continuation SystemFirst = letter ∷ closing ∷ letter ∷ end ∷ []
-continuation SystemPosition = closing ∷ letter ∷ end ∷ []
-continuation SystemComma = closing ∷ letter ∷ end ∷ []
-continuation SystemPeriod = letter ∷ end ∷ []
-continuation SystemSign = end ∷ []
-continuation SystemTerm = letter ∷ end ∷ []
-continuation SystemTermName = letter ∷ end ∷ []
-continuation RetuningName = letter ∷ equals ∷ number ∷ opening ∷ closing ∷ end ∷ []
-continuation RetuningEquals = equals ∷ number ∷ opening ∷ closing ∷ end ∷ []
-continuation RetuningBody = number ∷ opening ∷ closing ∷ end ∷ []
-continuation RetuningInside = letter ∷ closing ∷ end ∷ []
-continuation RetuningNext = end ∷ []
-continuation AnchorOperator = opening ∷ closing ∷ end ∷ []
-continuation AnchorPlusNumber = number ∷ opening ∷ closing ∷ end ∷ []
-continuation AnchorMinusNumber = number ∷ opening ∷ closing ∷ end ∷ []
-continuation AnchorOpen = opening ∷ closing ∷ end ∷ []
-continuation AnchorClose = closing ∷ end ∷ []
-continuation WidthBody = number ∷ widthClose ∷ closing ∷ end ∷ []
-continuation WidthOperator = widthClose ∷ closing ∷ end ∷ []
-continuation WidthPlusNumber = number ∷ widthClose ∷ closing ∷ end ∷ []
-continuation WidthMinusNumber = number ∷ widthClose ∷ closing ∷ end ∷ []
-continuation WidthTimesNumber = number ∷ widthClose ∷ closing ∷ end ∷ []
-continuation WidthOverNumber = number ∷ widthClose ∷ closing ∷ end ∷ []
-continuation WidthClose = widthClose ∷ closing ∷ end ∷ []
-continuation WidthBracket = closing ∷ end ∷ []
-continuation PeriodBody = letter ∷ end ∷ []
-continuation PeriodSign = end ∷ []
-continuation PeriodTerm = letter ∷ end ∷ []
-continuation PeriodTermName = letter ∷ end ∷ []
-continuation TonesSign = closing ∷ end ∷ []
-continuation TonesTerm = letter ∷ closing ∷ end ∷ []
-continuation TonesTermName = letter ∷ closing ∷ end ∷ []
-continuation TonesPosition = closing ∷ end ∷ []
-continuation LogicName = letter ∷ key ∷ letter ∷ equals ∷ opening ∷ closing ∷ end ∷ []
-continuation LogicKey = key ∷ letter ∷ equals ∷ opening ∷ closing ∷ end ∷ []
-continuation LogicLetter = letter ∷ equals ∷ opening ∷ closing ∷ end ∷ []
-continuation LogicEquals = equals ∷ opening ∷ closing ∷ end ∷ []
-continuation LogicStart = opening ∷ closing ∷ end ∷ []
-continuation LogicOpen = opening ∷ closing ∷ end ∷ []
-continuation OrderKey = closing ∷ end ∷ []
-continuation OrderLetter = letter ∷ arrow ∷ letter ∷ closing ∷ end ∷ []
-continuation OrderArrow = arrow ∷ letter ∷ closing ∷ end ∷ []
-continuation OrderName = letter ∷ closing ∷ end ∷ []
-continuation LogicNext = end ∷ []
+continuation n = outward nodeCount n
 
 finishes : Option Node → Bool
 finishes none = false
@@ -105,7 +48,7 @@ finished none t = absurd t
 finished (some n) t = ap some (same-node n Finish (eqb→eq (nodeNumber n) (nodeNumber Finish) t))
 
 live : (n : Node) → (ts : List Terminal) × (walked n ts ≡ some Finish)
-unfolding continuation test finishes walked picked rules
+unfolding continuation outward lastOf test finishes walked picked rules
 live n = (continuation n, finished (walked n (continuation n)) (at-each test tt tt n))
 
 -- ---- reading stands at the node that the symbols so far lead to

@@ -62,6 +62,7 @@ term factor named = on number factor (Number Factor) ∷ onName named (Name Term
 abbrev pub signs : Node → List Rule
 signs n = on plus n (Sign false) ∷ on minus n (Sign true) ∷ []
 
+-- the rules of each node. Its last rule leads outward: along last rules a text comes to its end from every node (`live` of proofs/Live.antt).
 unfoldable pub rules : Node → List Rule
 rules Begin = blocks
 rules Finish = []
@@ -128,7 +129,7 @@ rules PeriodSign = signs PeriodTerm ++ declarations Retuning RetuningEquals
 rules PeriodTerm = term PeriodTermName PeriodSign
 rules PeriodTermName = onName PeriodSign (Name Term)
 -- "Tones: `[` positions `]`, each nothing, or `@` or a tone name, with signed terms."
-rules TonesSign = on comma TonesPosition Pass ∷ on closing RetuningNext Pass ∷ signs TonesTerm
+rules TonesSign = signs TonesTerm ++ on comma TonesPosition Pass ∷ on closing RetuningNext Pass ∷ []
 rules TonesTerm = term TonesTermName TonesSign
 rules TonesTermName = onName TonesSign (Name Term)
 rules TonesPosition =
