@@ -1,7 +1,7 @@
 -- The order that begins with an item: its trigger, and what the next item calls. Assumes nothing.
-use mathlib.Core.Path.{_≡_, refl, sym, _∙_, ap}
+use mathlib.Core.Path.{_≡_, sym, _∙_, ap}
 use mathlib.Core.List.{List, [], _∷_}
-use mathlib.Core.Option.{Option, some, none}
+use mathlib.Core.Option.{Option, none}
 use Prim.Native.Nat.{ℕ, _+_, _≤_, _<_}
 use types.Run.{OneOf}
 use Rattle.grammar.specs.declared.Item.{Item}

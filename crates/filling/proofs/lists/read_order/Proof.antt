@@ -1,5 +1,4 @@
 -- By the present item and the one after it; where they are no letter and what it calls, there is no order.
-use mathlib.Core.Path.{sym, _∙_}
 use borrow.Author.Needs.{needs}
 use Rattle.filling.proofs.Orders.{no-letter, letter-last, letter-alone, letter-and-call}
 use Rattle.filling.proofs.lists.read_order.Statement.{statement}
