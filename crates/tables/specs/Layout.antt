@@ -3,7 +3,7 @@
 use mathlib.Core.Path.{_≡_}
 use mathlib.Core.Bool.{Bool, cond, _&&_}
 use mathlib.Core.List.{List, [], _∷_, _++_}
-use Prim.Native.Nat.{ℕ, zero, suc, _+_, _-_, _*_, _/_, _%_}
+use Prim.Native.Nat.{ℕ, zero, suc, _+_, _-_, _*_, _/_, _%_, _^_}
 use lib.Dec.{eqb}
 use lib.IntN.{ℤ, pos}
 use lib.ListN.{length, getD, take, drop, replicate}
@@ -21,7 +21,7 @@ use Rattle.tuning.specs.declared.Tone.the-variants.{Muted, At}
 use Rattle.tuning.specs.declared.Retuning.{Retuning as RetuningForm}
 use Rattle.tuning.specs.declared.Retuning.the-variants.{Anchor, Width, Period, Tones}
 use Rattle.tables.specs.declared.Counts.{Counts}
-use Rattle.limits.specs.Limits.{mostSystems, mostRetunings, mostPositions, mostDeclarations}
+use Rattle.limits.specs.Limits.{mostSystems, mostRetunings, mostPositions, mostDeclarations, mostHarmonyKey}
 pub use Rattle.limits.specs.Limits.{mostOrders}
 pub use Rattle.tuning.specs.Capped.{farthestSum}
 use Rattle.tables.specs.declared.Numbers.{Numbers}
@@ -257,13 +257,14 @@ periodSum (Onward d) = d .0
 abbrev pub periodOf : ℕ → ℤ → PeriodChange
 periodOf code d = cond (eqb code freshCode) (Fresh (record { 0 = d })) (Onward (record { 0 = d }))
 
--- a harmony: the set of its unstarred key numbers and the set of all that it names, bit k for number k ("by key numbers from 0 to 59 in braces"),
--- each set as two numbers: its lower thirty bits, and the others
+-- a harmony: the set of its unstarred key numbers, and the set of all that it names ("a star before a number means that it may be held or not");
+-- bit k is for number k, so that sets of numbers 0 to 59 are below 2 to the 60
+abbrev pub allSets : ℕ
+allSets = 2 ^ (mostHarmonyKey + 1)
+
+-- a set as two numbers: its lower thirty bits, and the others
 abbrev pub halfSet : ℕ
 halfSet = 1_073_741_824
-
-abbrev pub allSets : ℕ
-allSets = halfSet * halfSet
 
 -- ---- a row as numbers, and numbers as a row
 
@@ -332,7 +333,7 @@ asLogic (Retuning r from to) = no-logic
 asLogic (Logic c s from to) = a-logic c s from to
 asLogic (Harmony needed named) = no-logic
 
--- and a harmony, with its unstarred key numbers and all that it names, or none
+-- a row as held keys see it: a harmony, with its unstarred key numbers and all that it names, or none
 pub data AsHarmony : Type 0 where
   no-harmony : AsHarmony
   a-harmony : ℕ → ℕ → AsHarmony

@@ -104,12 +104,12 @@ isStart t (suc k) = refersTo isSystemOrRetuning t k
 
 -- ---- triggers: "Its bare name is a trigger beside `KEY letter`, in logics and orders" (a harmony's: Document 02, 5/13)
 
-abbrev pub isSome : AsHarmony → Bool
-isSome no-harmony = false
-isSome (a-harmony needed named) = true
+abbrev pub someHarmony : AsHarmony → Bool
+someHarmony no-harmony = false
+someHarmony (a-harmony needed named) = true
 
 abbrev pub isHarmony : Row → Bool
-isHarmony r = isSome (asHarmony r)
+isHarmony r = someHarmony (asHarmony r)
 
 -- a letter, or 256 and the number of a harmony's declaration
 abbrev pub isTrigger : Tables → ℕ → Bool
@@ -131,7 +131,7 @@ retuningRight (Width m) from to = isWidthAmount m && noPart from to
 retuningRight (Period m) from to = isSum (periodSum m) && noPart from to
 retuningRight Tones from to = isPart 1 mostPositions from to
 
--- the numbers of a declaration are in their ranges
+-- the numbers of a declaration are in their ranges; those of a harmony: "key numbers from 0 to 59"
 unfoldable pub declarationRight : Tables → Row → Bool
 declarationRight t Unused = false
 declarationRight t (Interval d) = isTone (d .0)
