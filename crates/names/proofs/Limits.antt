@@ -10,7 +10,9 @@ use borrow.Author.Tests.{leb-true, leb-false}
 use lib.Dec.{T, leb}
 use lib.ListN.{length, length-append}
 use lib.Seq.{slice}
-use Rattle.status.specs.Status.{itemTooMany, textTooLong}
+use Rattle.limits.specs.Limits.{mostHarmonyKeys}
+use Rattle.sets.specs.Sets.{has}
+use Rattle.status.specs.Status.{symbolNotAllowed, itemTooMany, textTooLong}
 use Rattle.symbols.specs.declared.Symbol.{Symbol}
 use Rattle.symbols.specs.declared.Symbol.the-variants as symbol
 use Rattle.symbols.specs.Symbols.{nextSymbol, after, cut, symbolsFrom, symbols}
@@ -18,11 +20,11 @@ use Rattle.symbols.proofs.Progress.{Placed as StandsFrom, next-placed, after-wi
 use Rattle.numerals.specs.declared.WrittenNumber.{WrittenNumber}
 use Rattle.numerals.specs.declared.WrittenNumber.the-variants.{Outside, Value}
 use Rattle.grammar.specs.declared.Kind.{Kind}
-use Rattle.grammar.specs.declared.Kind.the-variants.{Interval, Tone, System, Retuning, Logic, Order as AnOrder}
+use Rattle.grammar.specs.declared.Kind.the-variants.{Interval, Tone, System, Retuning, Logic, Order as AnOrder, Harmony}
 use Rattle.grammar.specs.declared.NumberUse.{NumberUse}
-use Rattle.grammar.specs.declared.NumberUse.the-variants.{RatioFirst, RatioSecond, Degree, Radicand, FirstFactor, Factor, Frequency, AnchorKey, AnchorTo, AnchorUp, AnchorDown, WidthTo, WidthUp, WidthDown, WidthTimes, WidthOver}
-use Rattle.grammar.specs.declared.NameUse.the-variants.{Term, Base, Position, Start, Order}
-use Rattle.grammar.specs.declared.MarkUse.the-variants.{MutedPosition, KeptPosition, KeptAnchor, KeptWidth, Period, Onward}
+use Rattle.grammar.specs.declared.NumberUse.the-variants.{RatioFirst, RatioSecond, Degree, Radicand, FirstFactor, Factor, Frequency, AnchorKey, AnchorTo, AnchorUp, AnchorDown, WidthTo, WidthUp, WidthDown, WidthTimes, WidthOver, Key, StarredKey}
+use Rattle.grammar.specs.declared.NameUse.the-variants.{Term, Base, Position, Start, Order, Trigger, CountedTrigger}
+use Rattle.grammar.specs.declared.MarkUse.the-variants.{MutedPosition, KeptPosition, KeptAnchor, KeptWidth, Period, Onward, Star}
 use Rattle.grammar.specs.declared.Action.{Action}
 use Rattle.grammar.specs.declared.Action.the-variants.{Pass, Declare, Hold, Held, Number, Sign, Name, Mark, Letter, CountOrder}
 use Rattle.grammar.specs.declared.Item.{Item}
@@ -34,7 +36,7 @@ use Rattle.grammar.specs.declared.Outcome.{Outcome}
 use Rattle.grammar.specs.declared.Outcome.the-variants.{Go, Give, Refuse}
 use Rattle.grammar.specs.Syntax.{Terminal, Node, Rule, rules}
 use Rattle.grammar.specs.Terminals.{picked, terminalOf, startOf, spanOf}
-use Rattle.grammar.specs.Reading.{Read, limit, soFar, oneMore, mostTerms, mostPositions, nextTerm, withCounts, withPositions, noTerm, unlessFull, counted, termItem, termed, positioned, used, judged, ifAllowed, numbered, acted, Standing, Moved, thenAt, byRule, stepped, begun, with, refusedAt, readFrom, mostBytes, readItems}
+use Rattle.grammar.specs.Reading.{Read, limit, soFar, oneMore, mostTerms, mostPositions, nextTerm, withCounts, withPositions, withKeys, withKey, noTerm, unlessFull, keyCounted, keyNamed, orderCounted, counted, termItem, termed, positioned, used, judged, ifAllowed, numbered, acted, Standing, Moved, thenAt, byRule, stepped, begun, with, refusedAt, readFrom, mostBytes, readItems}
 use Rattle.grammar.specs.Reading as reading
 use Rattle.grammar.proofs.Table.{each}
 use Rattle.grammar.proofs.Diagrams.{at-each, picked-of}
@@ -45,7 +47,7 @@ use Rattle.names.specs.Inner.{InText, mostDeclarations, Declarable}
 -- ---- the counts
 
 total : Counts → ℕ
-total c = c .intervals + c .tones + c .systems + c .retunings + c .logics
+total c = c .intervals + c .tones + c .systems + c .retunings + c .logics + c .harmonies
 
 -- no count of declarations is over its limit
 record Limited (c : Counts) : Type 0 where
@@ -54,6 +56,7 @@ record Limited (c : Counts) : Type 0 where
   systems : c .systems ≤ limit System
   retunings : c .retunings ≤ limit Retuning
   logics : c .logics ≤ limit Logic
+  harmonies : c .harmonies ≤ limit Harmony
 
 -- from one count to the next, with the names ds that are declared at the place p
 record Counting (c d : Counts) (p : ℕ) (ds : List Named) : Type 0 where
@@ -72,6 +75,7 @@ isName System = true
 isName Retuning = true
 isName Logic = true
 isName AnOrder = false
+isName Harmony = true
 
 one-more : (k : Kind) (c : Counts) (p : ℕ) → T (isName k) → soFar k c < limit k → Counting c (oneMore k c) p (record { kind = k; place = p } ∷ [])
 unfolding total isName
@@ -81,6 +85,7 @@ one-more System c p t h = record { limits = λ w. omega arith; adds = omega arit
 one-more Retuning c p t h = record { limits = λ w. omega arith; adds = omega arith; places = λ q. (q, tt) }
 one-more Logic c p t h = record { limits = λ w. omega arith; adds = omega arith; places = λ q. (q, tt) }
 one-more AnOrder c p t h = absurd t
+one-more Harmony c p t h = record { limits = λ w. omega arith; adds = omega arith; places = λ q. (q, tt) }
 
 order-apart : {c : Counts} {p : ℕ} → Counting c (oneMore AnOrder c) p []
 unfolding total
@@ -108,7 +113,7 @@ module _ (s : Progress) (x : Span) where
   counted-counts : (k : Kind) → T (isName k) → Fine (counted s k (item.Declared k (x .start)) x)
   counted-counts k t =
       full-counts (s .counts) (x .start) (limit k) (soFar k (s .counts)) x
-      (Give (withCounts (oneMore k (s .counts)) (withPositions 0 (noTerm s))) (item.Declared k (x .start)))
+      (Give (withCounts (oneMore k (s .counts)) (withKeys 0 (withPositions 0 (noTerm s)))) (item.Declared k (x .start)))
       (one-more k (s .counts) (x .start) t)
 
   term-counts : (f : ℕ) → Fine (termed s f x)
@@ -117,6 +122,16 @@ module _ (s : Progress) (x : Span) where
       go : (m : Bool) → Counting (s .counts) (s .counts) (x .start) (namedBy (part (termItem m f (x .start))) [])
       go true = same
       go false = same
+
+  key-counts : (v : ℕ) (i : Item) → namedBy (part i) [] ≡ [] → Fine (keyNamed s v i x)
+  key-counts v i e = go (has (s .keys) v)
+    where
+      go : (b : Bool) → Fine (cond b (Refuse symbolNotAllowed (x .start)) (keyCounted s x (Give (withKey v s) i)))
+      go true = tt
+      go false = full-counts (s .counts) (x .start) mostHarmonyKeys (s .positions) x (Give (withKey v s) i) (λ _. rw e same)
+
+  order-counts : (o : Outcome) → Fine o → Fine (orderCounted s x o)
+  order-counts o h = full-counts (s .counts) (x .start) (limit AnOrder) (soFar AnOrder (s .counts)) x o (λ _. h)
 
   used-counts : (u : NumberUse) (v : ℕ) → Fine (used s u v x)
   used-counts RatioFirst v = same
@@ -135,6 +150,8 @@ module _ (s : Progress) (x : Span) where
   used-counts WidthDown v = same
   used-counts WidthTimes v = same
   used-counts WidthOver v = same
+  used-counts Key v = key-counts v _ refl
+  used-counts StarredKey v = key-counts v _ refl
 
   numbered-counts : (text : List ℕ) (u : NumberUse) (a b : ℕ) → Fine (numbered text s u a b x)
   numbered-counts text u a b = go (judged u (slice a b text))
@@ -174,16 +191,17 @@ acted-counts text s (Name Base) x t = same
 acted-counts text s (Name Position) x t = positioned-counts s x _ refl
 acted-counts text s (Name Start) x t = same
 acted-counts text s (Name Order) x t = same
+acted-counts text s (Name Trigger) x t = same
+acted-counts text s (Name CountedTrigger) x t = order-counts s x _ order-apart
 acted-counts text s (Mark MutedPosition) x t = positioned-counts s x _ refl
 acted-counts text s (Mark KeptPosition) x t = positioned-counts s x _ refl
 acted-counts text s (Mark KeptAnchor) x t = same
 acted-counts text s (Mark KeptWidth) x t = same
 acted-counts text s (Mark Period) x t = same
 acted-counts text s (Mark Onward) x t = same
+acted-counts text s (Mark Star) x t = full-counts (s .counts) (x .start) mostHarmonyKeys (s .positions) x (Go s) (λ _. same)
 acted-counts text s Letter x t = same
-acted-counts text s CountOrder x t =
-    full-counts (s .counts) (x .start) (limit AnOrder) (soFar AnOrder (s .counts)) x (Go (withCounts (oneMore AnOrder (s .counts)) s))
-    (λ _. order-apart)
+acted-counts text s CountOrder x t = order-counts s x _ order-apart
 
 -- ---- a step along the diagrams, whose rules declare nothing but names
 

@@ -13,7 +13,7 @@ use Rattle.symbols.specs.Bytes.{inName, small, same}
 use Rattle.symbols.specs.Names.{nameAt}
 use Rattle.symbols.proofs.Letters.{same-true, name-out, name-stop, name-on}
 use Rattle.grammar.specs.declared.Kind.{Kind}
-use Rattle.grammar.specs.declared.Kind.the-variants.{Interval, Tone, System, Retuning, Logic, Order as AnOrder}
+use Rattle.grammar.specs.declared.Kind.the-variants.{Interval, Tone, System, Retuning, Logic, Order as AnOrder, Harmony}
 use Rattle.grammar.specs.Moves.{kindNumber}
 use Rattle.names.specs.Names.{Named, noRepeat, twiceFrom}
 use Rattle.names.specs.Inner.{kindRoom, tagRoom, tagFactor, markRoom, tagFrom, tagOf, markOf, packed, unpacked, namedOf, Kept, begunWith}
@@ -53,6 +53,7 @@ kind-few System = omega arith
 kind-few Retuning = omega arith
 kind-few Logic = omega arith
 kind-few AnOrder = omega arith
+kind-few Harmony = omega arith
 
 pub mark-few : (k : Kind) (name : List ℕ) → markOf k name < markRoom
 mark-few k name = omega (arith, kind-few k, tag-few name)

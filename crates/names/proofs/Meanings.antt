@@ -10,7 +10,7 @@ use Rattle.symbols.specs.Names.{nameAt}
 use Rattle.names.specs.declared.Bearer.{Bearer}
 use Rattle.names.specs.declared.Bearer.the-variants.{Nothing, Row}
 use Rattle.grammar.specs.declared.Item.{Item}
-use Rattle.names.specs.Parts.{Part, declares, gives, uses, says, part, Use, add, subtract, base, position, start, order}
+use Rattle.names.specs.Parts.{Part, declares, gives, uses, says, part, Use, add, subtract, base, position, start, order, trigger}
 use Rattle.names.specs.Names.{Named, namedBy, declared, Repeat, noRepeat, repeatAt, twiceFrom, calledIn, meant, numbered, Resolved, all, missing, andThen, ifFound, resolvedBy, resolved, unlessMissing, unlessTwice, meanings}
 use Rattle.names.specs.Inner.{beginningBy, beginningsFrom, distinct, rewritten, unlessTwiceRewritten, leftItems}
 use Rattle.names.proofs.Searching.{OfKinds, called-found}
@@ -41,6 +41,7 @@ amountOf base a = 0
 amountOf position a = 0
 amountOf start a = 0
 amountOf order a = 0
+amountOf trigger a = 0
 
 part-numbered : (u : Use) (a n : ℕ) → part (numbered u a n) ≡ uses u (amountOf u a) n
 unfolding amountOf
@@ -50,6 +51,7 @@ part-numbered base a n = refl
 part-numbered position a n = refl
 part-numbered start a n = refl
 part-numbered order a n = refl
+part-numbered trigger a n = refl
 
 -- ---- all names are declared: js is what becomes of the items
 

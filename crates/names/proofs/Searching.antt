@@ -15,7 +15,7 @@ use Rattle.names.specs.declared.Bearer.{Bearer}
 use Rattle.names.specs.declared.Bearer.the-variants.{Nothing, Row}
 use Rattle.symbols.proofs.Letters.{same-true}
 use Rattle.grammar.specs.declared.Kind.{Kind}
-use Rattle.grammar.specs.declared.Kind.the-variants.{Interval, Tone, System, Retuning, Logic, Order as AnOrder}
+use Rattle.grammar.specs.declared.Kind.the-variants.{Interval, Tone, System, Retuning, Logic, Order as AnOrder, Harmony}
 use Rattle.grammar.specs.Moves.{kinds, kindNumber}
 use Rattle.names.specs.Names.{Named, bearerFrom, bearerOf, Repeat, noRepeat, repeatAt, twiceFrom, calledIn}
 
@@ -27,6 +27,7 @@ kind-back System = refl
 kind-back Retuning = refl
 kind-back Logic = refl
 kind-back AnOrder = refl
+kind-back Harmony = refl
 
 kind-told : (j k : Kind) → kindNumber j ≡ kindNumber k → j ≡ k
 kind-told j k e = sym (kind-back j) ∙ ap (λ n. getD kinds n AnOrder) e ∙ kind-back k

@@ -20,7 +20,7 @@ use Rattle.names.specs.declared.Role.{Role}
 use Rattle.names.specs.declared.Role.the-variants as role
 use Rattle.names.specs.declared.Scope.{Scope}
 use Rattle.names.proofs.Role as roles
-use Rattle.names.specs.Parts.{Part, declares, gives, uses, says, part, Use, add, subtract, base, position, start, order}
+use Rattle.names.specs.Parts.{Part, declares, gives, uses, says, part, Use, add, subtract, base, position, start, order, trigger}
 use Rattle.names.specs.Names.{Named, calledIn, meant, numbered, Resolved, all, missing, andThen, ifFound, resolvedBy, resolved, unlessMissing}
 use Rattle.names.specs.Inner.{scope, roleOf, kindsIn, begunWith, ifCalled, rewrittenBy, rewritten, SecondPass}
 use Rattle.names.proofs.Lists.{here, head-at, head-rest, begun-set, begun-same, begun-all, begun-at, begun-length}
@@ -34,6 +34,7 @@ kinds-meant base = refl
 kinds-meant position = refl
 kinds-meant start = refl
 kinds-meant order = refl
+kinds-meant trigger = refl
 
 -- the use of a name at the place p, in the scope s
 record Using (q : Part) (s : Scope) (p : ℕ) : Type 0 where
@@ -100,6 +101,9 @@ rebuilt item.Onward = tt
 rebuilt (item.Letter a) = tt
 rebuilt (item.Start a) = refl
 rebuilt (item.Order a) = refl
+rebuilt (item.Trigger a) = refl
+rebuilt (item.Key a) = tt
+rebuilt (item.StarredKey a) = tt
 
 pub numbered-part : (x : Item) {u : Use} {a p : ℕ} → part x ≡ uses u a p → numbered u a p ≡ x
 unfolding Rebuilt
@@ -118,6 +122,7 @@ replaced base a n p = record { code-same = refl; value-same = refl; place-new = 
 replaced position a n p = record { code-same = refl; value-same = refl; place-new = refl }
 replaced start a n p = record { code-same = refl; value-same = refl; place-new = refl }
 replaced order a n p = record { code-same = refl; value-same = refl; place-new = refl }
+replaced trigger a n p = record { code-same = refl; value-same = refl; place-new = refl }
 
 -- ---- the place of the first name that is not declared
 

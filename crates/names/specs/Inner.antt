@@ -19,8 +19,8 @@ use Rattle.names.specs.declared.Naming.{Naming}
 use Rattle.names.specs.declared.Role.{Role}
 use Rattle.names.specs.declared.Role.the-variants as role
 use Rattle.names.specs.declared.Scope.{Scope}
-use Rattle.names.specs.declared.Scope.the-variants.{Intervals, Tones, Starts, Orders}
-use Rattle.names.specs.Parts.{Part, declares, gives, uses, says, part, Use, add, subtract, base, position, start, order}
+use Rattle.names.specs.declared.Scope.the-variants.{Intervals, Tones, Starts, Orders, Harmonies}
+use Rattle.names.specs.Parts.{Part, declares, gives, uses, says, part, Use, add, subtract, base, position, start, order, trigger}
 use Rattle.names.specs.Names.{Named, declared, bearerOf, calledIn, meant, numbered, Repeat, noRepeat, repeatAt, twiceFrom, resolved, unlessMissing, meanings}
 
 -- ---- what an item does with a name
@@ -32,6 +32,7 @@ scope base = Tones
 scope position = Tones
 scope start = Starts
 scope order = Orders
+scope trigger = Harmonies
 
 abbrev pub roleOf : Part → Role
 roleOf (declares k p) = role.Declares k p
@@ -45,6 +46,7 @@ kindsIn Intervals = meant add
 kindsIn Tones = meant base
 kindsIn Starts = meant start
 kindsIn Orders = meant order
+kindsIn Harmonies = meant trigger
 
 -- ---- a declared name as one number: its place, with room below it for a mark, which is a tag of its name and its kind's number
 

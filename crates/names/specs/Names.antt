@@ -10,11 +10,11 @@ use Rattle.symbols.specs.Names.{nameAt}
 use Rattle.names.specs.declared.Bearer.{Bearer}
 use Rattle.names.specs.declared.Bearer.the-variants.{Nothing, Row}
 use Rattle.grammar.specs.declared.Kind.{Kind}
-use Rattle.grammar.specs.declared.Kind.the-variants.{Interval, Tone, System, Retuning, Logic}
+use Rattle.grammar.specs.declared.Kind.the-variants.{Interval, Tone, System, Retuning, Logic, Harmony}
 use Rattle.grammar.specs.declared.Item.{Item}
 use Rattle.grammar.specs.declared.Item.the-variants as item
 use Rattle.grammar.specs.Moves.{kindNumber}
-use Rattle.names.specs.Parts.{Part, declares, gives, uses, says, part, Use, add, subtract, base, position, start, order}
+use Rattle.names.specs.Parts.{Part, declares, gives, uses, says, part, Use, add, subtract, base, position, start, order, trigger}
 
 -- a declared name: its kind and its place
 pub record Named : Type 0 where
@@ -68,7 +68,7 @@ calledIn text ds [] name = Nothing
 calledIn text ds (k ∷ ks) name = elim (bearerOf text ds k name) [ Row n ↦ Row n | Nothing ↦ calledIn text ds ks name ]
 
 -- the kinds that a use may mean: terms use intervals, tones and positions use tones,
--- "start is a tone system or retuning name", and an order calls a logic as well
+-- "start is a tone system or retuning name", and an order calls a logic as well; document 02, 5/13, of a harmony: "Its bare name is a trigger"
 abbrev pub meant : Use → List Kind
 meant add = Interval ∷ []
 meant subtract = Interval ∷ []
@@ -76,6 +76,7 @@ meant base = Tone ∷ []
 meant position = Tone ∷ []
 meant start = Retuning ∷ System ∷ []
 meant order = Retuning ∷ System ∷ Logic ∷ []
+meant trigger = Harmony ∷ []
 
 -- an item whose name is a number of a declaration
 abbrev pub numbered : Use → ℕ → ℕ → Item
@@ -85,6 +86,7 @@ numbered base f n = item.Base n
 numbered position f n = item.TonePosition n
 numbered start f n = item.Start n
 numbered order f n = item.Order n
+numbered trigger f n = item.Trigger n
 
 -- what becomes of the items: each name that is used replaced by the number of its declaration, or the place of the first that is not declared
 pub data Resolved : Type 0 where

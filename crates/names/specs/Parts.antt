@@ -10,10 +10,11 @@ pub data Given : Type 0 where
   anchorTo anchorUp anchorDown : Given
   widthTo widthUp widthDown widthTimes widthOver : Given
   letter : Given
+  key starredKey : Given
 
 -- the uses of a name
 pub data Use : Type 0 where
-  add subtract base position start order : Use
+  add subtract base position start order trigger : Use
 
 -- what is said by a mark alone
 pub data Said : Type 0 where
@@ -40,12 +41,15 @@ part (item.WidthDown n) = gives widthDown n 0
 part (item.WidthTimes n) = gives widthTimes n 0
 part (item.WidthOver n) = gives widthOver n 0
 part (item.Letter c) = gives letter c 0
+part (item.Key v) = gives key v 0
+part (item.StarredKey v) = gives starredKey v 0
 part (item.Add f p) = uses add f p
 part (item.Subtract f p) = uses subtract f p
 part (item.Base p) = uses base 0 p
 part (item.TonePosition p) = uses position 0 p
 part (item.Start p) = uses start 0 p
 part (item.Order p) = uses order 0 p
+part (item.Trigger p) = uses trigger 0 p
 part item.MutedPosition = says muted
 part item.KeptPosition = says kept
 part item.AnchorKept = says anchorKept

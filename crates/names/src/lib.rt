@@ -53,6 +53,7 @@ enum Scope {
     Tones,
     Starts,
     Orders,
+    Harmonies,
 }
 
 // What an item does with a name, and the name's place.
@@ -79,6 +80,7 @@ fn kind_number(kind: Kind) -> u32
         Kind::Retuning => 3,
         Kind::Logic => 4,
         Kind::Order => 5,
+        Kind::Harmony => 6,
     }
 }
 
@@ -93,6 +95,7 @@ fn role_of(item: Item) -> Role
         Item::TonePosition(place) => Role::Uses(Scope::Tones, place),
         Item::Start(place) => Role::Uses(Scope::Starts, place),
         Item::Order(place) => Role::Uses(Scope::Orders, place),
+        Item::Trigger(place) => Role::Uses(Scope::Harmonies, place),
         _ => Role::Nothing,
     }
 }
@@ -205,6 +208,7 @@ fn find_meaning(
         Scope::Tones => find_declaration(text, declared, heads, links, Kind::Tone, at),
         Scope::Starts => find_start(text, declared, heads, links, at),
         Scope::Orders => find_order(text, declared, heads, links, at),
+        Scope::Harmonies => find_declaration(text, declared, heads, links, Kind::Harmony, at),
     }
 }
 

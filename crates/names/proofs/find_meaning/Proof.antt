@@ -29,6 +29,12 @@ enum-told-4 c = search needs
 find-order-requires : tie.Need-find-order-requires
 find-order-requires c κs = search needs
 
+enum-told-5 : tie.Need-enum-told-5
+enum-told-5 c = search needs
+
+find-declaration-requires-3 : tie.Need-find-declaration-requires-3
+find-declaration-requires-3 c κs = search needs
+
 returns : tie.Need-returns
 returns c = rw (c .before .enum-told .given .1) (c .find-declaration .ensures ∙ called-one _ _ _ _)
 
@@ -40,6 +46,9 @@ returns-3 c = rw (c .before .enum-told3 .given .1) (c .find-start .ensures)
 
 returns-4 : tie.Need-returns-4
 returns-4 c = rw (c .before .enum-told4 .given .1) (c .find-order .ensures)
+
+returns-5 : tie.Need-returns-5
+returns-5 c = rw (c .before .enum-told5 .given .1) (c .find-declaration3 .ensures ∙ called-one _ _ _ _)
 
 pub find-meaning-spec : {M : Type 1} → statement M
 find-meaning-spec =
@@ -53,7 +62,10 @@ find-meaning-spec =
     find-start-requires
     enum-told-4
     find-order-requires
+    enum-told-5
+    find-declaration-requires-3
     returns
     returns-2
     returns-3
-    returns-4)
+    returns-4
+    returns-5)

@@ -15,7 +15,7 @@ use Rattle.names.proofs.role_of.Statement.{statement}
 use Rattle.names.proofs.role_of.Tie as tie
 
 nameless : List ℕ
-nameless = 1 ∷ 2 ∷ 5 ∷ 7 ∷ 8 ∷ 9 ∷ 11 ∷ 12 ∷ 13 ∷ 14 ∷ 15 ∷ 16 ∷ 17 ∷ 18 ∷ 19 ∷ 20 ∷ 21 ∷ 22 ∷ 23 ∷ []
+nameless = 1 ∷ 2 ∷ 5 ∷ 7 ∷ 8 ∷ 9 ∷ 11 ∷ 12 ∷ 13 ∷ 14 ∷ 15 ∷ 16 ∷ 17 ∷ 18 ∷ 19 ∷ 20 ∷ 21 ∷ 22 ∷ 23 ∷ 27 ∷ 28 ∷ []
 
 without : (i : Item) → OneOf nameless (tagOf variants.the-type i) → Nothing ≡ roleOf (part i)
 unfolding nameless
@@ -45,6 +45,9 @@ without item.Onward h = refl
 without (item.Letter a) h = refl
 without (item.Start a) h = absurd (miss nameless 24 tt h)
 without (item.Order a) h = absurd (miss nameless 25 tt h)
+without (item.Trigger a) h = absurd (miss nameless 26 tt h)
+without (item.Key a) h = refl
+without (item.StarredKey a) h = refl
 
 enum-known-item : tie.Need-enum-known-item
 enum-known-item c = search needs
@@ -66,6 +69,9 @@ enum-known-item-6 c = search needs
 
 enum-known-item-7 : tie.Need-enum-known-item-7
 enum-known-item-7 c = search needs
+
+enum-known-item-8 : tie.Need-enum-known-item-8
+enum-known-item-8 c = search needs
 
 returns : tie.Need-returns
 returns c = rw (c .before .item .given .1)
@@ -89,8 +95,11 @@ returns-7 : tie.Need-returns-7
 returns-7 c = rw (c .before .item7 .given .1)
 
 returns-8 : tie.Need-returns-8
+returns-8 c = rw (c .before .item8 .given .1)
+
+returns-9 : tie.Need-returns-9
 unfolding nameless
-returns-8 c = without (c .before .args .item) (c .match .keys8)
+returns-9 c = without (c .before .args .item) (c .match .keys9)
 
 pub role-of-spec : {M : Type 1} → statement M
 role-of-spec =
@@ -103,6 +112,7 @@ role-of-spec =
     enum-known-item-5
     enum-known-item-6
     enum-known-item-7
+    enum-known-item-8
     returns
     returns-2
     returns-3
@@ -110,4 +120,5 @@ role-of-spec =
     returns-5
     returns-6
     returns-7
-    returns-8)
+    returns-8
+    returns-9)
