@@ -1,6 +1,6 @@
 -- What a chord and a match are.
-use mathlib.Core.Path.{_≡_, refl, sym, ap, ap₂, _∙_}
-use mathlib.Core.Bool.{Bool, true, false, cond, _&&_, _||_, or-false, or-assoc, or-comm}
+use mathlib.Core.Path.{_≡_, refl, sym, ap, _∙_}
+use mathlib.Core.Bool.{Bool, true, false, cond, _&&_, _||_, or-false}
 use mathlib.Core.List.{List, [], _∷_, List·Memᴰ}
 use mathlib.Core.List.List·Memᴰ.{List·Memᴰ·head, List·Memᴰ·tail}
 use Prim.Native.Nat.{ℕ, zero, suc, _<_}
@@ -9,7 +9,8 @@ use borrow.Author.Tests.{eqb-true, eq-eqb, ltb-true, lt-ltb}
 use lib.Dec.{eqb, ltb}
 use Rattle.limits.specs.Limits.{mostPositions}
 use Rattle.sets.specs.Sets.{has, added, implies}
-use Rattle.sets.proofs.Tests.{never, both, both-left, both-right, either-left, either-right, implies-gives, gives-implies, all-gives, gives-all, Some, any-gives, gives-any}
+use Rattle.sets.proofs.Tests.{never, both, both-left, both-right, either-left, either-right, implies-gives, gives-implies}
+use Rattle.sets.proofs.Tests.{all-gives, gives-all, Some, any-gives, gives-any}
 use Rattle.sets.proofs.Members.{has-zero, has-added, has-setOf}
 use Rattle.tuning.specs.Tuning.{positionIn}
 use Rattle.keys.specs.declared.HeldKeys.{HeldKeys}
@@ -48,7 +49,9 @@ module _ (h : HeldKeys) (anchor width r : ℕ) where
   to-some k = record {
     number = k .key;
     below = k .place .high;
-    passes = both (isDown h (k .key)) (eqb (positionIn anchor width (k .key)) r) (down-from (k .house) (k .key) (k .place) (k .held)) (eq-eqb (positionIn anchor width (k .key)) r (k .position));
+    passes =
+        both (isDown h (k .key)) (eqb (positionIn anchor width (k .key)) r) (down-from (k .house) (k .key) (k .place) (k .held))
+        (eq-eqb (positionIn anchor width (k .key)) r (k .position));
   }
 
   pub projected : r < mostPositions → Projected h anchor width r
@@ -83,7 +86,8 @@ needed-has : (y : Harmony) (ks : List HarmonyKey) (r : ℕ) → has (namingAll y
 needed-has y [] r = refl
 needed-has y (k ∷ ks) r = needed-has (naming y k) ks r ∙ go (k .starred)
   where
-    go : (t : Bool) → needs ks r || has (cond t (y .needed) (added (y .needed) (k .key))) r ≡ cond t (needs ks r) (eqb r (k .key) || needs ks r) || has (y .needed) r
+    go : (t : Bool)
+        → needs ks r || has (cond t (y .needed) (added (y .needed) (k .key))) r ≡ cond t (needs ks r) (eqb r (k .key) || needs ks r) || has (y .needed) r
     go true = refl
     go false = ap (λ (b : Bool). needs ks r || b) (has-added (y .needed) (k .key) r) ∙ swap (needs ks r) (eqb r (k .key)) (has (y .needed) r)
 
@@ -124,7 +128,8 @@ needs-gives (k ∷ ks) r e = go (k .starred) refl (eqb r (k .key)) refl e (needs
     after : Needed ks r → Needed (k ∷ ks) r
     after n = record { by = n .by; among = List·Memᴰ·tail (n .among); plain = n .plain; number = n .number }
 
-    go : (s : Bool) → k .starred ≡ s → (t : Bool) → eqb r (k .key) ≡ t → cond s (needs ks r) (t || needs ks r) ≡ true → (needs ks r ≡ true → Needed ks r) → Needed (k ∷ ks) r
+    go : (s : Bool) → k .starred ≡ s → (t : Bool) → eqb r (k .key) ≡ t
+        → cond s (needs ks r) (t || needs ks r) ≡ true → (needs ks r ≡ true → Needed ks r) → Needed (k ∷ ks) r
     go true p t o q more = after (more q)
     go false p true o q more = record { by = k; among = List·Memᴰ·head refl; plain = p; number = sym (eqb-true r (k .key) o) }
     go false p false o q more = after (more q)
@@ -159,28 +164,39 @@ module _ (ks : List HarmonyKey) (chord width : ℕ) where
   unfolding matches
   matches-gives low e =
       let all : (r : ℕ) → r < mostPositions → fits chord width y r ≡ true = all-gives mostPositions (fits chord width y) e in
-      let first : (r : ℕ) → r < mostPositions → heldNamed r && neededHeld r ≡ true = λ r l. both-left (heldNamed r && neededHeld r) (namedLow r) (all r l) in
+      let two : (r : ℕ) → r < mostPositions → heldNamed r && neededHeld r ≡ true = λ r l. both-left (heldNamed r && neededHeld r) (namedLow r) (all r l) in
+      let first : (r : ℕ) → r < mostPositions → heldNamed r ≡ true = λ r l. both-left (heldNamed r) (neededHeld r) (two r l) in
+      let second : (r : ℕ) → r < mostPositions → neededHeld r ≡ true = λ r l. both-right (heldNamed r) (neededHeld r) (two r l) in
+      let third : (r : ℕ) → r < mostPositions → namedLow r ≡ true = λ r l. both-right (heldNamed r && neededHeld r) (namedLow r) (all r l) in
       record {
         allBelowWidth = λ k m.
             ltb-true (k .key) width
-            (implies-gives (has (y .named) (k .key)) _ (both-right (heldNamed (k .key) && neededHeld (k .key)) (namedLow (k .key)) (all (k .key) (low k m))) (named ks (k .key) ∙ gives-names k ks m));
+            (implies-gives (has (y .named) (k .key)) _ (third (k .key) (low k m)) (named ks (k .key) ∙ gives-names k ks m));
         unstarredHeld = λ k m p.
-            implies-gives (has (y .needed) (k .key)) _ (both-right (heldNamed (k .key)) (neededHeld (k .key)) (first (k .key) (low k m))) (needed ks (k .key) ∙ gives-needs k ks m p);
-        nothingElseHeld = λ r l p. names-gives ks r (sym (named ks r) ∙ implies-gives (has chord r) _ (both-left (heldNamed r) (neededHeld r) (first r l)) p);
+            implies-gives (has (y .needed) (k .key)) _ (second (k .key) (low k m)) (needed ks (k .key) ∙ gives-needs k ks m p);
+        nothingElseHeld = λ r l p. names-gives ks r (sym (named ks r) ∙ implies-gives (has chord r) _ (first r l) p);
       }
 
   gives-matches : Exactly chord width ks → matches chord width y ≡ true
   unfolding matches
-  gives-matches s = gives-all mostPositions (fits chord width y) (λ r l. both (heldNamed r && neededHeld r) (namedLow r) (both (heldNamed r) (neededHeld r) (held r l) (kept r)) (low r))
+  gives-matches s =
+      gives-all mostPositions (fits chord width y)
+      (λ r l. both (heldNamed r && neededHeld r) (namedLow r) (both (heldNamed r) (neededHeld r) (held r l) (kept r)) (low r))
     where
       held : (r : ℕ) → r < mostPositions → heldNamed r ≡ true
-      held r l = gives-implies (has chord r) _ (λ e. let n = s .nothingElseHeld r l e in named ks r ∙ ap (names ks) (sym (n .number)) ∙ gives-names (n .by) ks (n .among))
+      held r l =
+          gives-implies (has chord r) _
+          (λ e. let n = s .nothingElseHeld r l e in named ks r ∙ ap (names ks) (sym (n .number)) ∙ gives-names (n .by) ks (n .among))
 
       kept : (r : ℕ) → neededHeld r ≡ true
-      kept r = gives-implies (has (y .needed) r) _ (λ e. let n = needs-gives ks r (sym (needed ks r) ∙ e) in ap (has chord) (sym (n .number)) ∙ s .unstarredHeld (n .by) (n .among) (n .plain))
+      kept r =
+          gives-implies (has (y .needed) r) _
+          (λ e. let n = needs-gives ks r (sym (needed ks r) ∙ e) in ap (has chord) (sym (n .number)) ∙ s .unstarredHeld (n .by) (n .among) (n .plain))
 
       low : (r : ℕ) → namedLow r ≡ true
-      low r = gives-implies (has (y .named) r) _ (λ e. let n = names-gives ks r (sym (named ks r) ∙ e) in lt-ltb r width (rw (← n .number) (s .allBelowWidth (n .by) (n .among))))
+      low r =
+          gives-implies (has (y .named) r) _
+          (λ e. let n = names-gives ks r (sym (named ks r) ∙ e) in lt-ltb r width (rw (← n .number) (s .allBelowWidth (n .by) (n .among))))
 
   pub matching : KeysInRange ks → Matching chord width ks
   matching low = record { from = matches-gives low; to = gives-matches }

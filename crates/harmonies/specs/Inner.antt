@@ -1,10 +1,10 @@
 -- What the contracts of private functions cite besides.
 use mathlib.Core.Path.{_≡_}
-use mathlib.Core.Bool.{Bool, cond, _&&_, _||_}
+use mathlib.Core.Bool.{Bool, _&&_, _||_}
 use Prim.Native.Nat.{ℕ, _+_, _%_, _^_, _<_}
 use lib.Dec.{eqb}
 use Rattle.limits.specs.Limits.{mostPositions}
-use Rattle.sets.specs.Sets.{has, added, any}
+use Rattle.sets.specs.Sets.{has, any}
 use Rattle.keys.specs.declared.HeldKeys.{HeldKeys}
 use Rattle.keys.specs.Keys.{wordSize}
 use Rattle.harmonies.specs.Harmonies.{isDown}

@@ -1,17 +1,16 @@
 -- Which keys are held after one has gone down or up: that one is or is not, and no other has changed.
-use mathlib.Core.Path.{_≡_, refl, sym, ap, ap₂, _∙_}
+use mathlib.Core.Path.{_≡_, refl, sym, ap, _∙_}
 use mathlib.Core.Bool.{Bool, true, false, cond}
-use Prim.Native.Nat.{ℕ, zero, suc, _+_, _*_, _/_, _%_, _<_}
-use native.Mathlib.Nat.{div-add-mod'}
+use Prim.Native.Nat.{ℕ, zero, suc, _*_, _/_, _%_, _<_}
 use native.Mathlib.Omega.{arith}
 use borrow.Author.Tests.{eqb-true, eqb-false}
 use lib.Dec.{eqb}
-use lib.ListN.{length, getD, set, replicate}
+use lib.ListN.{length, getD, replicate}
 use lib.Seq.{getD-set-same, getD-set-other}
 use Rattle.sets.specs.Sets.{has, added, removed}
 use Rattle.sets.proofs.Members.{has-zero, has-added-same, has-added-other, has-removed-same, has-removed-other}
 use Rattle.keys.specs.declared.HeldKeys.{HeldKeys}
-use Rattle.keys.specs.Keys.{Place, place, keyCount, wordOf, withWord, wordCount, noKeys, isHeld, withKey, withoutKey}
+use Rattle.keys.specs.Keys.{Place, place, keyCount, wordOf, withWord, wordCount, isHeld, withKey, withoutKey}
 use Rattle.keys.specs.Laws.{NoneHeld, Only, OnlyThis}
 
 zeros : (n i : ℕ) → _≡_ {A = ℕ} (getD (replicate n 0) i 0) 0
@@ -61,7 +60,8 @@ module _ (change : ℕ → ℕ → ℕ) (b : Bool) (same : (n r : ℕ) → has (
           ∙ ap (λ (word : ℕ). has word (q % 64)) this-word
           ∙ other (wordOf h p) (p % 64) (q % 64) (λ f. d (omega (arith, i, f)))
           ∙ ap (λ (i : ℕ). has (getD (h .words) i 0) (q % 64)) (sym i)
-      go false e = ap (λ (word : ℕ). has word (q % 64)) (getD-set-other (h .words) (p / 64) (q / 64) (change (wordOf h p) (p % 64)) 0 (eqb-false (q / 64) (p / 64) e))
+      go false e =
+          ap (λ (word : ℕ). has word (q % 64)) (getD-set-other (h .words) (p / 64) (q / 64) (change (wordOf h p) (p % 64)) 0 (eqb-false (q / 64) (p / 64) e))
 
 -- ---- the laws, for both
 
@@ -69,10 +69,12 @@ pub held-same : (h : HeldKeys) (house key : ℕ) (b : Bool) → length (h .words
 held-same h house key true n p = at-same added true has-added-same has-added-other h (place house key) n (place-below p)
 held-same h house key false n p = at-same removed false has-removed-same has-removed-other h (place house key) n (place-below p)
 
-pub held-other : (h : HeldKeys) (house key house' key' : ℕ) (b : Bool) → length (h .words) ≡ wordCount → Place house key → (place house' key' ≡ place house key → ⊥)
-    → isHeld (keyTo h house key b) house' key' ≡ isHeld h house' key'
-held-other h house key house' key' true n p d = at-other added true has-added-same has-added-other h (place house key) n (place-below p) (place house' key') d
-held-other h house key house' key' false n p d = at-other removed false has-removed-same has-removed-other h (place house key) n (place-below p) (place house' key') d
+pub held-other : (h : HeldKeys) (house key house' key' : ℕ) (b : Bool) → length (h .words) ≡ wordCount → Place house key
+    → (place house' key' ≡ place house key → ⊥) → isHeld (keyTo h house key b) house' key' ≡ isHeld h house' key'
+held-other h house key house' key' true n p d =
+    at-other added true has-added-same has-added-other h (place house key) n (place-below p) (place house' key') d
+held-other h house key house' key' false n p d =
+    at-other removed false has-removed-same has-removed-other h (place house key) n (place-below p) (place house' key') d
 
 pub held-after : (h : HeldKeys) (house key house' key' : ℕ) (b : Bool) → length (h .words) ≡ wordCount → Place house key
     → isHeld (keyTo h house key b) house' key' ≡ cond (eqb (place house' key') (place house key)) b (isHeld h house' key')

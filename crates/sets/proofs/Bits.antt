@@ -1,7 +1,7 @@
 -- How the code compares sets: one is part of another, one lies below a bound.
 use mathlib.Core.Path.{_≡_, refl, sym, ap, ap₂, _∙_}
 use mathlib.Core.Bool.{Bool, true, false, _&&_}
-use Prim.Native.Nat.{ℕ, zero, suc, _+_, _*_, _/_, _%_, _^_, min, _<_, _≤_}
+use Prim.Native.Nat.{ℕ, zero, suc, _+_, _*_, _/_, _%_, _^_, min, _<_}
 use native.Mathlib.Nat.{pow-suc, zero-div, div-one, div-div-eq-div-mul, mul-comm, zero-min}
 use native.Mathlib.Omega.{arith}
 use borrow.Author.Tests.{ne-eqb, le-ltb, lt-ltb}
@@ -47,7 +47,8 @@ below zero w zero h = sym (ap (λ (x : ℕ). eqb x 0) (zero-div (2 ^ w)))
 below zero w (suc a) h = let e : ⊥ = omega arith in absurd e
 below (suc n) zero a h =
     ap₂ (λ (s t : Bool). implies (eqb (a % 2) 1) s && t) (le-ltb 0 0 (omega arith))
-    (all-ext n _ (λ r. implies (has (a / 2) r) (ltb r 0)) (λ r. ap (implies (has (a / 2) r)) (le-ltb (suc r) 0 (omega arith) ∙ sym (le-ltb r 0 (omega arith)))) ∙ below n zero (a / 2) (half n a h))
+    (all-ext n _ (λ r. implies (has (a / 2) r) (ltb r 0)) (λ r. ap (implies (has (a / 2) r)) (le-ltb (suc r) 0 (omega arith) ∙ sym (le-ltb r 0 (omega arith))))
+    ∙ below n zero (a / 2) (half n a h))
     ∙ ap (λ (x : ℕ). implies (eqb (a % 2) 1) false && eqb x 0) (div-one (a / 2))
     ∙ none (a / 2) (a % 2) (parity a)
     ∙ ap (λ (x : ℕ). eqb x 0) (whole a ∙ sym (div-one a))

@@ -2,7 +2,7 @@
 use mathlib.Core.Path.{_≡_, refl, sym, ap, ap₂, _∙_}
 use mathlib.Core.Bool.{Bool, true, false, cond, not, _&&_, _||_}
 use Prim.Native.Nat.{ℕ, zero, suc, _+_, _-_, _*_, _/_, _%_, _^_, max, _<_, _≤_}
-use native.Mathlib.Nat.{max-zero, pow-suc, div-add-mod', mod-lt, zero-div, div-one, div-div-eq-div-mul, mul-comm}
+use native.Mathlib.Nat.{max-zero, pow-suc, div-add-mod', mod-lt, div-one, div-div-eq-div-mul, mul-comm}
 use native.Mathlib.Omega.{arith}
 use borrow.Author.Tests.{eqb-true, eqb-false, eq-eqb, ne-eqb}
 use lib.Bits.{bitOr, or-step, or-zero-r, or-lt}
@@ -97,7 +97,8 @@ has-added n zero zero = ap (λ (x : ℕ). eqb (x % 2) 1) (added-low n) ∙ eq-eq
 has-added n zero (suc s) =
     ap (λ (x : ℕ). has x s) (ap (λ (x : ℕ). x / 2) (added-low n) ∙ omega arith) ∙ ap (λ (b : Bool). b || has (n / 2) s) (sym (eqb·suc-zero s))
 has-added n (suc r) zero =
-    ap (λ (x : ℕ). eqb x 1) (ap (λ (x : ℕ). x % 2) (added-step n r) ∙ lowest (added (n / 2) r) (n % 2) (parity n)) ∙ ap (λ (b : Bool). b || eqb (n % 2) 1) (sym (eqb·zero-suc r))
+    ap (λ (x : ℕ). eqb x 1) (ap (λ (x : ℕ). x % 2) (added-step n r) ∙ lowest (added (n / 2) r) (n % 2) (parity n))
+    ∙ ap (λ (b : Bool). b || eqb (n % 2) 1) (sym (eqb·zero-suc r))
 has-added n (suc r) (suc s) =
     ap (λ (x : ℕ). has x s) (ap (λ (x : ℕ). x / 2) (added-step n r) ∙ rest (added (n / 2) r) (n % 2) (parity n))
     ∙ has-added (n / 2) r s
@@ -133,7 +134,8 @@ has-removed n zero zero = ap (λ (x : ℕ). eqb (x % 2) 1) (removed-low n) ∙ n
 has-removed n zero (suc s) =
     ap (λ (x : ℕ). has x s) (ap (λ (x : ℕ). x / 2) (removed-low n) ∙ omega arith) ∙ ap (λ (b : Bool). not b && has (n / 2) s) (sym (eqb·suc-zero s))
 has-removed n (suc r) zero =
-    ap (λ (x : ℕ). eqb x 1) (ap (λ (x : ℕ). x % 2) (removed-step n r) ∙ lowest (removed (n / 2) r) (n % 2) (parity n)) ∙ ap (λ (b : Bool). not b && eqb (n % 2) 1) (sym (eqb·zero-suc r))
+    ap (λ (x : ℕ). eqb x 1) (ap (λ (x : ℕ). x % 2) (removed-step n r) ∙ lowest (removed (n / 2) r) (n % 2) (parity n))
+    ∙ ap (λ (b : Bool). not b && eqb (n % 2) 1) (sym (eqb·zero-suc r))
 has-removed n (suc r) (suc s) =
     ap (λ (x : ℕ). has x s) (ap (λ (x : ℕ). x / 2) (removed-step n r) ∙ rest (removed (n / 2) r) (n % 2) (parity n))
     ∙ has-removed (n / 2) r s
@@ -159,7 +161,9 @@ has-or a b zero = ap (λ (x : ℕ). eqb (x % 2) 1) (or-step a b) ∙ go (bitOr (
     go x (suc (suc p)) q h k = let z : ⊥ = omega arith in absurd z
     go x zero (suc (suc q)) h k = let z : ⊥ = omega arith in absurd z
     go x (suc zero) (suc (suc q)) h k = let z : ⊥ = omega arith in absurd z
-has-or a b (suc r) = ap (λ (x : ℕ). has x r) (ap (λ (x : ℕ). x / 2) (or-step a b) ∙ rest (bitOr (a / 2) (b / 2)) _ (omega (arith, parity a, parity b))) ∙ has-or (a / 2) (b / 2) r
+has-or a b (suc r) =
+    ap (λ (x : ℕ). has x r) (ap (λ (x : ℕ). x / 2) (or-step a b) ∙ rest (bitOr (a / 2) (b / 2)) _ (omega (arith, parity a, parity b)))
+    ∙ has-or (a / 2) (b / 2) r
 
 -- one number more, as the code adds it
 pub added-or : (n r : ℕ) → bitOr n (2 ^ r) ≡ added n r
@@ -172,14 +176,6 @@ added-or n (suc r) =
 
 pub added-below : (k n r : ℕ) → n < 2 ^ k → r < k → added n r < 2 ^ k
 added-below k n r h l = rw (← added-or n r) (or-lt k n (2 ^ r) h (pow-lt {i = r} {j = k} l))
-
-pub added-most : (n r : ℕ) → added n r ≤ n + 2 ^ r
-unfolding added
-added-most n r = go (has n r)
-  where
-    go : (t : Bool) → cond t n (n + 2 ^ r) ≤ n + 2 ^ r
-    go true = omega arith
-    go false = omega arith
 
 pub removed-below : (n r : ℕ) → removed n r ≤ n
 unfolding removed

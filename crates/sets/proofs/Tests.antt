@@ -1,10 +1,10 @@
 -- Tests of the first numbers: all of them, any of them.
 use mathlib.Core.Path.{_≡_, refl, sym, ap, ap₂, _∙_}
-use mathlib.Core.Bool.{Bool, true, false, true≢false, not, _&&_, _||_, or-false, or-assoc, or-comm}
-use Prim.Native.Nat.{ℕ, zero, suc, _+_, _<_, _≤_}
+use mathlib.Core.Bool.{Bool, true, false, true≢false, _&&_, _||_, or-false}
+use Prim.Native.Nat.{ℕ, zero, suc, _+_, _<_}
 use native.Mathlib.Nat.{add-zero, add-suc}
 use native.Mathlib.Omega.{arith}
-use borrow.Author.Tests.{eqb-true, eqb-false, eq-eqb, ne-eqb, ltb-true, ltb-false}
+use borrow.Author.Tests.{eqb-true, eq-eqb, ltb-true, ltb-false}
 use lib.Dec.{eqb, ltb}
 use Rattle.sets.specs.Sets.{all, any, implies}
 
@@ -38,6 +38,11 @@ implies-gives false b h p = never p refl
 pub gives-implies : (a b : Bool) → (a ≡ true → b ≡ true) → implies a b ≡ true
 gives-implies true b h = h refl
 gives-implies false b h = refl
+
+pub or-swap : (a b c : Bool) → a || (b || c) ≡ b || (a || c)
+or-swap true true c = refl
+or-swap true false c = refl
+or-swap false b c = refl
 
 -- two tests are one where each gives the other
 pub same-test : (a b : Bool) → (a ≡ true → b ≡ true) → (b ≡ true → a ≡ true) → a ≡ b
@@ -121,12 +126,10 @@ pub any-split : (n m : ℕ) (f : ℕ → Bool) → any (n + m) f ≡ any n f || 
 unfolding any
 any-split n zero f = ap (λ (k : ℕ). any k f) (add-zero n) ∙ sym (or-false (any n f))
 any-split n (suc m) f =
-    ap (λ (k : ℕ). any k f) (add-suc n m)
-    ∙ ap (λ (b : Bool). f (n + m) || b) (any-split n m f) ∙ sym (or-assoc (f (n + m)) (any n f) _) ∙ ap (λ (b : Bool). b || any m (λ r. f (n + r))) (or-comm (f (n + m)) (any n f)) ∙ or-assoc (any n f) (f (n + m)) _
+    ap (λ (k : ℕ). any k f) (add-suc n m) ∙ ap (λ (b : Bool). f (n + m) || b) (any-split n m f) ∙ or-swap (f (n + m)) (any n f) (any m (λ r. f (n + r)))
 
 -- the first, then the rest
 pub any-first : (n : ℕ) (f : ℕ → Bool) → any (suc n) f ≡ f 0 || any n (λ r. f (suc r))
 unfolding any
 any-first zero f = refl
-any-first (suc n) f =
-    ap (λ (b : Bool). f (suc n) || b) (any-first n f) ∙ sym (or-assoc (f (suc n)) (f 0) _) ∙ ap (λ (b : Bool). b || any n (λ r. f (suc r))) (or-comm (f (suc n)) (f 0)) ∙ or-assoc (f 0) (f (suc n)) _
+any-first (suc n) f = ap (λ (b : Bool). f (suc n) || b) (any-first n f) ∙ or-swap (f (suc n)) (f 0) (any n (λ r. f (suc r)))

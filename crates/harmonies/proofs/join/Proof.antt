@@ -64,7 +64,8 @@ returns c =
     let width = c .before .before .args .width in
     record {
       members = λ s.
-          sym (ap (λ (n : ℕ). has (l .joined) s || reaches n (l .r) width s) (c .loop-test .left) ∙ ap (λ (b : Bool). has (l .joined) s || b) (none-reached (l .r) width s) ∙ or-false (has (l .joined) s))
+          sym (ap (λ (b : Bool). has (l .joined) s || b) (ap (λ (n : ℕ). reaches n (l .r) width s) (c .loop-test .left) ∙ none-reached (l .r) width s)
+          ∙ or-false (has (l .joined) s))
           ∙ l .inv .same s;
       within = l .inv .below;
     }

@@ -1,4 +1,4 @@
-use mathlib.Core.Path.{_≡_, sym, subst}
+use mathlib.Core.Path.{subst}
 use Prim.Native.Nat.{ℕ}
 use borrow.Author.Needs.{needs}
 use Rattle.harmonies.specs.Inner.{Joined}
@@ -32,9 +32,10 @@ returns c =
     let a = start .args in
     let first = upper .before .before .position-of .ensures .0 in
     let second = c .before .position-of2 .ensures .0 in
-    let low = subst (λ (p : ℕ). Joined 0 (lower .keys-down .result) p (a .width) (upper .before .join .result)) first (upper .before .join .ensures) in
-    let high = subst (λ (p : ℕ). Joined (upper .before .join .result) (upper .keys-down2 .result) p (a .width) (c .join2 .result)) second (c .join2 .ensures) in (
-      both-halves (a .held) (a .anchor .0) (a .width) (start .pre .0) (start .pre .1) (lower .keys-down .result) (upper .keys-down2 .result) (upper .before .join .result) (c .join2 .result) (lower .keys-down .ensures) (upper .keys-down2 .ensures) low high,
+    let half = upper .before .join in
+    let low = subst (λ (p : ℕ). Joined 0 (lower .keys-down .result) p (a .width) (half .result)) first (half .ensures) in
+    let high = subst (λ (p : ℕ). Joined (half .result) (upper .keys-down2 .result) p (a .width) (c .join2 .result)) second (c .join2 .ensures) in (
+      both-halves (a .held) (a .anchor .0) (a .width) (start .pre .0) (start .pre .1) (lower .keys-down .ensures) (upper .keys-down2 .ensures) low high,
       c .join2 .ensures .within,
     )
 

@@ -31,7 +31,9 @@ element-write-self : tie.Need-element-write-self
 element-write-self c = search needs
 
 returns-2 : tie.Need-returns-2
-returns-2 c = rw (← c .before .before .before .before .place-of .ensures .0, ← c .before .before .has .ensures, not-false (c .before .before .has .result) (c .before .if1 .left), c .without .ensures)
+returns-2 c =
+    let held = c .before .before .has in
+    rw (← c .before .before .before .before .place-of .ensures .0, ← held .ensures, not-false (held .result) (c .before .if1 .left), c .without .ensures)
 
 pub release-spec : {M : Type 1} → statement M
 release-spec =
