@@ -19,13 +19,13 @@ use Rattle.values.specs.Inner.{Uses, here, there}
 use Rattle.values.proofs.Cases.{impossible}
 use Rattle.values.proofs.Plain.{sumOf, startAt, done-exact, done-small, done-sums}
 use Rattle.grammar.specs.declared.Kind.{Kind}
-use Rattle.grammar.specs.declared.Kind.the-variants.{Interval, Tone, System, Retuning, Logic}
+use Rattle.grammar.specs.declared.Kind.the-variants.{Interval, Tone, System, Retuning, Logic, Harmony}
 use Rattle.grammar.specs.Moves.{kindNumber}
 use Rattle.grammar.specs.Reading.{readItems}
 use Rattle.names.specs.Names.{meanings}
 use Rattle.names.specs.Inner.{mostDeclarations}
 use Rattle.program.specs.Program.{Placed, Program, programOf, Declaration, ratio, root, sequence, frequency, from, system}
-use Rattle.program.specs.Program.{anchor, width, freshPeriod, onwardPeriod, tones, logic}
+use Rattle.program.specs.Program.{anchor, width, freshPeriod, onwardPeriod, tones, logic, harmony}
 use Rattle.program.specs.Meaning.{nothing, declarationAt, own, ownOf, exactly, valueOf, valued}
 use Rattle.program.specs.Allowed.{kindOf, Each, FitTerm, Fits, ifKind, countOf, Allowed}
 use Rattle.program.specs.Text.{Verdict, accepted, byValue, ifZero, readText}
@@ -86,6 +86,7 @@ refers-within p (freshPeriod ts) w u = elim u [ ]
 refers-within p (onwardPeriod ts) w u = elim u [ ]
 refers-within p (tones l) w u = elim u [ ]
 refers-within p (logic c s os) w u = elim u [ ]
+refers-within p (harmony ks) w u = elim u [ ]
 
 -- as values/proofs/Plain.antt takes it
 pub closed : {p : Program} → Allowed p → (i r : ℕ) → Uses (references (own p i)) r → r < length p
@@ -97,9 +98,9 @@ closed {p} w i r u = go (ltb i (length p)) refl
         let v = subst (λ (d : Placed). Uses (references (ownOf (d .is))) r) (List·getD-eq-default p nothing (ltb-false i (length p) e)) u in
         elim v [ ]
 
--- ---- how many declarations there are: each is of one of five kinds
+-- ---- how many declarations there are: each is of one of six kinds
 
-counts-add : (p : Program) → countOf Interval p + countOf Tone p + countOf System p + countOf Retuning p + countOf Logic p ≡ length p
+counts-add : (p : Program) → countOf Interval p + countOf Tone p + countOf System p + countOf Retuning p + countOf Logic p + countOf Harmony p ≡ length p
 unfolding countOf
 counts-add [] = refl
 counts-add (d ∷ p) = go (d .is) (counts-add p)
@@ -107,8 +108,8 @@ counts-add (d ∷ p) = go (d .is) (counts-add p)
     counted : Declaration → Kind → ℕ
     counted c k = ifKind (eqb (kindNumber (kindOf c)) (kindNumber k)) (countOf k p)
 
-    go : (c : Declaration) → countOf Interval p + countOf Tone p + countOf System p + countOf Retuning p + countOf Logic p ≡ length p
-        → counted c Interval + counted c Tone + counted c System + counted c Retuning + counted c Logic ≡ suc (length p)
+    go : (c : Declaration) → countOf Interval p + countOf Tone p + countOf System p + countOf Retuning p + countOf Logic p + countOf Harmony p ≡ length p
+        → counted c Interval + counted c Tone + counted c System + counted c Retuning + counted c Logic + counted c Harmony ≡ suc (length p)
     go (ratio a b) e = omega arith
     go (root a b) e = omega arith
     go (sequence ts) e = omega arith
@@ -121,9 +122,10 @@ counts-add (d ∷ p) = go (d .is) (counts-add p)
     go (onwardPeriod ts) e = omega arith
     go (tones l) e = omega arith
     go (logic c s os) e = omega arith
+    go (harmony ks) e = omega arith
 
 pub few-declarations : {p : Program} → Allowed p → length p ≤ mostDeclarations
-few-declarations {p} w = omega (arith, counts-add p, w .few Interval, w .few Tone, w .few System, w .few Retuning, w .few Logic)
+few-declarations {p} w = omega (arith, counts-add p, w .few Interval, w .few Tone, w .few System, w .few Retuning, w .few Logic, w .few Harmony)
 
 -- ---- the values
 

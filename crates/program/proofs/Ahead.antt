@@ -5,6 +5,7 @@ use mathlib.Core.List.{List, [], _∷_, _++_}
 use Prim.Native.Nat.{ℕ, zero, suc, _+_, _-_, _≤_}
 use native.Mathlib.Nat.{le-of-suc-le-suc}
 use native.Mathlib.Omega.{arith}
+use Rattle.limits.specs.Limits.{mostHarmonyKeys}
 use Rattle.status.specs.Status.{done}
 use Rattle.symbols.specs.declared.Symbol.{Symbol}
 use Rattle.grammar.specs.declared.Kind.{Kind}
@@ -19,7 +20,7 @@ use Rattle.grammar.specs.Syntax.{Terminal}
 use Rattle.grammar.specs.Terminals.{terminalOf, spanOf}
 use Rattle.grammar.specs.Reading.{mostTerms, mostPositions, acted}
 use Rattle.program.specs.Allowed.{Decimal, Degree}
-use Rattle.program.proofs.Formed.{TermItems, no-term, add-term, subtract-term, PlaceItems, no-place, muted-place, tone-place, PositionItems, no-position, muted-position, kept-position, tone-position, StartItems, OrderItems, Some, Body, Formed, declaration}
+use Rattle.program.proofs.Formed.{TermItems, no-term, add-term, subtract-term, PlaceItems, no-place, muted-place, tone-place, PositionItems, no-position, muted-position, kept-position, tone-position, StartItems, OrderItems, KeyItems, Some, Body, Formed, declaration}
 use Rattle.program.proofs.Walk.{Keeps, refuses, goes, gives}
 
 -- ---- where there is room for more
@@ -65,6 +66,8 @@ pub data Stage : Type 0 where
   positions toneTerm toneTerms : Stage
   -- a logic's start, its orders, and, after an order's trigger, what it calls and further orders
   start orders order : Stage
+  -- a key of a harmony and further ones, or further ones, if any
+  key keys : Stage
 
 pub data Nothing : List Item → Type 0 where
   no-item : Nothing []
@@ -84,6 +87,11 @@ pub data ToneTerms (n m : ℕ) : List Item → Type 0 where
 pub data Calls : List Item → Type 0 where
   call-then : {q : ℕ} {is : List Item} → OrderItems is → Calls (item.Order q ∷ is)
 
+-- keys of a harmony, at most n, none of them in a set
+pub record SomeKeys (set n : ℕ) (is : List Item) : Type 0 where
+  pub keys : KeyItems set n is
+  pub some : Some is
+
 pub data Starts : List Item → Type 0 where
   start-then : {ss os : List Item} → StartItems ss → OrderItems os → Starts (ss ++ os)
 
@@ -93,6 +101,9 @@ termsLeft s = mostTerms - s .term .before
 
 abbrev pub positionsLeft : Progress → ℕ
 positionsLeft s = mostPositions - s .positions
+
+abbrev pub keysLeft : Progress → ℕ
+keysLeft s = mostHarmonyKeys - s .positions
 
 -- a term, and those for which there is room after it
 abbrev pub termAndLeft : Progress → ℕ
@@ -116,6 +127,8 @@ Comes toneTerms s is = ToneTerms (termsLeft s) (positionsLeft s) is
 Comes start s is = Starts is
 Comes orders s is = OrderItems is
 Comes order s is = Calls is
+Comes key s is = SomeKeys (s .keys) (keysLeft s) is
+Comes keys s is = KeyItems (s .keys) (keysLeft s) is
 
 -- the rest of the declaration under way, and whole ones
 pub data Ahead (P : Stage) (s : Progress) : List Item → Type 0 where

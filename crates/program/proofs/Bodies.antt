@@ -73,6 +73,9 @@ place-in item.Onward = refl
 place-in (item.Letter c) = refl
 place-in (item.Start p) = refl
 place-in (item.Order p) = refl
+place-in (item.Trigger p) = refl
+place-in (item.Key v) = refl
+place-in (item.StarredKey v) = refl
 
 -- ---- the items up to the first declared name
 

@@ -8,13 +8,15 @@ use Prim.Native.Nat.{ℕ, suc, _+_, _-_, _≤_, _<_}
 use native.Mathlib.Omega.{arith}
 use borrow.Author.Tests.{eqb-true}
 use lib.Dec.{leb, eqb, leb→le}
-use Rattle.status.specs.Status.{done}
+use Rattle.limits.specs.Limits.{mostHarmonyKeys}
+use Rattle.sets.specs.Sets.{has}
+use Rattle.status.specs.Status.{done, symbolNotAllowed}
 use Rattle.grammar.specs.declared.Kind.{Kind}
-use Rattle.grammar.specs.declared.Kind.the-variants.{Interval, Tone, System, Retuning, Logic, Order as AnOrder}
+use Rattle.grammar.specs.declared.Kind.the-variants.{Interval, Tone, System, Retuning, Logic, Order as AnOrder, Harmony}
 use Rattle.grammar.specs.declared.NumberUse.{NumberUse}
-use Rattle.grammar.specs.declared.NumberUse.the-variants.{RatioFirst, RatioSecond, Degree, Radicand, FirstFactor, Factor, Frequency, AnchorKey, AnchorTo, AnchorUp, AnchorDown, WidthTo, WidthUp, WidthDown, WidthTimes, WidthOver}
-use Rattle.grammar.specs.declared.NameUse.the-variants.{Term, Base, Position, Start, Order}
-use Rattle.grammar.specs.declared.MarkUse.the-variants.{MutedPosition, KeptPosition, KeptAnchor, KeptWidth, Period, Onward}
+use Rattle.grammar.specs.declared.NumberUse.the-variants.{RatioFirst, RatioSecond, Degree, Radicand, FirstFactor, Factor, Frequency, AnchorKey, AnchorTo, AnchorUp, AnchorDown, WidthTo, WidthUp, WidthDown, WidthTimes, WidthOver, Key, StarredKey}
+use Rattle.grammar.specs.declared.NameUse.the-variants.{Term, Base, Position, Start, Order, Trigger, CountedTrigger}
+use Rattle.grammar.specs.declared.MarkUse.the-variants.{MutedPosition, KeptPosition, KeptAnchor, KeptWidth, Period, Onward, Star}
 use Rattle.grammar.specs.declared.Action.{Action}
 use Rattle.grammar.specs.declared.Action.the-variants.{Pass, Declare, Hold, Held, Number, Sign, Name, Mark, Letter, CountOrder}
 use Rattle.grammar.specs.declared.Item.{Item}
@@ -26,8 +28,8 @@ use Rattle.grammar.specs.declared.Outcome.{Outcome}
 use Rattle.grammar.specs.declared.Outcome.the-variants.{Go, Give, Refuse}
 use Rattle.grammar.specs.Syntax.{Terminal, Node, OrderLetter, OrderName, Rule, rules}
 use Rattle.grammar.specs.Terminals.{picked, terminalOf, spanOf}
-use Rattle.grammar.specs.Moves.{nodeNumber, kindNumber, actionAt}
-use Rattle.grammar.specs.Reading.{limit, soFar, oneMore, mostTerms, mostPositions, nextTerm, withPositions, noTerm, unlessFull, termItem, termed, positioned, used, numbered, acted, readItems}
+use Rattle.grammar.specs.Moves.{nodeNumber, kindNumber, classSize, actionAt}
+use Rattle.grammar.specs.Reading.{limit, soFar, oneMore, mostTerms, mostPositions, nextTerm, withPositions, withKey, noTerm, unlessFull, keyCounted, keyNamed, termItem, termed, positioned, used, numbered, acted, readItems}
 use Rattle.grammar.proofs.Table.{each}
 use Rattle.grammar.proofs.Diagrams.{at-each, picked-of}
 use Rattle.grammar.proofs.ActionNumbers.{action-back}
@@ -48,6 +50,7 @@ record Grown (c d : Counts) : Type 0 where
   retunings : c .retunings ≤ d .retunings
   logics : c .logics ≤ d .logics
   orders : c .orders ≤ d .orders
+  harmonies : c .harmonies ≤ d .harmonies
 
 grown : (k : Kind) (c : Counts) → Grown c (oneMore k c)
 grown Interval c = omega arith
@@ -56,6 +59,7 @@ grown System c = omega arith
 grown Retuning c = omega arith
 grown Logic c = omega arith
 grown AnOrder c = omega arith
+grown Harmony c = omega arith
 
 no-less : (k : Kind) {c d : Counts} → Grown c d → soFar k c ≤ soFar k d
 no-less Interval g = g .intervals
@@ -64,6 +68,7 @@ no-less System g = g .systems
 no-less Retuning g = g .retunings
 no-less Logic g = g .logics
 no-less AnOrder g = g .orders
+no-less Harmony g = g .harmonies
 
 one-more : (k : Kind) (c : Counts) → soFar k (oneMore k c) ≡ soFar k c + 1
 one-more Interval c = refl
@@ -72,6 +77,7 @@ one-more System c = refl
 one-more Retuning c = refl
 one-more Logic c = refl
 one-more AnOrder c = refl
+one-more Harmony c = refl
 
 -- how many of a kind may still come
 abbrev left : Kind → Counts → ℕ
@@ -92,6 +98,8 @@ weight (Name Base) = 1
 weight (Name Position) = 1
 weight (Name Start) = 1
 weight (Name Order) = 2
+weight (Name Trigger) = 1
+weight (Name CountedTrigger) = 0
 weight (Mark u) = 1
 weight Letter = 1
 weight CountOrder = 0
@@ -106,6 +114,8 @@ data Counting (s : Progress) : Action → Outcome → Type 0 where
   naming : {k : Kind} {p : ℕ} {t : Progress} → soFar k (s .counts) < limit k → t .counts ≡ oneMore k (s .counts)
       → Counting s (Declare k) (Give t (item.Declared k p))
   ordering : {t : Progress} → soFar AnOrder (s .counts) < limit AnOrder → t .counts ≡ oneMore AnOrder (s .counts) → Counting s CountOrder (Go t)
+  triggering : {q : ℕ} {t : Progress} → soFar AnOrder (s .counts) < limit AnOrder → t .counts ≡ oneMore AnOrder (s .counts)
+      → Counting s (Name CountedTrigger) (Give t (item.Trigger q))
   calling : {q : ℕ} {t : Progress} → t .counts ≡ s .counts → Counting s (Name Order) (Give t (item.Order q))
 
 module _ (s : Progress) (x : Span) where
@@ -117,6 +127,13 @@ module _ (s : Progress) (x : Span) where
         go : (m : Bool) → Counting s a (Give (nextTerm false 1 (s .term .before + 1) s) (termItem m f (x .start)))
         go true = giving w refl refl refl
         go false = giving w refl refl refl
+
+    key-counting : (v : ℕ) (i : Item) → Counting s a (Give (withKey v s) i) → Counting s a (keyNamed s v i x)
+    key-counting v i h = go (has (s .keys) v)
+      where
+        go : (b : Bool) → Counting s a (cond b (Refuse symbolNotAllowed (x .start)) (keyCounted s x (Give (withKey v s) i)))
+        go true = refusing (λ (q : symbolNotAllowed ≡ done). omega arith)
+        go false = unless-full (Counting s a) (λ k p. refusing) mostHarmonyKeys (s .positions) x (Give (withKey v s) i) (λ _. h)
 
     used-counting : (u : NumberUse) (v : ℕ) → Counting s a (used s u v x)
     used-counting RatioFirst v = passing w refl
@@ -135,6 +152,8 @@ module _ (s : Progress) (x : Span) where
     used-counting WidthDown v = giving w refl refl refl
     used-counting WidthTimes v = giving w refl refl refl
     used-counting WidthOver v = giving w refl refl refl
+    used-counting Key v = key-counting v (item.Key v) (giving w refl refl refl)
+    used-counting StarredKey v = key-counting v (item.StarredKey v) (giving w refl refl refl)
 
     numbered-counting : (text : List ℕ) (u : NumberUse) (start end : ℕ) → Counting s a (numbered text s u start end x)
     numbered-counting text u start end = if-allowed (Counting s a) (λ k p. refusing) text s u start end x (λ v _. used-counting u v)
@@ -158,12 +177,15 @@ module _ (s : Progress) (x : Span) where
   acted-counting text (Name Position) = positioned-counting (Name Position) _ (giving refl refl refl refl)
   acted-counting text (Name Start) = giving refl refl refl refl
   acted-counting text (Name Order) = calling refl
+  acted-counting text (Name Trigger) = giving refl refl refl refl
+  acted-counting text (Name CountedTrigger) = full (Name CountedTrigger) (limit AnOrder) (soFar AnOrder (s .counts)) _ (λ h. triggering h refl)
   acted-counting text (Mark MutedPosition) = positioned-counting (Mark MutedPosition) _ (giving refl refl refl refl)
   acted-counting text (Mark KeptPosition) = positioned-counting (Mark KeptPosition) _ (giving refl refl refl refl)
   acted-counting text (Mark KeptAnchor) = giving refl refl refl refl
   acted-counting text (Mark KeptWidth) = giving refl refl refl refl
   acted-counting text (Mark Period) = giving refl refl refl refl
   acted-counting text (Mark Onward) = giving refl refl refl refl
+  acted-counting text (Mark Star) = full (Mark Star) mostHarmonyKeys (s .positions) _ (λ _. passing refl refl)
   acted-counting text Letter = giving refl refl refl refl
   acted-counting text CountOrder = full CountOrder (limit AnOrder) (soFar AnOrder (s .counts)) _ (λ h. ordering h refl)
 
@@ -171,7 +193,7 @@ module _ (s : Progress) (x : Span) where
 
 same-kind : (m k : Kind) → kindNumber m ≡ kindNumber k → m ≡ k
 same-kind m k e =
-    let q : Declare m ≡ Declare k = sym (action-back (Declare m)) ∙ ap (λ (n : ℕ). actionAt (16 + n)) e ∙ action-back (Declare k) in
+    let q : Declare m ≡ Declare k = sym (action-back (Declare m)) ∙ ap (λ (n : ℕ). actionAt (classSize + n)) e ∙ action-back (Declare k) in
     cc
 
 less-left : (k m : Kind) (c : Counts) → left k (oneMore m c) ≤ left k c
@@ -201,6 +223,8 @@ names-kept k s (giving {t = t} {i = i} w e f g) =
 names-kept k s (naming {k = m} {p = p} {t = t} h e) =
     gives t (item.Declared m p) (λ is l. one-left k m (s .counts) (namesOf k (declared is)) h (omega (arith, ap (left k) e)))
 names-kept k s (ordering {t = t} h e) = goes t (λ is l. omega (arith, ap (left k) e, less-left k AnOrder (s .counts)))
+names-kept k s (triggering {q = p} {t = t} h e) =
+    gives t (item.Trigger p) (λ is l. omega (arith, ap (left k) e, less-left k AnOrder (s .counts)))
 names-kept k s (calling {q = p} {t = t} e) = gives t (item.Order p) (λ is l. omega (arith, ap (left k) e))
 
 pub few-names : (text : List ℕ) → readItems text .number ≡ done → (k : Kind) → namesOf k (declared (readItems text .items)) ≤ limit k
@@ -212,7 +236,7 @@ few-names text e k = omega (arith, walk text (λ _. NamesLeft k) (λ s. omega ar
 
 -- ---- orders
 
--- the orders that are counted and not yet given, at a node: one from KEY to the arrow
+-- the orders that are counted and not yet given, at a node: one from its trigger to its arrow
 abbrev owed : Node → ℕ
 owed q = cond (leb (nodeNumber OrderLetter) (nodeNumber q) && leb (nodeNumber q) (nodeNumber OrderName)) 1 0
 
@@ -240,6 +264,7 @@ orders-kept q r s b (giving {t = t} {i = i} w e f g) =
 orders-kept q r s b (naming {k = m} {p = p} {t = t} h e) =
     gives t (item.Declared m p) (λ is l. omega (arith, ap (left AnOrder) e, less-left AnOrder m (s .counts)))
 orders-kept q r s b (ordering {t = t} h e) = goes t (λ is l. omega (arith, ap (left AnOrder) e))
+orders-kept q r s b (triggering {q = p} {t = t} h e) = gives t (item.Trigger p) (λ is l. omega (arith, ap (left AnOrder) e))
 orders-kept q r s b (calling {q = p} {t = t} e) = gives t (item.Order p) (λ is l. omega (arith, ap (left AnOrder) e))
 
 pub few-orders : (text : List ℕ) → readItems text .number ≡ done → orderItems (readItems text .items) ≤ limit AnOrder

@@ -5,6 +5,8 @@ use mathlib.Core.Option.{none}
 use Prim.Native.Nat.{ℕ, suc, _+_, _≤_}
 use native.Mathlib.Omega.{arith}
 use lib.ListN.{length}
+use Rattle.limits.specs.Limits.{mostHarmonyKey, mostHarmonyKeys}
+use Rattle.harmonies.specs.Harmonies.{HarmonyKey}
 use Rattle.grammar.specs.declared.Kind.{Kind}
 use Rattle.grammar.specs.declared.Item.{Item}
 use Rattle.grammar.specs.declared.Item.the-variants as item
@@ -12,13 +14,13 @@ use Rattle.grammar.specs.Reading.{mostTerms}
 use Rattle.names.specs.Parts as parts
 use Rattle.names.specs.Parts.{Part, declares, gives, uses, says, part}
 use Rattle.names.specs.Names.{Named, namedBy, declared, meant}
-use Rattle.program.specs.Program.{Declaration, sequence, system, freshPeriod, tones, logic, Program}
-use Rattle.program.specs.Program.{termThen, termsOf, systemPositionsOf, grouped, ordered, ordersOf, startOf, periodOf, declarationOf, upTo, partsOf, programThen, programOf}
-use Rattle.program.specs.Allowed.{kindOf, Refers, Each, FitTerm, Terms, FitSystemPosition, FitPosition, FitStart, FitOrder, Fits, orderCount}
+use Rattle.program.specs.Program.{Declaration, sequence, system, freshPeriod, tones, logic, harmony, Trigger, byLetter, byHarmony, Program}
+use Rattle.program.specs.Program.{termThen, termsOf, systemPositionsOf, grouped, ordered, ordersOf, startOf, keysOf, periodOf, declarationOf, upTo, partsOf, programThen, programOf}
+use Rattle.program.specs.Allowed.{kindOf, Refers, Each, FitTerm, Terms, FitSystemPosition, FitPosition, FitStart, FitTrigger, FitOrder, FitLogic, NamedOnce, FitHarmony, Fits, orderCount}
 use Rattle.program.proofs.Formed.{TermItems, no-term, add-term, subtract-term, PlaceItems, no-place, muted-place, tone-place}
 use Rattle.program.proofs.Formed.{PositionItems, no-position, muted-position, kept-position, tone-position}
-use Rattle.program.proofs.Formed.{StartItems, no-start, a-start, OrderItems, no-order, an-order, Some, something}
-use Rattle.program.proofs.Formed.{Body, a-ratio, a-root, a-sequence, a-frequency, from-tone, a-system, a-tones, a-logic}
+use Rattle.program.proofs.Formed.{StartItems, no-start, a-start, by-letter, by-harmony, OrderItems, no-order, an-order, KeyItems, no-key, plain-key, starred-key, Some, something}
+use Rattle.program.proofs.Formed.{Body, a-ratio, a-root, a-sequence, a-frequency, from-tone, a-system, a-tones, a-logic, a-harmony}
 use Rattle.program.proofs.Formed.{anchor-kept, anchor-to, anchor-up, anchor-down, fresh-period, onward-period}
 use Rattle.program.proofs.Formed.{width-kept, width-to, width-up, width-down, width-times, width-over}
 use Rattle.program.proofs.Formed.{orderPart, orderItems}
@@ -35,6 +37,7 @@ Plain (uses parts.base f n) = Unit
 Plain (uses parts.position f n) = Unit
 Plain (uses parts.start f n) = Unit
 Plain (uses parts.order f n) = ⊥
+Plain (uses parts.trigger f n) = Unit
 
 pub data Inside : ℕ → List Item → Type 0 where
   no-item : Inside 0 []
@@ -57,6 +60,7 @@ module _ (i : Item) (xs ys : List Item) (ds : Program) (ns : List Named) (n : �
   plain-item (uses parts.position a p) h = (refl, refl, refl, refl)
   plain-item (uses parts.start a p) h = (refl, refl, refl, refl)
   plain-item (uses parts.order a p) h = absurd h
+  plain-item (uses parts.trigger a p) h = (refl, refl, refl, refl)
 
 -- what stands behind them is read as if it stood alone
 pub record Passed (n : ℕ) (is rest : List Item) : Type 0 where
@@ -99,7 +103,13 @@ start-inside a-start = plain tt no-item
 orders-inside : {is : List Item} → OrderItems is → Inside (length (ordersOf is)) is
 unfolding ordered
 orders-inside no-order = no-item
-orders-inside (an-order c w) = plain tt (one-order (orders-inside w))
+orders-inside (an-order (by-letter c) w) = plain tt (one-order (orders-inside w))
+orders-inside (an-order by-harmony w) = plain tt (one-order (orders-inside w))
+
+keys-inside : {set n : ℕ} {is : List Item} → KeyItems set n is → Inside 0 is
+keys-inside no-key = no-item
+keys-inside (plain-key l e w) = plain tt (keys-inside w)
+keys-inside (starred-key l e w) = plain tt (keys-inside w)
 
 -- ---- what is read out of the parts of a body
 
@@ -119,6 +129,27 @@ tones-of : {n : ℕ} {is : List Item} → PositionItems n is → Some is → dec
 tones-of (muted-position w) something = refl
 tones-of (kept-position t w) something = refl
 tones-of (tone-position t w) something = refl
+
+harmony-of : {set n : ℕ} {is : List Item} → KeyItems set n is → Some is → declarationOf is ≡ harmony (keysOf is)
+unfolding keysOf
+harmony-of (plain-key l e w) something = refl
+harmony-of (starred-key l e w) something = refl
+
+-- the keys of a harmony
+keys-each : {set n : ℕ} {is : List Item} → KeyItems set n is
+    → (length (keysOf is) ≤ n) × Each (λ (k : HarmonyKey). k .key ≤ mostHarmonyKey) (keysOf is) × NamedOnce set (keysOf is)
+unfolding keysOf
+keys-each no-key = (omega arith, tt, tt)
+keys-each (plain-key l e w) = let k = keys-each w in (omega (arith, k .0), (l, k .1), (e, k .2))
+keys-each (starred-key l e w) = let k = keys-each w in (omega (arith, k .0), (l, k .1), (e, k .2))
+
+some-key : {set n : ℕ} {is : List Item} → KeyItems set n is → Some is → 1 ≤ length (keysOf is)
+unfolding keysOf
+some-key (plain-key l e w) something = omega arith
+some-key (starred-key l e w) something = omega arith
+
+keys-fit : {is : List Item} → KeyItems 0 mostHarmonyKeys is → Some is → FitHarmony (keysOf is)
+keys-fit w s = let k = keys-each w in record { some = some-key w s; few = k .0; each = k .1; once = k .2 }
 
 -- a tone system: positions, and then the terms of its period
 period-after : {n : ℕ} {is : List Item} (ts : List Item) → PlaceItems n is → termsOf (is ++ ts) ≡ termsOf ts
@@ -152,7 +183,8 @@ terms-before (subtract-term {f} {q} h w) v = let t = terms-before w v in (ap (te
 no-start-in : {is : List Item} → OrderItems is → startOf is ≡ none
 unfolding startOf
 no-start-in no-order = refl
-no-start-in (an-order c w) = no-start-in w
+no-start-in (an-order (by-letter c) w) = no-start-in w
+no-start-in (an-order by-harmony w) = no-start-in w
 
 orders-after : {is : List Item} (os : List Item) → StartItems is → ordersOf (is ++ os) ≡ ordersOf os
 unfolding ordered
@@ -227,7 +259,12 @@ module _ (p : Program) where
   orders-fit : {is : List Item} → OrderItems is → AllRefer is → Each (FitOrder p) (ordersOf is)
   unfolding ordered
   orders-fit no-order r = tt
-  orders-fit (an-order c w) r = (record { letter = c; calls = r .1 .0 }, orders-fit w (r .1 .1))
+  orders-fit (an-order (by-letter c) w) r = (record { trigger = c; calls = r .1 .0 }, orders-fit w (r .1 .1))
+  orders-fit (an-order by-harmony w) r = (record { trigger = r .0; calls = r .1 .0 }, orders-fit w (r .1 .1))
+
+  logic-fits : {c : Trigger} {ss os : List Item} → FitTrigger p c → StartItems ss → OrderItems os → AllRefer (ss ++ os)
+      → FitLogic p c (startOf (ss ++ os)) (ordersOf os)
+  logic-fits {ss} {os} c s w r = let v = both ss os r in record { trigger = c; start = start-fits s w (v .0); orders = orders-fit w (v .1) }
 
   -- ---- a body declares something of its kind that fits
 
@@ -274,8 +311,10 @@ module _ (p : Program) where
   declares-fit (a-tones {is} w s) = known (tones (grouped is .positions)) (tones-of w s) refl (positions-inside w) (λ r.
       let l = positions-each w r in
       record { positions = record { some = some-position w s; few = l .0 }; each = l .1 })
-  declares-fit (a-logic {c} {ss} {os} l s w) =
-      known (logic c (startOf (ss ++ os)) (ordersOf os)) (ap (logic c (startOf (ss ++ os))) (orders-after os s)) refl
-      (plain tt (before (start-inside s) (orders-inside w))) (λ r.
-      let v = both ss os (r .1) in
-      record { letter = l; start = start-fits s w (v .0); orders = orders-fit w (v .1) })
+  declares-fit (a-logic {ss} {os} (by-letter {c} l) s w) =
+      known (logic (byLetter c) (startOf (ss ++ os)) (ordersOf os)) (ap (logic (byLetter c) (startOf (ss ++ os))) (orders-after os s)) refl
+      (plain tt (before (start-inside s) (orders-inside w))) (λ r. logic-fits l s w (r .1))
+  declares-fit (a-logic {ss} {os} (by-harmony {q}) s w) =
+      known (logic (byHarmony q) (startOf (ss ++ os)) (ordersOf os)) (ap (logic (byHarmony q) (startOf (ss ++ os))) (orders-after os s)) refl
+      (plain tt (before (start-inside s) (orders-inside w))) (λ r. logic-fits (r .0) s w (r .1))
+  declares-fit (a-harmony {is} w s) = known (harmony (keysOf is)) (harmony-of w s) refl (keys-inside w) (λ r. keys-fit w s)

@@ -5,8 +5,10 @@ use mathlib.Core.List.{List, [], _∷_, _++_}
 use Prim.Native.Nat.{ℕ, zero, suc, _+_, _≤_, _<_}
 use lib.Dec.{eqb}
 use lib.ListN.{length}
+use Rattle.limits.specs.Limits.{mostHarmonyKey, mostHarmonyKeys}
+use Rattle.sets.specs.Sets.{has, added}
 use Rattle.grammar.specs.declared.Kind.{Kind}
-use Rattle.grammar.specs.declared.Kind.the-variants.{Interval, Tone, System, Retuning, Logic, Order as AnOrder}
+use Rattle.grammar.specs.declared.Kind.the-variants.{Interval, Tone, System, Retuning, Logic, Order as AnOrder, Harmony}
 use Rattle.grammar.specs.declared.Item.{Item}
 use Rattle.grammar.specs.declared.Item.the-variants as item
 use Rattle.grammar.specs.Moves.{kindNumber}
@@ -39,9 +41,20 @@ pub data StartItems : List Item → Type 0 where
   no-start : StartItems []
   a-start : {q : ℕ} → StartItems (item.Start q ∷ [])
 
+pub data TriggerItem : Item → Type 0 where
+  by-letter : {c : ℕ} → Letter c → TriggerItem (item.Letter c)
+  by-harmony : {q : ℕ} → TriggerItem (item.Trigger q)
+
 pub data OrderItems : List Item → Type 0 where
   no-order : OrderItems []
-  an-order : {c q : ℕ} {is : List Item} → Letter c → OrderItems is → OrderItems (item.Letter c ∷ item.Order q ∷ is)
+  an-order : {i : Item} {q : ℕ} {is : List Item} → TriggerItem i → OrderItems is → OrderItems (i ∷ item.Order q ∷ is)
+
+-- at most n keys of a harmony, none of them in a set, nor named twice
+pub data KeyItems : ℕ → ℕ → List Item → Type 0 where
+  no-key : {set n : ℕ} → KeyItems set n []
+  plain-key : {set n v : ℕ} {is : List Item} → v ≤ mostHarmonyKey → has set v ≡ false → KeyItems (added set v) n is → KeyItems set (suc n) (item.Key v ∷ is)
+  starred-key : {set n v : ℕ} {is : List Item} → v ≤ mostHarmonyKey → has set v ≡ false → KeyItems (added set v) n is
+      → KeyItems set (suc n) (item.StarredKey v ∷ is)
 
 -- something stands there
 pub data Some : List Item → Type 0 where
@@ -68,7 +81,8 @@ pub data Body : Kind → List Item → Type 0 where
   fresh-period : {is : List Item} → TermItems mostTerms is → Body Retuning (item.Period ∷ is)
   onward-period : {is : List Item} → TermItems mostTerms is → Body Retuning (item.Period ∷ item.Onward ∷ is)
   a-tones : {is : List Item} → PositionItems mostPositions is → Some is → Body Retuning is
-  a-logic : {c : ℕ} {ss os : List Item} → Letter c → StartItems ss → OrderItems os → Body Logic (item.Letter c ∷ ss ++ os)
+  a-logic : {i : Item} {ss os : List Item} → TriggerItem i → StartItems ss → OrderItems os → Body Logic (i ∷ ss ++ os)
+  a-harmony : {is : List Item} → KeyItems 0 mostHarmonyKeys is → Some is → Body Harmony is
 
 pub data Formed : List Item → Type 0 where
   no-more : Formed []
@@ -90,6 +104,7 @@ orderPart (uses parts.base f q) n = n
 orderPart (uses parts.position f q) n = n
 orderPart (uses parts.start f q) n = n
 orderPart (uses parts.order f q) n = suc n
+orderPart (uses parts.trigger f q) n = n
 
 unfoldable pub orderItems : List Item → ℕ
 orderItems [] = 0

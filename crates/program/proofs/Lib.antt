@@ -8,6 +8,7 @@ pub mod Steps
 pub mod TermSteps
 pub mod ListSteps
 pub mod LogicSteps
+pub mod KeySteps
 pub mod Shape
 pub mod ReadFormed
 pub mod Numbered

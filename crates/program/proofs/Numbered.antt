@@ -8,13 +8,13 @@ use Rattle.names.specs.declared.Bearer.{Bearer}
 use Rattle.names.specs.declared.Bearer.the-variants.{Nothing, Row}
 use Rattle.grammar.specs.declared.Kind.{Kind}
 use Rattle.grammar.specs.declared.Item.{Item}
-use Rattle.names.specs.Parts.{Part, declares, gives, uses, says, part, Use, add, subtract, base, position, start, order}
+use Rattle.names.specs.Parts.{Part, declares, gives, uses, says, part, Use, add, subtract, base, position, start, order, trigger}
 use Rattle.names.specs.Names.{Named, declared, calledIn, meant, numbered, Resolved, all, missing, andThen, ifFound, resolvedBy, resolved, meanings}
 use Rattle.names.proofs.Meanings.{accepted}
 use Rattle.program.proofs.Formed.{TermItems, no-term, add-term, subtract-term, PlaceItems, no-place, muted-place, tone-place}
 use Rattle.program.proofs.Formed.{PositionItems, no-position, muted-position, kept-position, tone-position}
-use Rattle.program.proofs.Formed.{StartItems, no-start, a-start, OrderItems, no-order, an-order, Some, something}
-use Rattle.program.proofs.Formed.{Body, a-ratio, a-root, a-sequence, a-frequency, from-tone, a-system, a-tones, a-logic}
+use Rattle.program.proofs.Formed.{StartItems, no-start, a-start, TriggerItem, by-letter, by-harmony, OrderItems, no-order, an-order, KeyItems, no-key, plain-key, starred-key, Some, something}
+use Rattle.program.proofs.Formed.{Body, a-ratio, a-root, a-sequence, a-frequency, from-tone, a-system, a-tones, a-logic, a-harmony}
 use Rattle.program.proofs.Formed.{anchor-kept, anchor-to, anchor-up, anchor-down, fresh-period, onward-period}
 use Rattle.program.proofs.Formed.{width-kept, width-to, width-up, width-down, width-times, width-over}
 use Rattle.program.proofs.Formed.{Formed, no-more, declaration, orderPart, orderItems, FormedText}
@@ -54,7 +54,13 @@ module _ (number : Use → ℕ → ℕ) where
 
   orders-kept : {is : List Item} → OrderItems is → OrderItems (withNumbers number is)
   orders-kept no-order = no-order
-  orders-kept (an-order c w) = an-order c (orders-kept w)
+  orders-kept (an-order (by-letter c) w) = an-order (by-letter c) (orders-kept w)
+  orders-kept (an-order by-harmony w) = an-order by-harmony (orders-kept w)
+
+  keys-kept : {set n : ℕ} {is : List Item} → KeyItems set n is → KeyItems set n (withNumbers number is)
+  keys-kept no-key = no-key
+  keys-kept (plain-key l e w) = plain-key l e (keys-kept w)
+  keys-kept (starred-key l e w) = starred-key l e (keys-kept w)
 
   some-kept : {is : List Item} → Some is → Some (withNumbers number is)
   some-kept something = something
@@ -79,7 +85,9 @@ module _ (number : Use → ℕ → ℕ) where
   body-kept (fresh-period w) = fresh-period (terms-kept w)
   body-kept (onward-period w) = onward-period (terms-kept w)
   body-kept (a-tones w s) = a-tones (positions-kept w) (some-kept s)
-  body-kept (a-logic c s w) = rw map-append (a-logic c (start-kept s) (orders-kept w))
+  body-kept (a-logic (by-letter c) s w) = rw map-append (a-logic (by-letter c) (start-kept s) (orders-kept w))
+  body-kept (a-logic by-harmony s w) = rw map-append (a-logic by-harmony (start-kept s) (orders-kept w))
+  body-kept (a-harmony w s) = a-harmony (keys-kept w) (some-kept s)
 
   formed-kept : {is : List Item} → Formed is → Formed (withNumbers number is)
   formed-kept no-more = no-more
@@ -96,6 +104,7 @@ module _ (number : Use → ℕ → ℕ) where
   order-counted (uses position a p) i n e = refl
   order-counted (uses start a p) i n e = refl
   order-counted (uses order a p) i n e = refl
+  order-counted (uses trigger a p) i n e = refl
 
   orders-counted : (is : List Item) → orderItems (withNumbers number is) ≡ orderItems is
   unfolding orderItems

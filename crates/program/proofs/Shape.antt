@@ -7,7 +7,7 @@ use mathlib.Core.Option.{some, Option·none-ne-some, Option·some-injective}
 use Prim.Native.Nat.{ℕ}
 use Rattle.status.specs.Status.{done}
 use Rattle.grammar.specs.declared.Kind.{Kind}
-use Rattle.grammar.specs.declared.Kind.the-variants.{Interval, Tone, System, Retuning, Logic}
+use Rattle.grammar.specs.declared.Kind.the-variants.{Interval, Tone, System, Retuning, Logic, Harmony}
 use Rattle.grammar.specs.declared.Action.the-variants.{Pass}
 use Rattle.grammar.specs.declared.Item.{Item}
 use Rattle.grammar.specs.declared.Progress.{Progress}
@@ -18,11 +18,12 @@ use Rattle.grammar.proofs.Diagrams.{same-terminal}
 use Rattle.program.specs.Allowed.{Each}
 use Rattle.program.proofs.Formed.{no-term, no-order, Formed, no-more}
 use Rattle.program.proofs.Walk.{Kept, walk}
-use Rattle.program.proofs.Ahead.{Stage, nothing, body, secondPart, radicand, sequence, term, terms, period, place, places, positions, toneTerm, toneTerms, start, orders, order, no-item, Ahead, ahead, Fit, Move, keeps-ahead}
+use Rattle.program.proofs.Ahead.{Stage, nothing, body, secondPart, radicand, sequence, term, terms, period, place, places, positions, toneTerm, toneTerms, start, orders, order, key, keys, no-item, Ahead, ahead, Fit, Move, keeps-ahead}
 use Rattle.program.proofs.Steps.{passing, Ending, declaring, ending, frequency, anchor-number, anchor-plus, anchor-minus, anchor-same, width-number, width-plus, width-minus, width-asterisk, width-slash, width-same, hold, ratio-first, ratio-second, root-degree, root-radicand, fit-one}
 use Rattle.program.proofs.TermSteps.{opens-term, opens-sequence, opens-interval, opens-period, sign, factor, named-term, factor-first, base, period-mark, period-onward, tone-sign, tone-factor, tone-term}
 use Rattle.program.proofs.ListSteps.{next-place, no-more-places, system-anchor, muted-place-mark, tone-place-name, place-end, further, first, next-position, no-more-positions, muted-mark, kept-mark, tone-name, position-end, positions-may-end}
-use Rattle.program.proofs.LogicSteps.{logic-letter, order-letter, start-name, start-none, order-key, order-name}
+use Rattle.program.proofs.LogicSteps.{logic-letter, logic-harmony, order-letter, order-harmony, start-name, start-none, order-key, order-name}
+use Rattle.program.proofs.KeySteps.{harmony-opens, star, plain, starred, next-key, no-more-keys}
 
 -- the stage at each node
 abbrev stage : Node → Stage
@@ -83,16 +84,23 @@ stage TonesTerm = toneTerm
 stage TonesTermName = toneTerm
 stage TonesPosition = positions
 stage LogicName = nothing
-stage LogicKey = body Logic
+stage LogicTrigger = body Logic
 stage LogicLetter = body Logic
 stage LogicEquals = start
 stage LogicStart = start
 stage LogicOpen = orders
-stage OrderKey = orders
+stage OrderTrigger = orders
 stage OrderLetter = orders
 stage OrderArrow = order
 stage OrderName = order
 stage LogicNext = nothing
+stage HarmonyName = nothing
+stage HarmonyEquals = body Harmony
+stage HarmonyOpen = body Harmony
+stage HarmonyKey = key
+stage HarmonyStarred = key
+stage HarmonyComma = keys
+stage HarmonyNext = nothing
 
 -- a rule leads from stage P to the stage of its next node
 abbrev Good : Stage → Rule → Type 0
@@ -110,7 +118,7 @@ no-more-orders : Ending orders
 no-more-orders s = no-order
 
 new-block : {P : Stage} → Ending P → Each (Good P) blocks
-new-block end = (ending end, (ending end, (ending end, (ending end, (ending end, (ending end, tt))))))
+new-block end = (ending end, (ending end, (ending end, (ending end, (ending end, (ending end, (ending end, tt)))))))
 
 same-body : {t : Terminal} {k : Kind} → Move t (body k) Pass (body k)
 same-body = passing (λ s is c. c)
@@ -178,16 +186,23 @@ good TonesTermName = (tone-term, (tone-term, tt))
 good TonesPosition =
     (muted-mark further next-position, (muted-mark further no-more-positions, (kept-mark further, (tone-name further, (tone-name further, tt)))))
 good LogicName = (declaring whole, (declaring whole, tt))
-good LogicKey = (same-body, tt)
+good LogicTrigger = (same-body, (logic-harmony, (logic-harmony, tt)))
 good LogicLetter = (logic-letter, tt)
 good LogicEquals = (passing (λ s is c. c), tt)
 good LogicStart = (start-none, (start-name, (start-name, tt)))
 good LogicOpen = (passing (λ s is c. c), tt)
-good OrderKey = (order-key, (ending no-more-orders, tt))
+good OrderTrigger = (order-key, (order-harmony, (order-harmony, (ending no-more-orders, tt))))
 good OrderLetter = (order-letter, tt)
 good OrderArrow = (passing (λ s is c. c), tt)
 good OrderName = (order-name, (order-name, tt))
 good LogicNext = (declaring whole, (declaring whole, new-block whole))
+good HarmonyName = (declaring whole, (declaring whole, tt))
+good HarmonyEquals = (same-body, tt)
+good HarmonyOpen = (harmony-opens, tt)
+good HarmonyKey = (star, (plain, tt))
+good HarmonyStarred = (starred, tt)
+good HarmonyComma = (next-key, (ending no-more-keys, tt))
+good HarmonyNext = (declaring whole, (declaring whole, new-block whole))
 
 -- the rule that is picked for a terminal is one of the list, and is for that terminal
 picked-good : (F : Rule → Type 0) (rs : List Rule) (t : Terminal) {r : Rule} → Each F rs → picked rs t ≡ some r → F r × (t ≡ r .symbol)

@@ -6,6 +6,7 @@ use Rattle.symbols.specs.Symbols as symbolsSymbols
 use Rattle.symbols.specs.Names as symbolsNames
 use Rattle.symbols.specs.Words as symbolsWords
 use Rattle.numerals.specs.Numbers as numeralsNumbers
+use Rattle.sets.specs.Sets as sets
 use Rattle.grammar.specs.Syntax as grammarSyntax
 use Rattle.grammar.specs.Terminals as grammarTerminals
 use Rattle.grammar.specs.Reading as grammarReading
@@ -19,11 +20,13 @@ use Rattle.program.specs.Text as Text
 use Rattle.cents.specs.Sums.{Hold}
 use Rattle.program.specs.CaseS.{text, program}
 use Rattle.program.specs.TwoLogics as twoLogics
+use Rattle.program.specs.Chords as chords
 use Rattle.program.specs.Verdicts.{verdicts}
 
 -- all at once, since what is computed is opened at each
-read : (Text.readText text ≡ Text.accepted program) × (Text.readText twoLogics.text ≡ Text.accepted twoLogics.program) × Hold verdicts
-unfolding Hold verdicts leadingZeros grammarSyntax.rules symbolsBytes.isBlank symbolsBytes.isDigit symbolsBytes.isHexDigit symbolsBytes.isCapital
+read : (Text.readText text ≡ Text.accepted program) × (Text.readText twoLogics.text ≡ Text.accepted twoLogics.program)
+    × (Text.readText chords.text ≡ Text.accepted chords.program) × Hold verdicts
+unfolding Hold verdicts leadingZeros sets.has sets.added grammarSyntax.rules symbolsBytes.isBlank symbolsBytes.isDigit symbolsBytes.isHexDigit symbolsBytes.isCapital
     symbolsBytes.isLetter symbolsBytes.inName symbolsBytes.small symbolsBytes.takeWhile symbolsBytes.same symbolsSymbols.marks symbolsSymbols.markIn
     symbolsSymbols.markOr symbolsSymbols.markAt symbolsSymbols.runEnd symbolsSymbols.digitsTo symbolsSymbols.pointed symbolsSymbols.decimalAt
     symbolsSymbols.hexAt symbolsSymbols.symbolAt symbolsSymbols.nextSymbol symbolsSymbols.after symbolsSymbols.cut symbolsSymbols.symbolsFrom
@@ -35,8 +38,9 @@ unfolding Hold verdicts leadingZeros grammarSyntax.rules symbolsBytes.isBlank sy
     namesNames.meanings valuesValues.plus valuesValues.total valuesValues.shifted valuesValues.ranged valuesValues.valueAt valuesValues.anyOf valuesValues.leads
     valuesValues.isBeyond valuesValues.firstFrom valuesValues.verdict valuesValues.outcome valuesValues.number valuesValues.numbers valuesValues.handed
     valuesValues.valueTable centsLog.highestBit centsLog.bits centsLog.L centsMeasure.nearest centsMeasure.measure Program.termsOf Program.systemPositionsOf
-    Program.grouped Program.ordered Program.startOf Program.partsOf Program.programOf Meaning.valueOf Meaning.valued Text.readText
-read = (refl, refl, (refl, (refl, (refl, (refl, (refl, (refl, (refl, (refl, (refl, (refl, (refl, (refl, (refl, tt))))))))))))))
+    Program.grouped Program.ordered Program.startOf Program.keysOf Program.partsOf Program.programOf Meaning.valueOf Meaning.valued Text.readText
+read =
+    (refl, refl, refl, (refl, (refl, (refl, (refl, (refl, (refl, (refl, (refl, (refl, (refl, (refl, (refl, (refl, (refl, (refl, (refl, (refl, (refl, (refl, (refl, (refl, (refl, tt)))))))))))))))))))))))
 
 pub case-s-read : Text.readText text ≡ Text.accepted program
 case-s-read = read .0
@@ -44,6 +48,9 @@ case-s-read = read .0
 pub two-logics-read : Text.readText twoLogics.text ≡ Text.accepted twoLogics.program
 two-logics-read = read .1
 
+pub chords-read : Text.readText chords.text ≡ Text.accepted chords.program
+chords-read = read .2
+
 -- each of the texts of specs/Verdicts.antt is read as it says
 pub verdicts-hold : Hold verdicts
-verdicts-hold = read .2
+verdicts-hold = read .3

@@ -8,7 +8,7 @@ use Prim.Native.Nat.{ℕ, zero, suc, _+_, _≤_, _<_, _^_}
 use lib.Dec.{eqb}
 use lib.ListN.{length}
 use Rattle.grammar.specs.declared.Kind.{Kind}
-use Rattle.grammar.specs.declared.Kind.the-variants.{Interval, Tone, System, Retuning, Logic, Order as AnOrder}
+use Rattle.grammar.specs.declared.Kind.the-variants.{Interval, Tone, System, Retuning, Logic, Order as AnOrder, Harmony}
 use Rattle.grammar.specs.Moves.{kindNumber}
 use Rattle.grammar.specs.Reading.{limit, mostTerms, mostPositions}
 use Rattle.names.specs.Parts as parts
@@ -16,9 +16,11 @@ use Rattle.names.specs.Names.{meant}
 use Rattle.tuning.specs.declared.Operator.the-variants.{Plus, Minus, Times, Divide}
 use Rattle.tuning.specs.declared.Amount.{Amount}
 use Rattle.tuning.specs.declared.Amount.the-variants.{Kept, Absolute, Relative}
-use Rattle.limits.specs.Limits.{mostPart, mostDegree, mostFactor, mostAnchor, leastDivisor, mostAmount, firstLetter, lastLetter}
+use Rattle.limits.specs.Limits.{mostPart, mostDegree, mostFactor, mostAnchor, leastDivisor, mostAmount, firstLetter, lastLetter, mostHarmonyKey, mostHarmonyKeys}
+use Rattle.sets.specs.Sets.{has, added}
+use Rattle.harmonies.specs.Harmonies.{HarmonyKey}
 use Rattle.values.specs.Values.{Term}
-use Rattle.program.specs.Program.{Declaration, ratio, root, sequence, frequency, from, system, anchor, width, freshPeriod, onwardPeriod, tones, logic, Placed, Program, Position, mute, kept, named, Order}
+use Rattle.program.specs.Program.{Declaration, ratio, root, sequence, frequency, from, system, anchor, width, freshPeriod, onwardPeriod, tones, logic, harmony, Placed, Program, Position, mute, kept, named, Trigger, byLetter, byHarmony, Order}
 use Rattle.program.specs.Meaning.{declarationAt}
 
 -- ---- numbers
@@ -70,6 +72,7 @@ kindOf (freshPeriod ts) = Retuning
 kindOf (onwardPeriod ts) = Retuning
 kindOf (tones l) = Retuning
 kindOf (logic c s os) = Logic
+kindOf (harmony ks) = Harmony
 
 abbrev pub isKind : Kind → List Kind → Bool
 isKind k [] = false
@@ -115,8 +118,12 @@ abbrev pub FitStart : Program → Option ℕ → Type 0
 FitStart p none = Unit
 FitStart p (some k) = Refers p (meant parts.start) k
 
+abbrev pub FitTrigger : Program → Trigger → Type 0
+FitTrigger p (byLetter c) = Letter c
+FitTrigger p (byHarmony k) = Refers p (meant parts.trigger) k
+
 pub record FitOrder (p : Program) (o : Order) : Type 0 where
-  pub letter : Letter (o .letter)
+  pub trigger : FitTrigger p (o .trigger)
   pub calls : Refers p (meant parts.order) (o .calls)
 
 -- "anchor in a tone system: whole, 0 to 127"
@@ -130,10 +137,22 @@ pub record FitTones (p : Program) (l : List Position) : Type 0 where
   pub positions : Positions (length l)
   pub each : Each (FitPosition p) l
 
-pub record FitLogic (p : Program) (c : ℕ) (s : Option ℕ) (os : List Order) : Type 0 where
-  pub letter : Letter c
+pub record FitLogic (p : Program) (c : Trigger) (s : Option ℕ) (os : List Order) : Type 0 where
+  pub trigger : FitTrigger p c
   pub start : FitStart p s
   pub orders : Each (FitOrder p) os
+
+-- "3 also for .. a number named twice": no key is one of a set, nor one of those before it
+abbrev pub NamedOnce : ℕ → List HarmonyKey → Type 0
+NamedOnce set [] = Unit
+NamedOnce set (k ∷ ks) = (has set (k .key) ≡ false) × NamedOnce (added set (k .key)) ks
+
+-- "key numbers from 0 to 59", "at most 60 keys"; empty braces are refused
+pub record FitHarmony (ks : List HarmonyKey) : Type 0 where
+  pub some : 1 ≤ length ks
+  pub few : length ks ≤ mostHarmonyKeys
+  pub each : Each (λ (k : HarmonyKey). k .key ≤ mostHarmonyKey) ks
+  pub once : NamedOnce 0 ks
 
 abbrev pub Fits : Program → Declaration → Type 0
 Fits p (ratio a b) = Decimal a × Decimal b
@@ -148,6 +167,7 @@ Fits p (freshPeriod ts) = Terms p ts
 Fits p (onwardPeriod ts) = Terms p ts
 Fits p (tones l) = FitTones p l
 Fits p (logic c s os) = FitLogic p c s os
+Fits p (harmony ks) = FitHarmony ks
 
 -- ---- counts
 
@@ -174,12 +194,13 @@ orderCount (freshPeriod ts) = 0
 orderCount (onwardPeriod ts) = 0
 orderCount (tones l) = 0
 orderCount (logic c s os) = length os
+orderCount (harmony ks) = 0
 
 unfoldable pub ordersIn : Program → ℕ
 ordersIn [] = 0
 ordersIn (d ∷ ds) = orderCount (d .is) + ordersIn ds
 
--- "intervals, tones: 256 each; tone systems, logics: 32 each; retunings: 128; orders in all logics together: 512"
+-- "intervals, tones: 256 each; tone systems, logics: 32 each; retunings: 128; orders in all logics together: 512"; "at most 64 harmonies"
 pub record Allowed (p : Program) : Type 0 where
   pub few : (k : Kind) → countOf k p ≤ limit k
   pub orders : ordersIn p ≤ limit AnOrder

@@ -5,4 +5,5 @@ pub mod Allowed
 pub mod Text
 pub mod CaseS
 pub mod TwoLogics
+pub mod Chords
 pub mod Verdicts

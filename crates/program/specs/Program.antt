@@ -1,4 +1,4 @@
--- What a text declares: document 01, "Declarations". The declarations are numbered 0, 1, 2, .. in the order of the text, and refer to each other by
+-- What a text declares: document 01, "Declarations"; document 02, 5/13. The declarations are numbered 0, 1, 2, .. in the order of the text, and refer to each other by
 -- these numbers. Ratio parts, radicands and frequencies are in ten-thousandths.
 use mathlib.Core.Bool.{Bool, true, false}
 use mathlib.Core.List.{List, [], _∷_}
@@ -13,6 +13,7 @@ use Rattle.tuning.specs.declared.Operator.the-variants.{Plus, Minus, Times, Div
 use Rattle.tuning.specs.declared.Amount.{Amount}
 use Rattle.tuning.specs.declared.Amount.the-variants.{Kept, Absolute, Relative}
 use Rattle.values.specs.Values.{Term}
+use Rattle.harmonies.specs.Harmonies.{HarmonyKey}
 
 -- ---- declarations
 
@@ -22,9 +23,14 @@ pub data Position : Type 0 where
   kept : List Term → Position
   named : ℕ → List Term → Position
 
+-- what a logic or an order waits for: "`KEY letter`", as a capital; or a harmony, by the number of its declaration: "Its bare name is a trigger beside
+-- `KEY letter`, in logics and orders"
+pub data Trigger : Type 0 where
+  byLetter byHarmony : ℕ → Trigger
+
 -- "orders, if any, are each `KEY letter -> name`"
 pub record Order : Type 0 where
-  pub letter : ℕ
+  pub trigger : Trigger
   pub calls : ℕ
 
 pub data Declaration : Type 0 where
@@ -40,13 +46,15 @@ pub data Declaration : Type 0 where
   anchor width : Amount → Declaration
   freshPeriod onwardPeriod : List Term → Declaration
   tones : List Position → Declaration
-  -- a logic: its letter, its start, its orders
-  logic : ℕ → Option ℕ → List Order → Declaration
+  -- a logic: its trigger, its start, its orders
+  logic : Trigger → Option ℕ → List Order → Declaration
+  -- a harmony: "by key numbers from 0 to 59 in braces; a star before a number means that it may be held or not"
+  harmony : List HarmonyKey → Declaration
 
--- a declaration as letters see it: a logic, with its letter, its start and its orders, or none
+-- a declaration as triggers see it: a logic, with its trigger, its start and its orders, or none
 pub data AsLogic : Type 0 where
   no-logic : AsLogic
-  a-logic : ℕ → Option ℕ → List Order → AsLogic
+  a-logic : Trigger → Option ℕ → List Order → AsLogic
 
 abbrev pub asLogic : Declaration → AsLogic
 asLogic (ratio p q) = no-logic
@@ -61,6 +69,27 @@ asLogic (freshPeriod ts) = no-logic
 asLogic (onwardPeriod ts) = no-logic
 asLogic (tones l) = no-logic
 asLogic (logic c s os) = a-logic c s os
+asLogic (harmony ks) = no-logic
+
+-- and a harmony, with its keys, or none
+pub data AsHarmony : Type 0 where
+  no-harmony : AsHarmony
+  a-harmony : List HarmonyKey → AsHarmony
+
+abbrev pub asHarmony : Declaration → AsHarmony
+asHarmony (ratio p q) = no-harmony
+asHarmony (root a b) = no-harmony
+asHarmony (sequence ts) = no-harmony
+asHarmony (frequency f) = no-harmony
+asHarmony (from k ts) = no-harmony
+asHarmony (system a l ts) = no-harmony
+asHarmony (anchor m) = no-harmony
+asHarmony (width m) = no-harmony
+asHarmony (freshPeriod ts) = no-harmony
+asHarmony (onwardPeriod ts) = no-harmony
+asHarmony (tones l) = no-harmony
+asHarmony (logic c s os) = no-harmony
+asHarmony (harmony ks) = a-harmony ks
 
 -- a declaration and the place of its name
 pub record Placed : Type 0 where
@@ -72,18 +101,24 @@ Program = List Placed
 
 -- ---- the parts of a declaration, in the order of the text
 
--- a part as the lists of a declaration see it: a term, a position, a start, a letter, what an order calls, or none of these
+-- a part as the lists of a declaration see it: a term, a position, a start, a trigger, what an order calls, a key of a harmony, or none of these
 pub data AsListed : Type 0 where
   unlisted : AsListed
   a-term : Term → AsListed
   muted-position kept-position : AsListed
   tone-position : ℕ → AsListed
   a-start : ℕ → AsListed
-  a-letter : ℕ → AsListed
+  a-trigger : Trigger → AsListed
   a-call : ℕ → AsListed
+  a-key : HarmonyKey → AsListed
+
+abbrev pub keyOf : ℕ → Bool → HarmonyKey
+keyOf v star = record { key = v; starred = star }
 
 abbrev pub givenListed : Given → ℕ → AsListed
-givenListed parts.letter c = a-letter c
+givenListed parts.letter c = a-trigger (byLetter c)
+givenListed parts.key v = a-key (keyOf v false)
+givenListed parts.starredKey v = a-key (keyOf v true)
 givenListed parts.ratio a = unlisted
 givenListed parts.root a = unlisted
 givenListed parts.frequency a = unlisted
@@ -104,6 +139,7 @@ useListed parts.base f n = unlisted
 useListed parts.position f n = tone-position n
 useListed parts.start f n = a-start n
 useListed parts.order f n = a-call n
+useListed parts.trigger f n = a-trigger (byHarmony n)
 
 abbrev pub markListed : Said → AsListed
 markListed parts.muted = muted-position
@@ -127,8 +163,9 @@ withTerm muted-position ts = ts
 withTerm kept-position ts = ts
 withTerm (tone-position n) ts = ts
 withTerm (a-start n) ts = ts
-withTerm (a-letter c) ts = ts
+withTerm (a-trigger c) ts = ts
 withTerm (a-call n) ts = ts
+withTerm (a-key k) ts = ts
 
 abbrev pub termThen : Part → List Term → List Term
 termThen p ts = withTerm (asListed p) ts
@@ -145,8 +182,9 @@ withSystemPosition unlisted l = l
 withSystemPosition (a-term t) l = l
 withSystemPosition kept-position l = l
 withSystemPosition (a-start n) l = l
-withSystemPosition (a-letter c) l = l
+withSystemPosition (a-trigger c) l = l
 withSystemPosition (a-call n) l = l
+withSystemPosition (a-key k) l = l
 
 abbrev pub systemPositionThen : Part → List (Option ℕ) → List (Option ℕ)
 systemPositionThen p l = withSystemPosition (asListed p) l
@@ -167,8 +205,9 @@ withGroup kept-position g = record { before = []; positions = kept (g .before) �
 withGroup (tone-position n) g = record { before = []; positions = named n (g .before) ∷ g .positions }
 withGroup unlisted g = g
 withGroup (a-start n) g = g
-withGroup (a-letter c) g = g
+withGroup (a-trigger c) g = g
 withGroup (a-call n) g = g
+withGroup (a-key k) g = g
 
 abbrev pub groupThen : Part → Grouped → Grouped
 groupThen p g = withGroup (asListed p) g
@@ -182,12 +221,12 @@ pub record Ordered : Type 0 where
   pub call : Option ℕ
   pub orders : List Order
 
-abbrev pub triggeredBy : ℕ → Option ℕ → List Order → Ordered
+abbrev pub triggeredBy : Trigger → Option ℕ → List Order → Ordered
 triggeredBy c none l = record { call = none; orders = l }
-triggeredBy c (some n) l = record { call = none; orders = record { letter = c; calls = n } ∷ l }
+triggeredBy c (some n) l = record { call = none; orders = record { trigger = c; calls = n } ∷ l }
 
 abbrev pub withOrder : AsListed → Ordered → Ordered
-withOrder (a-letter c) g = triggeredBy c (g .call) (g .orders)
+withOrder (a-trigger c) g = triggeredBy c (g .call) (g .orders)
 withOrder (a-call n) g = record { call = some n; orders = g .orders }
 withOrder unlisted g = record { call = none; orders = g .orders }
 withOrder (a-term t) g = record { call = none; orders = g .orders }
@@ -195,6 +234,7 @@ withOrder muted-position g = record { call = none; orders = g .orders }
 withOrder kept-position g = record { call = none; orders = g .orders }
 withOrder (tone-position n) g = record { call = none; orders = g .orders }
 withOrder (a-start n) g = record { call = none; orders = g .orders }
+withOrder (a-key k) g = record { call = none; orders = g .orders }
 
 abbrev pub orderThen : Part → Ordered → Ordered
 orderThen p g = withOrder (asListed p) g
@@ -214,8 +254,9 @@ withStart (a-term t) s = s
 withStart muted-position s = s
 withStart kept-position s = s
 withStart (tone-position n) s = s
-withStart (a-letter c) s = s
+withStart (a-trigger c) s = s
 withStart (a-call n) s = s
+withStart (a-key k) s = s
 
 abbrev pub startThen : Part → Option ℕ → Option ℕ
 startThen p s = withStart (asListed p) s
@@ -223,6 +264,25 @@ startThen p s = withStart (asListed p) s
 unfoldable pub startOf : List Item → Option ℕ
 startOf [] = none
 startOf (i ∷ is) = startThen (part i) (startOf is)
+
+-- the keys of a harmony
+abbrev pub withKey : AsListed → List HarmonyKey → List HarmonyKey
+withKey (a-key k) ks = k ∷ ks
+withKey unlisted ks = ks
+withKey (a-term t) ks = ks
+withKey muted-position ks = ks
+withKey kept-position ks = ks
+withKey (tone-position n) ks = ks
+withKey (a-start n) ks = ks
+withKey (a-trigger c) ks = ks
+withKey (a-call n) ks = ks
+
+abbrev pub keyThen : Part → List HarmonyKey → List HarmonyKey
+keyThen p ks = withKey (asListed p) ks
+
+unfoldable pub keysOf : List Item → List HarmonyKey
+keysOf [] = []
+keysOf (i ∷ is) = keyThen (part i) (keysOf is)
 
 -- ---- a declaration from its parts, of which the first tells the form; `rest` are the parts after it
 
@@ -239,7 +299,9 @@ byNumber parts.widthUp a b rest = width (Relative Plus a)
 byNumber parts.widthDown a b rest = width (Relative Minus a)
 byNumber parts.widthTimes a b rest = width (Relative Times a)
 byNumber parts.widthOver a b rest = width (Relative Divide a)
-byNumber parts.letter a b rest = logic a (startOf rest) (ordersOf rest)
+byNumber parts.letter a b rest = logic (byLetter a) (startOf rest) (ordersOf rest)
+byNumber parts.key a b rest = harmony (keyOf a false ∷ keysOf rest)
+byNumber parts.starredKey a b rest = harmony (keyOf a true ∷ keysOf rest)
 
 -- (no text gives a start or an order without its logic, nor a declaration without a part: any value serves there)
 abbrev pub byUse : Use → ℕ → ℕ → Item → List Item → Declaration
@@ -249,6 +311,7 @@ byUse parts.base f n i rest = from n (termsOf rest)
 byUse parts.position f n i rest = tones (grouped (i ∷ rest) .positions)
 byUse parts.start f n i rest = sequence []
 byUse parts.order f n i rest = sequence []
+byUse parts.trigger f n i rest = logic (byHarmony n) (startOf rest) (ordersOf rest)
 
 -- `[ ]` and then a sequence, or `@` and then terms
 abbrev pub periodBy : Part → List Item → List Item → Declaration

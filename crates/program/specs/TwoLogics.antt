@@ -8,7 +8,7 @@ use Rattle.ascii.specs.Ascii.{byte, bytes}
 use Rattle.values.specs.Values.{Term}
 use Rattle.tuning.specs.declared.Operator.the-variants.{Plus, Minus}
 use Rattle.tuning.specs.declared.Amount.the-variants.{Absolute, Relative}
-use Rattle.program.specs.Program.{Order, ratio, frequency, from, system, anchor, width, logic, Program}
+use Rattle.program.specs.Program.{Order, ratio, frequency, from, system, anchor, width, logic, byLetter, Program}
 use Rattle.program.specs.CaseS.{placed}
 
 abbrev pub text : List ℕ
@@ -18,7 +18,7 @@ abbrev pub plus : ℕ → Term
 plus k = record { minus = false; factor = 1; of = k }
 
 abbrev pub on : ℕ → ℕ → Order
-on letter k = record { letter = letter; calls = k }
+on letter k = record { trigger = byLetter letter; calls = k }
 
 -- Octave, Fifth, a, e, Two, One, Up, Down, Wide, L and K, numbered from 0, each with the place of its name
 abbrev pub program : Program
@@ -32,6 +32,6 @@ program =
     ∷ placed 131 (anchor (Relative Plus 1))
     ∷ placed 146 (anchor (Relative Minus 1))
     ∷ placed 163 (width (Absolute 61))
-    ∷ placed 189 (logic (byte "M") (some 4) (on (byte "U") 6 ∷ on (byte "D") 7 ∷ on (byte "W") 8 ∷ []))
-    ∷ placed 247 (logic (byte "N") (some 5) (on (byte "U") 7 ∷ on (byte "V") 9 ∷ []))
+    ∷ placed 189 (logic (byLetter (byte "M")) (some 4) (on (byte "U") 6 ∷ on (byte "D") 7 ∷ on (byte "W") 8 ∷ []))
+    ∷ placed 247 (logic (byLetter (byte "N")) (some 5) (on (byte "U") 7 ∷ on (byte "V") 9 ∷ []))
     ∷ []

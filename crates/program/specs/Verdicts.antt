@@ -33,4 +33,18 @@ verdicts =
     ∷ (readText (bytes "INTERVAL o = 2 : 1 p = 999 o") gives refused valueOutOfRange 19)
     -- 8 at what uses it 0 times, where that is earlier
     ∷ (readText (bytes "INTERVAL o = 2 : 1 q = 0 p p = 999 o") gives refused valueOutOfRange 19)
+    -- document 02, 5/13: 3 for empty braces, and for a comma without a number
+    ∷ (readText (bytes "HARMONY C = { }") gives refused symbolNotAllowed 14)
+    ∷ (readText (bytes "HARMONY C = { 0, }") gives refused symbolNotAllowed 17)
+    -- 3 at the second number, with a star or without
+    ∷ (readText (bytes "HARMONY C = { 0, 4, 0 }") gives refused symbolNotAllowed 20)
+    ∷ (readText (bytes "HARMONY C = { 0, 4, *4 }") gives refused symbolNotAllowed 21)
+    -- 4 above 59, or for a point
+    ∷ (readText (bytes "HARMONY C = { 60 }") gives refused numberOutOfRange 14)
+    ∷ (readText (bytes "HARMONY C = { 0, 0.0 }") gives refused numberOutOfRange 17)
+    -- 5, and 6 at a trigger
+    ∷ (readText (bytes "HARMONIE C = { 0, 4 } C = { 1 }") gives refused nameTwice 22)
+    ∷ (readText (bytes "LOGIC L C = x [ D -> y ]") gives refused nameNotDeclared 8)
+    -- 3 where a trigger lacks
+    ∷ (readText (bytes "HARMONY C = { 0 } LOGIC L = [ ]") gives refused symbolNotAllowed 26)
     ∷ []
