@@ -15,7 +15,7 @@ use Rattle.values.specs.Values as values
 use Rattle.values.specs.Values.{Own}
 use Rattle.values.specs.Rows.{rows, termsPerRow, codeOf}
 use Rattle.program.specs.Program.{Declaration, ratio, root, sequence, frequency, from, system}
-use Rattle.program.specs.Program.{anchor, width, freshPeriod, onwardPeriod, tones, logic}
+use Rattle.program.specs.Program.{anchor, width, freshPeriod, onwardPeriod, tones, logic, harmony}
 use Rattle.program.specs.Program.{Program, termThen, termsOf, periodBy, periodOf, byPart, declarationOf}
 use Rattle.program.specs.Meaning.{ownOf}
 use Rattle.program.specs.Allowed.{Each, FitTerm, Fits}
@@ -41,12 +41,15 @@ terms-by (gives parts.widthDown a b) ts = refl
 terms-by (gives parts.widthTimes a b) ts = refl
 terms-by (gives parts.widthOver a b) ts = refl
 terms-by (gives parts.letter a b) ts = refl
+terms-by (gives parts.key a b) ts = refl
+terms-by (gives parts.starredKey a b) ts = refl
 terms-by (uses parts.add f n) ts = refl
 terms-by (uses parts.subtract f n) ts = refl
 terms-by (uses parts.base f n) ts = refl
 terms-by (uses parts.position f n) ts = refl
 terms-by (uses parts.start f n) ts = refl
 terms-by (uses parts.order f n) ts = refl
+terms-by (uses parts.trigger f n) ts = refl
 terms-by (says parts.muted) ts = refl
 terms-by (says parts.kept) ts = refl
 terms-by (says parts.anchorKept) ts = refl
@@ -100,6 +103,8 @@ module _ (p : Program) (few : length p ≤ rows) where
   valued-by i is (gives parts.widthTimes a b) e = plain refl
   valued-by i is (gives parts.widthOver a b) e = plain refl
   valued-by i is (gives parts.letter a b) e = plain refl
+  valued-by i is (gives parts.key a b) e = plain refl
+  valued-by i is (gives parts.starredKey a b) e = plain refl
   valued-by i is (uses parts.add f n) e = record { own = refl; measurable = λ _. tt }
   valued-by i is (uses parts.subtract f n) e = record { own = refl; measurable = λ _. tt }
   valued-by i is (uses parts.base f n) e =
@@ -107,6 +112,7 @@ module _ (p : Program) (few : length p ≤ rows) where
   valued-by i is (uses parts.position f n) e = plain refl
   valued-by i is (uses parts.start f n) e = plain refl
   valued-by i is (uses parts.order f n) e = plain refl
+  valued-by i is (uses parts.trigger f n) e = plain refl
   valued-by i is (says parts.muted) e = plain refl
   valued-by i is (says parts.kept) e = plain refl
   valued-by i is (says parts.anchorKept) e = plain refl
@@ -145,6 +151,7 @@ module _ (p : Program) (n : ℕ) (h : length p ≤ n) where
   own-small (onwardPeriod ts) w = (omega arith, tt)
   own-small (tones l) w = (omega arith, tt)
   own-small (logic c s os) w = (omega arith, tt)
+  own-small (harmony ks) w = (omega arith, tt)
 
 pub gatherable : (p : Program) → length p ≤ rows → (is : List Item) → Fits p (declarationOf is) → Gatherable is
 gatherable p h is w =

@@ -53,12 +53,15 @@ contentOf (gives parts.widthDown a b) = Nothing
 contentOf (gives parts.widthTimes a b) = Nothing
 contentOf (gives parts.widthOver a b) = Nothing
 contentOf (gives parts.letter a b) = Nothing
+contentOf (gives parts.key a b) = Nothing
+contentOf (gives parts.starredKey a b) = Nothing
 contentOf (uses parts.add f n) = Term false f n
 contentOf (uses parts.subtract f n) = Term true f n
 contentOf (uses parts.base f n) = Tone n
 contentOf (uses parts.position f n) = Nothing
 contentOf (uses parts.start f n) = Nothing
 contentOf (uses parts.order f n) = Nothing
+contentOf (uses parts.trigger f n) = Nothing
 contentOf (says m) = Nothing
 
 -- the first of a declaration's items tells the form of its value
