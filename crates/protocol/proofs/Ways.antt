@@ -1,15 +1,14 @@
 -- The ways through a frame. Assumes nothing.
 use mathlib.Core.Path.{_≡_, refl, sym, ap, _∙_, subst}
-use mathlib.Core.Bool.{Bool, true, false, cond, _&&_}
+use mathlib.Core.Bool.{Bool, true, false, _&&_}
 use mathlib.Core.List.{List, [], _∷_}
 use Prim.Native.Nat.{ℕ, _≤_, _<_}
 use borrow.Author.Tests.{lt-ltb, le-ltb, leb-true}
 use types.Run.{OneOf, miss}
 use denote.Enum.Declared.{tagOf}
 use lib.ListN.{length}
-use Rattle.status.specs.Status.{bufferTooSmall, letterUnbound, tableDamaged}
+use Rattle.status.specs.Status.{bufferTooSmall, tableDamaged}
 use Rattle.tuning.specs.State.{held, heard, toneOf, validState}
-use Rattle.tuning.specs.declared.Reply.{Reply}
 use Rattle.tuning.specs.declared.Tone.{Tone}
 use Rattle.tuning.proofs.Lists.{both}
 use Rattle.tuning.proofs.Held.{heard-tone}
@@ -25,11 +24,11 @@ use Rattle.answers.specs.Answer.{letterBytes, keyBytes, smallestBuffer}
 use Rattle.protocol.specs.declared.Desk.{Desk}
 use Rattle.protocol.specs.declared.Answered.{Answered}
 use Rattle.protocol.specs.declared.Told.{Told}
-use Rattle.protocol.specs.declared.letters.Press.{Press}
-use Rattle.protocol.specs.Letters.{Pressed, pressed}
-use Rattle.protocol.specs.Answers.{tuningFrom, madeFrom, lastNumber, Outcome, letterOutcome, soundAt, keyNumber, keyOutcome, frameOutcome}
+use Rattle.protocol.specs.declared.Stepped.{Stepped}
+use Rattle.protocol.specs.Steps.{letterStep}
+use Rattle.protocol.specs.Answers.{Outcome, letterOutcome, soundAt, keyNumber, keyOutcome, frameOutcome}
 use Rattle.protocol.specs.Answers.{activeRight, validDesk, unchanged, answerOf, Gives}
-use Rattle.protocol.specs.Inner.{callsOf, pressedBy, Ready, toldOutcome, Tells}
+use Rattle.protocol.specs.Inner.{stepLeaves, Ready, toldOutcome, Tells}
 
 -- what gives an outcome gives an equal one
 pub gives : {r : Answered} {before after : List ℕ} {o q : Outcome} → o ≡ q → Gives o r before after → Gives q r before after
@@ -57,6 +56,9 @@ module _ (t : Tables) (d : Desk) where
       let a = both (validTables t && validState (d .tuning)) (activeRight t (d .active)) h in
       let b = both (validTables t) (validState (d .tuning)) (a .0) in
       record { tables = b .0; state = b .1; active = a .1; room = l }
+
+  pub ready-valid : {buffer : List ℕ} → Ready t d buffer → validDesk t d ≡ true
+  ready-valid r = rw (r .tables, r .state, r .active)
 
   pub tables-right : validDesk t d ≡ true → validTables t ≡ true
   tables-right h = both (validTables t) (validState (d .tuning)) (both (validTables t && validState (d .tuning)) (activeRight t (d .active)) h .0) .0
@@ -118,30 +120,19 @@ told-gives t d (Dump house) h r = record { desk = refl; number = r .number; size
 -- ---- a letter
 
 module _ (t : Tables) (d : Desk) (house letter : ℕ) where
-  -- by what the letter comes to
-  abbrev outcome : Pressed → Outcome
-  outcome x =
-      let s = tuningFrom t (d .tuning) (x .calls) in
-      let ms = madeFrom t (d .tuning) (x .calls) in
-      let n = cond (x .bound) (lastNumber ms) letterUnbound in
-      record { desk = record { tuning = s; active = x .active }; number = n; made = ms; line = lineOf (letterBytes house letter n (held s)) }
+  -- by the desk and the number that the step leaves
+  abbrev pub outcome : Stepped → Outcome
+  outcome r =
+      record {
+        desk = r .desk;
+        number = r .number;
+        made = letterStep t house d letter .made;
+        line = lineOf (letterBytes house letter (r .number) (held (r .desk .tuning)));
+      }
 
-  pub letter-gives : (p : Press) (q : Reply) (n : ℕ) → pressedBy p ≡ pressed t (d .active) letter
-      → q .state ≡ tuningFrom t (d .tuning) (callsOf (p .called)) → q .number ≡ lastNumber (madeFrom t (d .tuning) (callsOf (p .called)))
-      → n ≡ cond (p .bound) (q .number) letterUnbound
-      → _≡_ {A = Outcome} (record {
-        desk = record { tuning = q .state; active = p .active };
-        number = n;
-        made = madeFrom t (d .tuning) (callsOf (p .called));
-        line = lineOf (letterBytes house letter n (held (q .state)));
-      }) (letterOutcome t d house letter)
+  pub letter-gives : {r : Stepped} → r ≡ stepLeaves (letterStep t house d letter) → outcome r ≡ letterOutcome t d house letter
   unfolding letterOutcome
-  letter-gives p q n e f g h = rw (h, g, f) (ap outcome e)
-
-  pub letter-desk : let x = pressed t (d .active) letter in
-      letterOutcome t d house letter .desk ≡ record { tuning = tuningFrom t (d .tuning) (x .calls); active = x .active }
-  unfolding letterOutcome
-  letter-desk = refl
+  letter-gives e = ap outcome e
 
 -- ---- a key
 

@@ -127,7 +127,7 @@ pub fn fill_ready(
         }
         let frame = frames::decode(&held[..n]);
         if let Frame::Letter { house, letter } = frame {
-            let logic = find_indexed(index, letter);
+            let logic = find_indexed(index, letter as u16);
             let r = answer_letter(numbers, codes, d, house, letter, logic, &mut out[used..]);
             d = r.desk;
             used += r.length;

@@ -14,6 +14,9 @@ decode-requires c κs = search needs
 enum-known-taken : tie.Need-enum-known-taken
 enum-known-taken c = search needs
 
+cast-first-logic : tie.Need-cast-first-logic
+cast-first-logic c = search needs
+
 first-logic-requires : tie.Need-first-logic-requires
 first-logic-requires c κs = slices-valid (c .before .before .before .before .before .before .before .args .numbers .now) (c .before .before .before .before .before .before .before .args .codes .now) (c .before .before .before .before .before .before .before .pre .tables)
 
@@ -45,6 +48,7 @@ take-frame-spec =
     (tie.spec
     decode-requires
     enum-known-taken
+    cast-first-logic
     first-logic-requires
     answer-letter-requires
     same-length

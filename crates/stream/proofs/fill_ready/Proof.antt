@@ -116,8 +116,11 @@ decode-requires c κs = search needs
 enum-known-frame : tie.Need-enum-known-frame Inv-loop μ-loop
 enum-known-frame c = search needs
 
+cast-find-indexed : tie.Need-cast-find-indexed Inv-loop μ-loop
+cast-find-indexed c = search needs
+
 find-indexed-requires : tie.Need-find-indexed-requires Inv-loop μ-loop
-find-indexed-requires c κs = search needs
+find-indexed-requires c κs = letter-byte _ _ (c .before .frame .given .1) (c .before .before .before .decode .ensures .1)
 
 sub-answer-letter : tie.Need-sub-answer-letter Inv-loop μ-loop
 sub-answer-letter c = search needs
@@ -319,6 +322,7 @@ fill-ready-spec =
     slice-aggregate-decode
     decode-requires
     enum-known-frame
+    cast-find-indexed
     find-indexed-requires
     sub-answer-letter
     part-answer-letter-start
