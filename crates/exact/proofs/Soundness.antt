@@ -21,9 +21,7 @@ use Rattle.program.specs.Text.{accepted, readText}
 use Rattle.program.proofs.AllowedText.{accepted-allowed}
 use Rattle.filling.specs.Tables.{tablesOf}
 use Rattle.mutabor.proofs.ValidTables.{accepted-valid}
-use Rattle.frames.specs.declared.Frame.{Frame}
-use Rattle.frames.specs.declared.Frame.the-variants.{Bad, Letter, Key, Dump}
-use Rattle.frames.specs.Frames.{frameOf}
+use Rattle.frames.specs.Frames.{Frame, bad, letter, key, dump, frameOf}
 use Rattle.protocol.specs.declared.Desk.{Desk}
 use Rattle.protocol.specs.Triggers.{Sought, itself, actionAt, struck}
 use Rattle.protocol.specs.Steps.{withActive, byAction, callOn, madeFrom, lastNumber, triggered}
@@ -78,14 +76,14 @@ module _ (t : Tables) where
 
   frame-below : (d : Desk) (f : Frame) → frameOutcome t d f .number < tableDamaged
   unfolding frameOutcome letterOutcome keyOutcome
-  frame-below d Bad = omega arith
-  frame-below d (Letter house letter) = step-below house d (itself letter) (omega arith)
-  frame-below d (Key house key) = go (soundAt d (key .0))
+  frame-below d bad = omega arith
+  frame-below d (letter house c) = step-below house d (itself c) (omega arith)
+  frame-below d (key house k) = go (soundAt d k)
     where
       go : (x : Sound ℤ) → keyNumber x < tableDamaged
       go muted = omega arith
       go (sounds z) = omega arith
-  frame-below d (Dump house) = omega arith
+  frame-below d (dump house) = omega arith
 
   answer-below : (d : Desk) → validDesk t d ≡ true → (frame : List ℕ) (room : ℕ) → answerOf t d frame room .number < tableDamaged
   answer-below d h frame room =

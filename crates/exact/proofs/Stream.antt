@@ -14,9 +14,7 @@ use Rattle.tuning.proofs.Held.{ValidTuning, held-coded, length-coded, valid-cod
 use Rattle.tuning.proofs.Laws.{ValidAction, valid-stays}
 use Rattle.tables.specs.Layout.{Tables}
 use Rattle.program.specs.Program.{Program}
-use Rattle.frames.specs.declared.Frame.{Frame}
-use Rattle.frames.specs.declared.Frame.the-variants.{Bad, Letter, Key, Dump}
-use Rattle.frames.specs.Frames.{frameOf}
+use Rattle.frames.specs.Frames.{Frame, bad, letter, key, dump, frameOf}
 use Rattle.answers.specs.Answer.{smallestBuffer}
 use Rattle.status.specs.Status.{bufferTooSmall, letterUnbound, tableDamaged}
 use Rattle.protocol.specs.declared.Desk.{Desk}
@@ -126,10 +124,10 @@ module _ (t : Tables) (p : Program) (matches : AllMatch t p) where
 
   frame-kept : (d : Desk) (b : Tuning entries) → Kept (declaredIn p) (d .tuning) b → (f : Frame) → After b (frameOutcome t d f)
   unfolding frameOutcome letterOutcome keyOutcome fedBy bookFrom
-  frame-kept d b h Bad = h
-  frame-kept d b h (Letter house letter) = step-kept house d (itself letter) letterUnbound b h
-  frame-kept d b h (Key house key) = h
-  frame-kept d b h (Dump house) = h
+  frame-kept d b h bad = h
+  frame-kept d b h (letter house c) = step-kept house d (itself c) letterUnbound b h
+  frame-kept d b h (key house k) = h
+  frame-kept d b h (dump house) = h
 
   answer-kept : (d : Desk) (b : Tuning entries) → Kept (declaredIn p) (d .tuning) b → (frame : List ℕ) (room : ℕ) → After b (answerOf t d frame room)
   unfolding fedBy bookFrom

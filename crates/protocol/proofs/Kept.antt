@@ -16,9 +16,7 @@ use Rattle.tuning.proofs.Held.{coded-held}
 use Rattle.tuning.proofs.Laws.{refused-keeps}
 use Rattle.tables.specs.Layout.{Tables, AsLogic, no-logic, a-logic, asLogic, rowAt}
 use Rattle.validity.specs.Valid.{validTables}
-use Rattle.frames.specs.Frames.{frameOf}
-use Rattle.frames.specs.declared.Frame.{Frame}
-use Rattle.frames.specs.declared.Frame.the-variants.{Bad, Letter, Key, Dump}
+use Rattle.frames.specs.Frames.{Frame, bad, letter, key, dump, frameOf}
 use Rattle.answers.specs.Answer.{smallestBuffer}
 use Rattle.protocol.specs.declared.Desk.{Desk}
 use Rattle.protocol.specs.declared.Active.{Active}
@@ -65,16 +63,12 @@ module _ (t : Tables) (d : Desk) (n : length (d .tuning .tones) ≡ places) (v :
     unfolding triggered struck
     step-kept x = called-kept (named t (d .active) x)
 
-  letter-kept : (house letter : ℕ) → letterOutcome t d house letter .number ≢ 0 → letterOutcome t d house letter .desk .tuning ≡ d .tuning
-  unfolding letterOutcome
-  letter-kept house letter = step-kept house letterUnbound (itself letter)
-
   frame-kept : (f : Frame) → frameOutcome t d f .number ≢ 0 → frameOutcome t d f .desk .tuning ≡ d .tuning
-  unfolding frameOutcome keyOutcome
-  frame-kept Bad h = refl
-  frame-kept (Letter house letter) h = letter-kept house letter h
-  frame-kept (Key house key) h = refl
-  frame-kept (Dump house) h = refl
+  unfolding frameOutcome letterOutcome keyOutcome
+  frame-kept bad h = refl
+  frame-kept (letter house c) h = step-kept house letterUnbound (itself c) h
+  frame-kept (key house k) h = refl
+  frame-kept (dump house) h = refl
 
 pub frame-keeps : FrameKeeps
 unfolding FrameKeeps answerOf

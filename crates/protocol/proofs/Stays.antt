@@ -19,9 +19,7 @@ use Rattle.tables.specs.declared.Row.{Row as TableRow}
 use Rattle.tables.specs.declared.Row.the-variants.{Unused, Interval, Tone, System, Retuning, Logic}
 use Rattle.tables.specs.Layout.{Tables, rowCount, rowAt, asLogic}
 use Rattle.validity.specs.Valid.{validTables}
-use Rattle.frames.specs.Frames.{frameOf}
-use Rattle.frames.specs.declared.Frame.{Frame}
-use Rattle.frames.specs.declared.Frame.the-variants.{Bad, Letter, Key, Dump}
+use Rattle.frames.specs.Frames.{Frame, bad, letter, key, dump, frameOf}
 use Rattle.answers.specs.Answer.{smallestBuffer}
 use Rattle.protocol.specs.declared.Active.{Active}
 use Rattle.protocol.specs.declared.Active.the-variants as active
@@ -87,16 +85,12 @@ module _ (t : Tables) (v : validTables t ≡ true) where
       (record { tuning = r .tuning; active = struck-right (d .active) (r .active) x })
 
   module _ (d : Desk) (r : Right d) where
-    letter-right : (house letter : ℕ) → Right (letterOutcome t d house letter .desk)
-    unfolding letterOutcome
-    letter-right house letter = step-right d r house (itself letter) letterUnbound
-
     frame-right : (f : Frame) → Right (frameOutcome t d f .desk)
-    unfolding frameOutcome keyOutcome
-    frame-right Bad = r
-    frame-right (Letter house letter) = letter-right house letter
-    frame-right (Key house key) = r
-    frame-right (Dump house) = r
+    unfolding frameOutcome letterOutcome keyOutcome
+    frame-right bad = r
+    frame-right (letter house c) = step-right d r house (itself c) letterUnbound
+    frame-right (key house k) = r
+    frame-right (dump house) = r
 
     pub answer-right : (frame : List ℕ) (room : ℕ) → Right (answerOf t d frame room .desk)
     answer-right frame room =

@@ -13,9 +13,7 @@ use Rattle.tuning.specs.Desk.{cents}
 use Rattle.tuning.specs.State.{held, coded, validState}
 use Rattle.tables.specs.Layout.{Tables}
 use Rattle.validity.specs.Valid.{isLogic, refersTo, validTables}
-use Rattle.frames.specs.Frames.{frameOf}
-use Rattle.frames.specs.declared.Frame.{Frame}
-use Rattle.frames.specs.declared.Frame.the-variants.{Bad, Letter, Key, Dump}
+use Rattle.frames.specs.Frames.{Frame, bad, letter, key, dump, frameOf}
 use Rattle.hexadecimal.specs.Lines.{lineOf, begunWith}
 use Rattle.answers.specs.Answer.{letterBytes, keyBytes, dumpBytes, badBytes, smallestBuffer}
 use Rattle.protocol.specs.declared.Active.{Active}
@@ -41,12 +39,12 @@ abbrev pub answered : Step → List ℕ → Outcome
 answered s line = record { desk = s .desk; number = s .number; made = s .made; line = line }
 
 unfoldable pub letterOutcome : Tables → Desk → ℕ → ℕ → Outcome
-letterOutcome t d house letter =
-    let s = letterStep t house d letter in answered s (lineOf (letterBytes house letter (s .number) (held (s .desk .tuning))))
+letterOutcome t d house c =
+    let s = letterStep t house d c in answered s (lineOf (letterBytes house c (s .number) (held (s .desk .tuning))))
 
 -- what a key sounds, as the frame of kind 02 answers it
 abbrev pub soundAt : Desk → ℕ → Sound ℤ
-soundAt d key = soundOf cents (held (d .tuning)) key
+soundAt d k = soundOf cents (held (d .tuning)) k
 
 -- "key asked is silent; pitch bytes 80000000"
 abbrev pub keyNumber : Sound ℤ → ℕ
@@ -54,9 +52,9 @@ keyNumber muted = keySilent
 keyNumber (sounds z) = done
 
 unfoldable pub keyOutcome : Desk → ℕ → ℕ → Outcome
-keyOutcome d house key =
-    let t = soundAt d key in
-    record { desk = d; number = keyNumber t; made = []; line = lineOf (keyBytes house key (keyNumber t) t) }
+keyOutcome d house k =
+    let t = soundAt d k in
+    record { desk = d; number = keyNumber t; made = []; line = lineOf (keyBytes house k (keyNumber t) t) }
 
 -- "03: anchor, width, period, each tone"
 abbrev pub dumpOutcome : Desk → ℕ → Outcome
@@ -67,10 +65,10 @@ abbrev pub badOutcome : Desk → Outcome
 badOutcome d = record { desk = d; number = badFrame; made = []; line = lineOf badBytes }
 
 unfoldable pub frameOutcome : Tables → Desk → Frame → Outcome
-frameOutcome t d (Letter house letter) = letterOutcome t d house letter
-frameOutcome t d (Key house key) = keyOutcome d house (key .0)
-frameOutcome t d (Dump house) = dumpOutcome d house
-frameOutcome t d Bad = badOutcome d
+frameOutcome t d (letter house c) = letterOutcome t d house c
+frameOutcome t d (key house k) = keyOutcome d house k
+frameOutcome t d (dump house) = dumpOutcome d house
+frameOutcome t d bad = badOutcome d
 
 -- ---- the whole answer
 

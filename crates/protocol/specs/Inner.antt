@@ -26,8 +26,9 @@ use Rattle.tables.specs.Layout.{Tables, logicForm, rowCount, mostOrders, readAt
 use Rattle.tables.specs.Values.{FieldsFit}
 use Rattle.validity.specs.Valid.{validTables}
 use Rattle.validity.specs.Inner.{ValidSystem, ValidRetuning}
-use Rattle.frames.specs.declared.Frame.{Frame}
-use Rattle.frames.specs.declared.Frame.the-variants.{Bad, Letter, Key, Dump}
+use Rattle.frames.specs.Frames.{lastKey}
+use Rattle.frames.specs.declared.Decoded.{Decoded}
+use Rattle.frames.specs.declared.Decoded.the-variants.{Bad, Letter, Key, Dump}
 use Rattle.hexadecimal.specs.Lines.{begunWith}
 use Rattle.answers.specs.Answer.{smallestBuffer}
 use Rattle.protocol.specs.declared.Active.{Active}
@@ -193,8 +194,15 @@ pub record Ready (t : Tables) (d : Desk) (buffer : List ℕ) : Type 0 where
   pub active : activeRight t (d .active) ≡ true
   pub room : smallestBuffer ≤ length buffer
 
+-- the key that is asked for is one of the keyboard
+abbrev pub KeyInside : Decoded → Type 0
+KeyInside Bad = Unit
+KeyInside (Letter house letter) = Unit
+KeyInside (Key house key) = key .0 ≤ lastKey
+KeyInside (Dump house) = Unit
+
 -- what a frame is told that changes nothing; a letter nothing
-abbrev pub toldOutcome : Desk → Frame → Outcome
+abbrev pub toldOutcome : Desk → Decoded → Outcome
 toldOutcome d Bad = badOutcome d
 toldOutcome d (Letter house letter) = unchanged d done
 toldOutcome d (Key house key) = keyOutcome d house (key .0)

@@ -2,7 +2,7 @@
 mod triggers;
 
 use answers::SMALLEST_BUFFER;
-use frames::Frame;
+use frames::Decoded;
 use status::BAD_FRAME;
 use status::BUFFER_TOO_SMALL;
 use status::DONE;
@@ -24,12 +24,12 @@ ghost use lib.ListN.{length, getD};
 ghost use Rattle.tuning.specs.State.{heard, validState};
 ghost use Rattle.tables.specs.Layout.{tablesIn};
 ghost use Rattle.tables.specs.Values.{Slices};
-ghost use Rattle.frames.specs.Frames.{frameOf, inside};
+ghost use Rattle.frames.specs.Frames.{frameOf};
 ghost use Rattle.answers.specs.Answer.{smallestBuffer};
 ghost use Rattle.protocol.specs.Triggers.{itself};
 ghost use Rattle.protocol.specs.Steps.{withTuning, withActive};
 ghost use Rattle.protocol.specs.Answers.{startDesk, letterOutcome, keyNumber, frameOutcome, activeRight, validDesk, answerOf, Gives};
-ghost use Rattle.protocol.specs.Inner.{found, decoded, triggerCodes, logicFor, IndexOf, Ready, toldOutcome, Tells};
+ghost use Rattle.protocol.specs.Inner.{found, decoded, triggerCodes, logicFor, IndexOf, Ready, KeyInside, toldOutcome, Tells};
 
 // How many codes of triggers there are. A letter's code is its byte; from 256 on there is room for each declaration that a text can have.
 pub const TRIGGERS: usize = 1024;
@@ -196,30 +196,30 @@ fn key_number(tone: Tone) -> u8
 }
 
 // The answer to a frame that is no letter, and so changes nothing. A letter is told nothing.
-pub fn tell(desk: Desk, frame: Frame, buffer: &mut [u8]) -> Told
-    requires { ⌜ (validState (desk .tuning) ≡ true) × (smallestBuffer ≤ length (now buffer)) × (inside frame ≡ true) ⌝ }
+pub fn tell(desk: Desk, frame: Decoded, buffer: &mut [u8]) -> Told
+    requires { ⌜ (validState (desk .tuning) ≡ true) × (smallestBuffer ≤ length (now buffer)) × KeyInside frame ⌝ }
     ensures { λ r. ⌜ Tells (toldOutcome desk frame) r (now (buffer .entry)) (now (buffer .exit)) ⌝ }
 {
     let s = desk.tuning;
     match frame {
-        Frame::Bad => Told {
+        Decoded::Bad => Told {
             number: BAD_FRAME,
             length: answers::answer_bad(buffer),
         },
-        Frame::Letter {
+        Decoded::Letter {
             house: _,
             letter: _,
         } => Told {
             number: DONE,
             length: 0,
         },
-        Frame::Key { house, key } => {
+        Decoded::Key { house, key } => {
             let tone = s.sound_of(key);
             let number = key_number(tone);
             let length = answers::answer_key(buffer, house, key, number, tone);
             Told { number, length }
         }
-        Frame::Dump { house } => Told {
+        Decoded::Dump { house } => Told {
             number: DONE,
             length: answers::answer_dump(buffer, house, s),
         },
@@ -238,7 +238,7 @@ fn take_frame(
     ensures { λ r. ⌜ Gives (frameOutcome (tablesIn (now (numbers .entry)) (now (codes .entry))) desk (frameOf (now (frame .entry)))) r (now (buffer .entry)) (now (buffer .exit)) ⌝ }
 {
     let taken = frames::decode(frame);
-    if let Frame::Letter { house, letter } = taken {
+    if let Decoded::Letter { house, letter } = taken {
         let logic = triggers::first_logic(numbers, codes, letter as u16);
         return answer_letter(numbers, codes, desk, house, letter, logic, buffer);
     }
