@@ -18,7 +18,7 @@ use Rattle.tuning.specs.Capped.{capped}
 use Rattle.filling.specs.Tables.{sumOf, sum, toneOf, changeOf, rowOf, tablesOf}
 use Rattle.mutabor.proofs.Filled.{tonesBefore, changesBefore, ordersBefore}
 use Rattle.mutabor.proofs.Decoded.{row-decoded, system-tones, retuning-changes}
-use Rattle.protocol.specs.Letters.{actionBy, actionAt}
+use Rattle.protocol.specs.Triggers.{actionBy, actionAt}
 use Rattle.exact.specs.Actions.{systemPositionOf}
 
 -- ---- the actions that the tables hold

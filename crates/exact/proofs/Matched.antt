@@ -21,7 +21,7 @@ use Rattle.program.specs.Allowed.{Each, FitSystemPosition, Fits, Allowed}
 use Rattle.program.proofs.AcceptedText.{fits-at, value-tone, value-period}
 use Rattle.filling.specs.Tables.{tablesOf}
 use Rattle.mutabor.proofs.Decoded.{past-decoded}
-use Rattle.protocol.specs.Letters.{actionAt}
+use Rattle.protocol.specs.Triggers.{actionAt}
 use Rattle.exact.specs.Book.{Declared, entries}
 use Rattle.exact.specs.Actions.{total, systemPositionOf, actionOf, declaredIn, bookAction, entryOf}
 use Rattle.exact.specs.TextCalls.{deskAction}

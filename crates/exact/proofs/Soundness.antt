@@ -1,6 +1,6 @@
 -- 23 is never answered: an accepted text's tables are valid, and a right desk stays right along any stream.
 use mathlib.Core.Path.{_≡_, refl}
-use mathlib.Core.Bool.{Bool, true, false, cond}
+use mathlib.Core.Bool.{Bool, true, false}
 use mathlib.Core.List.{List, [], _∷_}
 use mathlib.Core.Option.{Option, some, none}
 use Prim.Native.Nat.{ℕ, _<_}
@@ -8,13 +8,12 @@ use native.Mathlib.Omega.{arith}
 use borrow.Author.Tests.{ltb-true}
 use lib.Dec.{ltb}
 use lib.IntN.{ℤ}
-use Rattle.status.specs.Status.{letterUnbound, tableDamaged}
+use Rattle.status.specs.Status.{tableDamaged}
 use Rattle.values.proofs.Cases.{clash}
 use Rattle.tuning.specs.Scale.{Sound, muted, sounds}
 use Rattle.tuning.specs.Tuning.{Tuning, Action, anchorTo, widthTo, periodTo, tonesTo, system}
 use Rattle.tuning.specs.Desk.{cents, Check, firstFailing, checks, called}
 use Rattle.tuning.specs.State.{held}
-use Rattle.tuning.specs.declared.State.{State}
 use Rattle.tuning.proofs.Lists.{every, both}
 use Rattle.tables.specs.Layout.{Tables}
 use Rattle.program.specs.Program.{Program}
@@ -22,12 +21,11 @@ use Rattle.program.specs.Text.{accepted, readText}
 use Rattle.program.proofs.AllowedText.{accepted-allowed}
 use Rattle.filling.specs.Tables.{tablesOf}
 use Rattle.mutabor.proofs.ValidTables.{accepted-valid}
-use Rattle.frames.specs.declared.Frame.{Frame}
-use Rattle.frames.specs.declared.Frame.the-variants.{Bad, Letter, Key, Dump}
-use Rattle.frames.specs.Frames.{frameOf}
+use Rattle.frames.specs.Frames.{Frame, bad, letter, key, dump, frameOf}
 use Rattle.protocol.specs.declared.Desk.{Desk}
-use Rattle.protocol.specs.Letters.{actionAt, pressed}
-use Rattle.protocol.specs.Answers.{startDesk, byAction, callOn, madeFrom, lastNumber, Outcome, letterOutcome, soundAt, keyNumber, keyOutcome}
+use Rattle.protocol.specs.Triggers.{Sought, itself, actionAt, struck}
+use Rattle.protocol.specs.Steps.{withActive, byAction, callOn, madeFrom, lastNumber, triggered}
+use Rattle.protocol.specs.Answers.{startDesk, Outcome, letterOutcome, soundAt, keyNumber, keyOutcome}
 use Rattle.protocol.specs.Answers.{frameOutcome, validDesk, answerOf}
 use Rattle.protocol.specs.Streams.{Lent, deskAfter}
 use Rattle.protocol.proofs.Stays.{right-valid, start-right, stream-right}
@@ -63,30 +61,29 @@ call-below s c = first-below (checks s c) (known c)
     known (system y) = refl
 
 module _ (t : Tables) where
-  made-below : (s : State) (ks : List ℕ) → lastNumber (madeFrom t s ks) < tableDamaged
+  made-below : (house : ℕ) (d : Desk) (ks : List ℕ) {unfound : ℕ} → unfound < tableDamaged → lastNumber unfound (madeFrom t house d ks) < tableDamaged
   unfolding madeFrom callOn
-  made-below s [] = omega arith
-  made-below s (k ∷ []) = go (actionAt t k)
+  made-below house d [] h = h
+  made-below house d (k ∷ ks) h = made-below house (callOn t house d k .desk) ks (go (actionAt t k))
     where
-      go : (o : Option (Action cents)) → byAction s o .number < tableDamaged
+      go : (o : Option (Action cents)) → byAction house d o .number < tableDamaged
       go none = omega arith
-      go (some c) = call-below (held s) c
-  made-below s (k ∷ j ∷ ks) = made-below (callOn t s k .state) (j ∷ ks)
+      go (some c) = call-below (held (d .tuning)) c
+
+  step-below : (house : ℕ) (d : Desk) (x : Sought) {unfound : ℕ} → unfound < tableDamaged → triggered t house d x unfound .number < tableDamaged
+  unfolding triggered
+  step-below house d x h = let z = struck t (d .active) x in made-below house (withActive (z .active) d) (z .calls) h
 
   frame-below : (d : Desk) (f : Frame) → frameOutcome t d f .number < tableDamaged
   unfolding frameOutcome letterOutcome keyOutcome
-  frame-below d Bad = omega arith
-  frame-below d (Letter house letter) = go (pressed t (d .active) letter .bound)
-    where
-      go : (bound : Bool) → cond bound (lastNumber (madeFrom t (d .tuning) (pressed t (d .active) letter .calls))) letterUnbound < tableDamaged
-      go true = made-below (d .tuning) (pressed t (d .active) letter .calls)
-      go false = omega arith
-  frame-below d (Key house key) = go (soundAt d (key .0))
+  frame-below d bad = omega arith
+  frame-below d (letter house c) = step-below house d (itself c) (omega arith)
+  frame-below d (key house k) = go (soundAt d k)
     where
       go : (x : Sound ℤ) → keyNumber x < tableDamaged
       go muted = omega arith
       go (sounds z) = omega arith
-  frame-below d (Dump house) = omega arith
+  frame-below d (dump house) = omega arith
 
   answer-below : (d : Desk) → validDesk t d ≡ true → (frame : List ℕ) (room : ℕ) → answerOf t d frame room .number < tableDamaged
   answer-below d h frame room =

@@ -14,14 +14,12 @@ use Rattle.tuning.proofs.Held.{ValidTuning, held-coded, length-coded, valid-cod
 use Rattle.tuning.proofs.Laws.{ValidAction, valid-stays}
 use Rattle.tables.specs.Layout.{Tables}
 use Rattle.program.specs.Program.{Program}
-use Rattle.frames.specs.declared.Frame.{Frame}
-use Rattle.frames.specs.declared.Frame.the-variants.{Bad, Letter, Key, Dump}
-use Rattle.frames.specs.Frames.{frameOf}
+use Rattle.frames.specs.Frames.{Frame, bad, letter, key, dump, frameOf}
 use Rattle.answers.specs.Answer.{smallestBuffer}
-use Rattle.status.specs.Status.{bufferTooSmall, tableDamaged}
+use Rattle.status.specs.Status.{bufferTooSmall, letterUnbound, tableDamaged}
 use Rattle.protocol.specs.declared.Desk.{Desk}
-use Rattle.protocol.specs.Letters.{actionAt, pressed}
-use Rattle.protocol.specs.Answers.{Made, byAction, callOn, tuningFrom, madeFrom}
+use Rattle.protocol.specs.Triggers.{Sought, itself, actionAt, struck}
+use Rattle.protocol.specs.Steps.{withActive, Made, byAction, callOn, deskFrom, madeFrom, triggered}
 use Rattle.protocol.specs.Answers.{Outcome, letterOutcome, keyOutcome, frameOutcome, validDesk, unchanged, answerOf}
 use Rattle.protocol.specs.Streams.{Lent, deskAfter, madeIn}
 use Rattle.exact.specs.Book as book
@@ -71,11 +69,13 @@ module _ (ds : List (Option Declared)) where
   held-valid : (s : State) (b : Tuning entries) → Kept ds s b → ValidTuning (held s)
   held-valid s b h = valid-held s (h .valid) (h .full)
 
-  call-kept : (s : State) (b : Tuning entries) → Kept ds s b → {x : Option (Action cents)} {y : Option (Action entries)} → Matches ds (held s) x y
-      → Kept ds (byAction s x .state) (bookFrom b (ifCalled y (byAction s x .number) []))
+  call-kept : (house : ℕ) (desk : Desk) (b : Tuning entries) → Kept ds (desk .tuning) b → {x : Option (Action cents)} {y : Option (Action entries)}
+      → Matches ds (held (desk .tuning)) x y
+      → let r = byAction house desk x in Kept ds (r .desk .tuning) (bookFrom b (ifCalled y (r .number) []))
   unfolding bookFrom
-  call-kept s b h no-call = h
-  call-kept s b h (one-call {c} {d} {b = a} e v k) =
+  call-kept house desk b h no-call = h
+  call-kept house desk b h (one-call {c} {d} {b = a} e v k) =
+      let s = desk .tuning in
       subst (λ (r : Called). Kept ds (coded (r .state)) (bookFrom b (record { call = a; number = r .number } ∷ []))) (sym e)
       (coded-kept (called (held s) d .state) (bookFrom b (record { call = a; number = called (held s) d .number } ∷ []))
       (valid-stays (held s) (held-valid s b h) d v) (call-follows ds (held s) b (h .agree) k))
@@ -103,15 +103,20 @@ abbrev pub AllMatch : Tables → Program → Type 0
 AllMatch t p = (s : Tuning cents) → ValidTuning s → (k : ℕ) → Matches (declaredIn p) s (actionAt t k) (bookAction p k)
 
 module _ (t : Tables) (p : Program) (matches : AllMatch t p) where
-  calls-kept : (ks : List ℕ) (s : State) (b : Tuning entries) → Kept (declaredIn p) s b
-      → Kept (declaredIn p) (tuningFrom t s ks) (bookFrom b (fedBy p (madeFrom t s ks)))
-  unfolding tuningFrom madeFrom callOn fedBy bookFrom
-  calls-kept [] s b h = h
-  calls-kept (k ∷ ks) s b h =
-      let r = callOn t s k in
-      rw (← (fed-first b (bookAction p k) (r .number) (fedBy p (madeFrom t (r .state) ks))))
-      (calls-kept ks (r .state) (bookFrom b (ifCalled (bookAction p k) (r .number) []))
-      (call-kept (declaredIn p) s b h (matches (held s) (held-valid (declaredIn p) s b h) k)))
+  calls-kept : (house : ℕ) (ks : List ℕ) (d : Desk) (b : Tuning entries) → Kept (declaredIn p) (d .tuning) b
+      → Kept (declaredIn p) (deskFrom t house d ks .tuning) (bookFrom b (fedBy p (madeFrom t house d ks)))
+  unfolding deskFrom madeFrom callOn fedBy bookFrom
+  calls-kept house [] d b h = h
+  calls-kept house (k ∷ ks) d b h =
+      let r = callOn t house d k in
+      rw (← (fed-first b (bookAction p k) (r .number) (fedBy p (madeFrom t house (r .desk) ks))))
+      (calls-kept house ks (r .desk) (bookFrom b (ifCalled (bookAction p k) (r .number) []))
+      (call-kept (declaredIn p) house d b h (matches (held (d .tuning)) (held-valid (declaredIn p) (d .tuning) b h) k)))
+
+  step-kept : (house : ℕ) (d : Desk) (x : Sought) (unfound : ℕ) (b : Tuning entries) → Kept (declaredIn p) (d .tuning) b
+      → let s = triggered t house d x unfound in Kept (declaredIn p) (s .desk .tuning) (bookFrom b (fedBy p (s .made)))
+  unfolding triggered
+  step-kept house d x unfound b h = let z = struck t (d .active) x in calls-kept house (z .calls) (withActive (z .active) d) b h
 
   -- what is kept after a frame
   abbrev After : Tuning entries → Outcome → Type 0
@@ -119,10 +124,10 @@ module _ (t : Tables) (p : Program) (matches : AllMatch t p) where
 
   frame-kept : (d : Desk) (b : Tuning entries) → Kept (declaredIn p) (d .tuning) b → (f : Frame) → After b (frameOutcome t d f)
   unfolding frameOutcome letterOutcome keyOutcome fedBy bookFrom
-  frame-kept d b h Bad = h
-  frame-kept d b h (Letter house letter) = calls-kept (pressed t (d .active) letter .calls) (d .tuning) b h
-  frame-kept d b h (Key house key) = h
-  frame-kept d b h (Dump house) = h
+  frame-kept d b h bad = h
+  frame-kept d b h (letter house c) = step-kept house d (itself c) letterUnbound b h
+  frame-kept d b h (key house k) = h
+  frame-kept d b h (dump house) = h
 
   answer-kept : (d : Desk) (b : Tuning entries) → Kept (declaredIn p) (d .tuning) b → (frame : List ℕ) (room : ℕ) → After b (answerOf t d frame room)
   unfolding fedBy bookFrom

@@ -19,8 +19,8 @@ use Rattle.program.specs.Text.{accepted, readText}
 use Rattle.program.proofs.AllowedText.{accepted-allowed}
 use Rattle.filling.specs.Tables.{tablesOf}
 use Rattle.mutabor.proofs.ValidTables.{accepted-valid}
-use Rattle.frames.specs.declared.Frame.the-variants.{Key}
-use Rattle.frames.specs.Frames.{firstHouse, secondHouse, keyKind, lastKey, framed, frameOf, keyOf}
+use Rattle.frames.specs.Frames as frames
+use Rattle.frames.specs.Frames.{firstHouse, secondHouse, keyKind, lastKey, framed, frameOf}
 use Rattle.hexadecimal.proofs.RoundTrip.{bytes-back}
 use Rattle.answers.specs.Answer.{smallestBuffer}
 use Rattle.answers.specs.Told.{toldBy}
@@ -34,7 +34,7 @@ use Rattle.exact.specs.Claim.{keyFrame, KeyAnswered}
 -- a house, and a key of the keyboard
 module _ (house key : ℕ) (least : firstHouse ≤ house) (most : house ≤ secondHouse) (low : key ≤ lastKey) where
   -- the frame is read back from its digits
-  frame-back : frameOf (keyFrame house key) ≡ Key house (keyOf key)
+  frame-back : frameOf (keyFrame house key) ≡ frames.key house key
   unfolding frameOf framed Option·elim
   frame-back =
       rw (

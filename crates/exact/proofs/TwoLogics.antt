@@ -14,8 +14,9 @@ use Rattle.tuning.specs.Desk.{called, firstFailing, anyBeyond}
 use Rattle.tuning.specs.State.{validState, allMuted}
 use Rattle.hexadecimal.specs.Digits.{digitOf, byteOf, bytesOf}
 use Rattle.frames.specs.Frames.{framed, frameOf}
-use Rattle.protocol.specs.Letters.{firstLogic, firstOrder, pressed}
-use Rattle.protocol.specs.Answers.{Made, startDesk, callOn, tuningFrom, madeFrom, letterOutcome, keyOutcome, frameOutcome, answerOf}
+use Rattle.protocol.specs.Triggers.{firstLogic, firstOrder, struck}
+use Rattle.protocol.specs.Steps.{Made, callOn, deskFrom, madeFrom, triggered}
+use Rattle.protocol.specs.Answers.{startDesk, letterOutcome, keyOutcome, frameOutcome, answerOf}
 use Rattle.hexadecimal.specs.Digits.{hexOf, hexes}
 use Rattle.hexadecimal.specs.Numbers.{twos, fourOf}
 use Rattle.answers.specs.Answer.{tonesBytes}
@@ -32,7 +33,7 @@ use Rattle.exact.specs.TwoLogics.{frames, lines, calls, Whole}
 answers : (linesOf (tablesOf program) startDesk frames ≡ lines) × (madeIn (tablesOf program) startDesk frames ≡ calls)
 unfolding Option·elim leadingZeros highestBit bits L measure nearest plus total shifted ranged valueAt valueOf writtenAll joined rowOf filledFrom tablesOf validTables
     declarationRight isOwn rowsRight declarations kindsFrom partsFollow ordersRight eachRight allZero allNought called firstFailing anyBeyond validState
-    allMuted digitOf byteOf bytesOf framed frameOf firstLogic firstOrder pressed callOn tuningFrom madeFrom letterOutcome keyOutcome frameOutcome answerOf
+    allMuted digitOf byteOf bytesOf framed frameOf firstLogic firstOrder struck callOn deskFrom madeFrom triggered letterOutcome keyOutcome frameOutcome answerOf
     linesOf hexOf hexes twos fourOf tonesBytes deskAfter madeIn
 answers = (refl, refl)
 

@@ -14,7 +14,8 @@ use Rattle.frames.specs.Frames.{firstHouse, secondHouse, lastKey, keyKind}
 use Rattle.hexadecimal.specs.Digits.{hexes}
 use Rattle.answers.specs.Answer.{smallestBuffer}
 use Rattle.answers.specs.Told.{toldBy}
-use Rattle.protocol.specs.Answers.{Made, startDesk, soundAt, keyNumber, answerOf}
+use Rattle.protocol.specs.Steps.{Made}
+use Rattle.protocol.specs.Answers.{startDesk, soundAt, keyNumber, answerOf}
 use Rattle.protocol.specs.Streams.{Lent, deskAfter, madeIn}
 use Rattle.exact.specs.Book as book
 use Rattle.exact.specs.Book.{entries, bookFrom}

@@ -9,20 +9,20 @@ use lib.ListN.{length}
 use Rattle.tuning.specs.Tuning.{Action}
 use Rattle.tuning.specs.Desk.{cents}
 use Rattle.tuning.specs.State.{places, validState}
-use Rattle.tuning.specs.declared.State.{State}
 use Rattle.program.specs.Program.{Program}
 use Rattle.program.specs.Meaning.{declarationAt, valueOf}
 use Rattle.program.specs.Text.{accepted, readText}
 use Rattle.filling.specs.Tables.{tablesOf}
-use Rattle.protocol.specs.Answers.{byAction, callOn}
+use Rattle.protocol.specs.declared.Desk.{Desk}
+use Rattle.protocol.specs.Steps.{byAction, callOn}
 use Rattle.exact.specs.Actions.{actionOf}
 
 -- what declaration k of a text calls, with the values of its declarations
 abbrev pub deskAction : Program → ℕ → Option (Action cents)
 deskAction p k = actionOf cents (valueOf p) (valueOf p) (declarationAt p k)
 
--- so a call on any right state leaves the state and has the number that the declaration gives, whatever declaration is called
+-- so a call on a desk with any right state leaves the desk and has the number that the declaration gives, whatever declaration is called
 unfoldable pub CallsOfText : Type 0
 CallsOfText =
-    (text : List ℕ) (p : Program) → readText text ≡ accepted p → (s : State) → validState s ≡ true → length (s .tones) ≡ places → (k : ℕ)
-    → callOn (tablesOf p) s k ≡ byAction s (deskAction p k)
+    (text : List ℕ) (p : Program) → readText text ≡ accepted p → (house : ℕ) (d : Desk) → validState (d .tuning) ≡ true → length (d .tuning .tones) ≡ places
+    → (k : ℕ) → callOn (tablesOf p) house d k ≡ byAction house d (deskAction p k)

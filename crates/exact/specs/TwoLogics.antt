@@ -8,7 +8,8 @@ use Rattle.tuning.specs.Tuning.{width}
 use Rattle.program.specs.TwoLogics.{text, program}
 use Rattle.program.specs.Text.{accepted, readText}
 use Rattle.filling.specs.Tables.{tablesOf}
-use Rattle.protocol.specs.Answers.{Made, startDesk}
+use Rattle.protocol.specs.Steps.{Made}
+use Rattle.protocol.specs.Answers.{startDesk}
 use Rattle.protocol.specs.Streams.{Lent, madeIn, linesOf}
 use Rattle.exact.specs.Book.{entries}
 use Rattle.exact.specs.CaseS.{lent}

@@ -9,9 +9,8 @@ use native.Mathlib.Omega.{arith}
 use native.Mathlib.Decide.{decLe}
 use lib.ListN.{length, take, drop, getD, length-take, drop-of-length-le}
 use lib.Seq.{take-all, drop-cons}
-use Rattle.frames.specs.declared.Frame.the-variants.{Bad}
 use Rattle.hexadecimal.specs.Digits.{ofBoth, byteOf, bytesOf}
-use Rattle.frames.specs.Frames.{framed, frameOf, enough}
+use Rattle.frames.specs.Frames.{bad, framed, frameOf, enough}
 
 -- one byte more is two digits more
 longer : (o : Option ℕ) (p : Option (List ℕ)) (n : ℕ) {bs : List ℕ} → ((xs : List ℕ) → p ≡ some xs → n ≡ 2 * length xs) → ofBoth (λ b bs. b ∷ bs) o p ≡ some bs → suc (suc n) ≡ 2 * length bs
@@ -26,12 +25,12 @@ two-each [] {bs} e = omega (arith, ap length (Option·some-injective [] bs e))
 two-each (a ∷ []) {bs} e = absurd (Option·none-ne-some bs e)
 two-each (a ∷ b ∷ l) e = longer (byteOf a b) (bytesOf l) (length l) (λ xs h. two-each l h) e
 
-same : (t : Bool) → cond t Bad Bad ≡ Bad
+same : (t : Bool) → cond t bad bad ≡ bad
 same true = refl
 same false = refl
 
 -- each kind of frame has three bytes
-three : (bs : List ℕ) → (length bs ≡ 3 → ⊥) → framed bs ≡ Bad
+three : (bs : List ℕ) → (length bs ≡ 3 → ⊥) → framed bs ≡ bad
 unfolding framed
 three [] n = refl
 three (house ∷ []) n = refl
@@ -40,11 +39,11 @@ three (house ∷ kind ∷ b ∷ []) n = absurd (n refl)
 three (house ∷ kind ∷ b ∷ c ∷ more) n = simp same
 
 -- so a line of another length than six is a bad frame
-pub six : (l : List ℕ) → (length l ≡ 6 → ⊥) → frameOf l ≡ Bad
+pub six : (l : List ℕ) → (length l ≡ 6 → ⊥) → frameOf l ≡ bad
 unfolding frameOf Option·elim
 six l n = go (bytesOf l) (λ bs h. two-each l h)
   where
-    go : (o : Option (List ℕ)) → ((bs : List ℕ) → o ≡ some bs → length l ≡ 2 * length bs) → Option·elim o Bad framed ≡ Bad
+    go : (o : Option (List ℕ)) → ((bs : List ℕ) → o ≡ some bs → length l ≡ 2 * length bs) → Option·elim o bad framed ≡ bad
     go none h = refl
     go (some bs) h = three bs (λ k. n (omega (arith, h bs refl)))
 
@@ -68,7 +67,7 @@ next-byte l at h =
     rw (drop-cons l at 0 (omega arith), drop-cons l (suc at) 0 (omega arith), add-one at, two)
 
 -- the frame of a line of six digits
-pub six-digits : (l : List ℕ) → length l ≡ 6 → frameOf l ≡ Option·elim (byteAt l 0 (byteAt l 2 (byteAt l 4 (some [])))) Bad framed
+pub six-digits : (l : List ℕ) → length l ≡ 6 → frameOf l ≡ Option·elim (byteAt l 0 (byteAt l 2 (byteAt l 4 (some [])))) bad framed
 unfolding frameOf bytesOf
 six-digits l h =
     rw (

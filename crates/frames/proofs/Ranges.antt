@@ -6,34 +6,32 @@ use mathlib.Core.List.{List, [], _∷_}
 use mathlib.Core.Option.{Option, none, some, Option·elim}
 use borrow.Author.Tests.{leb-true}
 use lib.Dec.{eqb}
-use Rattle.frames.specs.declared.Frame.{Frame}
-use Rattle.frames.specs.declared.Frame.the-variants.{Bad, Letter, Key, Dump}
 use Rattle.hexadecimal.specs.Digits.{bytesOf}
-use Rattle.frames.specs.Frames.{firstHouse, secondHouse, isHouse, letterKind, keyKind, dumpKind, firstLetter, lastLetter, isCapital, lastKey, isKey, keyOf, dumpData, letterFrame, keyFrame, dumpFrame, kindFrame, framed, frameOf, inside}
+use Rattle.frames.specs.Frames.{firstHouse, secondHouse, isHouse, letterKind, keyKind, dumpKind, firstLetter, lastLetter, isCapital, lastKey, isKey, dumpData, Frame, bad, letter, key, dump, letterFrame, keyFrame, dumpFrame, kindFrame, framed, frameOf, inside}
 use Rattle.ascii.proofs.Between.{each, in-range}
 
 -- ---- for callers: what `inside` says of a frame that has come
 
-pub letter-ranges : (house letter : ℕ) → inside (Letter house letter) ≡ true
-    → (firstHouse ≤ house) × (house ≤ secondHouse) × (firstLetter ≤ letter) × (letter ≤ lastLetter)
-letter-ranges house letter e =
-    let k = each (isHouse house) (isCapital letter) e in
+pub letter-ranges : (house c : ℕ) → inside (letter house c) ≡ true
+    → (firstHouse ≤ house) × (house ≤ secondHouse) × (firstLetter ≤ c) × (c ≤ lastLetter)
+letter-ranges house c e =
+    let k = each (isHouse house) (isCapital c) e in
     let h = in-range firstHouse secondHouse house (k .0) in
-    let l = in-range firstLetter lastLetter letter (k .1) in
+    let l = in-range firstLetter lastLetter c (k .1) in
     (h .0, h .1, l .0, l .1)
 
-pub key-ranges : (house key : ℕ) → inside (Key house (keyOf key)) ≡ true → (firstHouse ≤ house) × (house ≤ secondHouse) × (key ≤ lastKey)
-key-ranges house key e =
-    let k = each (isHouse house) (isKey key) e in
+pub key-ranges : (house b : ℕ) → inside (key house b) ≡ true → (firstHouse ≤ house) × (house ≤ secondHouse) × (b ≤ lastKey)
+key-ranges house b e =
+    let k = each (isHouse house) (isKey b) e in
     let h = in-range firstHouse secondHouse house (k .0) in
-    (h .0, h .1, leb-true key lastKey (k .1))
+    (h .0, h .1, leb-true b lastKey (k .1))
 
-pub dump-ranges : (house : ℕ) → inside (Dump house) ≡ true → (firstHouse ≤ house) × (house ≤ secondHouse)
+pub dump-ranges : (house : ℕ) → inside (dump house) ≡ true → (firstHouse ≤ house) × (house ≤ secondHouse)
 dump-ranges house e = in-range firstHouse secondHouse house e
 
 -- ---- every line's frame is inside
 
-inside-if : (t : Bool) (f : Frame) → (t ≡ true → inside f ≡ true) → inside (cond t f Bad) ≡ true
+inside-if : (t : Bool) (f : Frame) → (t ≡ true → inside f ≡ true) → inside (cond t f bad) ≡ true
 inside-if true f h = h refl
 inside-if false f h = refl
 
@@ -44,17 +42,17 @@ inside-either false f g h k = k
 module _ (house : ℕ) (h : isHouse house ≡ true) where
   letter-inside : (rest : List ℕ) → inside (letterFrame house rest) ≡ true
   letter-inside [] = refl
-  letter-inside (b ∷ []) = inside-if (isCapital b) (Letter house b) (λ e. rw (h, e))
+  letter-inside (b ∷ []) = inside-if (isCapital b) (letter house b) (λ e. rw (h, e))
   letter-inside (b ∷ c ∷ more) = refl
 
   key-inside : (rest : List ℕ) → inside (keyFrame house rest) ≡ true
   key-inside [] = refl
-  key-inside (b ∷ []) = inside-if (isKey b) (Key house (keyOf b)) (λ e. rw (h, e))
+  key-inside (b ∷ []) = inside-if (isKey b) (key house b) (λ e. rw (h, e))
   key-inside (b ∷ c ∷ more) = refl
 
   dump-inside : (rest : List ℕ) → inside (dumpFrame house rest) ≡ true
   dump-inside [] = refl
-  dump-inside (b ∷ []) = inside-if (eqb b dumpData) (Dump house) (λ e. h)
+  dump-inside (b ∷ []) = inside-if (eqb b dumpData) (dump house) (λ e. h)
   dump-inside (b ∷ c ∷ more) = refl
 
   kind-inside : (kind : ℕ) (rest : List ℕ) → inside (kindFrame house kind rest) ≡ true
@@ -73,6 +71,6 @@ pub frame-inside : (l : List ℕ) → inside (frameOf l) ≡ true
 unfolding frameOf Option·elim
 frame-inside l = go (bytesOf l)
   where
-    go : (o : Option (List ℕ)) → inside (Option·elim o Bad framed) ≡ true
+    go : (o : Option (List ℕ)) → inside (Option·elim o bad framed) ≡ true
     go none = refl
     go (some bs) = framed-inside bs

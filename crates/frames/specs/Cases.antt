@@ -4,9 +4,7 @@ use mathlib.Core.Path.{_≡_}
 use mathlib.Core.List.{List, [], _∷_, map}
 use lib.ListN.{replicate}
 use Rattle.ascii.specs.Ascii.{byte, bytes}
-use Rattle.frames.specs.declared.Frame.{Frame}
-use Rattle.frames.specs.declared.Frame.the-variants.{Bad, Letter, Key, Dump}
-use Rattle.frames.specs.Frames.{firstHouse, secondHouse, keyOf, frameOf}
+use Rattle.frames.specs.Frames.{firstHouse, secondHouse, Frame, bad, letter, key, dump, frameOf}
 
 -- the column "In"
 abbrev pub caseLines : List String
@@ -14,13 +12,13 @@ caseLines = "01014D" ∷ "010245" ∷ "010155" ∷ "020155" ∷ "020247" ∷ "01
 
 abbrev pub caseFrames : List Frame
 caseFrames =
-    Letter firstHouse (byte "M")
-    ∷ Key firstHouse (keyOf 0x45)
-    ∷ Letter firstHouse (byte "U")
-    ∷ Letter secondHouse (byte "U")
-    ∷ Key secondHouse (keyOf 0x47)
-    ∷ Letter firstHouse (byte "X")
-    ∷ Bad
+    letter firstHouse (byte "M")
+    ∷ key firstHouse 0x45
+    ∷ letter firstHouse (byte "U")
+    ∷ letter secondHouse (byte "U")
+    ∷ key secondHouse 0x47
+    ∷ letter firstHouse (byte "X")
+    ∷ bad
     ∷ []
 
 -- each line is its frame
@@ -33,4 +31,4 @@ abbrev pub otherLines : List String
 otherLines = "010300" ∷ "" ∷ "01014D0" ∷ "01014D00" ∷ "01014d" ∷ "03014D" ∷ "01044D" ∷ "01015B" ∷ "010280" ∷ "010301" ∷ []
 
 unfoldable pub Others : Type 0
-Others = map (λ s. frameOf (bytes s)) otherLines ≡ Dump firstHouse ∷ replicate 9 Bad
+Others = map (λ s. frameOf (bytes s)) otherLines ≡ dump firstHouse ∷ replicate 9 bad

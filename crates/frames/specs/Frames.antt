@@ -8,8 +8,8 @@ use Rattle.ascii.specs.Ascii.{between}
 pub use Rattle.limits.specs.Limits.{firstLetter, lastLetter}
 use Rattle.cents.specs.declared.KeyNumber.{KeyNumber}
 use Rattle.hexadecimal.specs.Digits.{bytesOf}
-use Rattle.frames.specs.declared.Frame.{Frame}
-use Rattle.frames.specs.declared.Frame.the-variants.{Bad, Letter, Key, Dump}
+use Rattle.frames.specs.declared.Decoded.{Decoded}
+use Rattle.frames.specs.declared.Decoded.the-variants.{Bad, Letter, Key, Dump}
 
 -- ---- "Byte 1: house, 01 or 02."
 
@@ -45,48 +45,62 @@ isCapital b = between firstLetter lastLetter b
 abbrev pub isKey : ℕ → Bool
 isKey b = leb b lastKey
 
-abbrev pub keyOf : ℕ → KeyNumber
-keyOf b = record { 0 = b }
+-- a frame: its house, and its letter or key
+pub data Frame : Type 0 where
+  bad : Frame
+  letter key : ℕ → ℕ → Frame
+  dump : ℕ → Frame
 
 -- what stands after house and kind, a case for each kind
 abbrev pub letterFrame : ℕ → List ℕ → Frame
-letterFrame house (b ∷ []) = cond (isCapital b) (Letter house b) Bad
-letterFrame house [] = Bad
-letterFrame house (b ∷ c ∷ more) = Bad
+letterFrame house (b ∷ []) = cond (isCapital b) (letter house b) bad
+letterFrame house [] = bad
+letterFrame house (b ∷ c ∷ more) = bad
 
 abbrev pub keyFrame : ℕ → List ℕ → Frame
-keyFrame house (b ∷ []) = cond (isKey b) (Key house (keyOf b)) Bad
-keyFrame house [] = Bad
-keyFrame house (b ∷ c ∷ more) = Bad
+keyFrame house (b ∷ []) = cond (isKey b) (key house b) bad
+keyFrame house [] = bad
+keyFrame house (b ∷ c ∷ more) = bad
 
 abbrev pub dumpFrame : ℕ → List ℕ → Frame
-dumpFrame house (b ∷ []) = cond (eqb b dumpData) (Dump house) Bad
-dumpFrame house [] = Bad
-dumpFrame house (b ∷ c ∷ more) = Bad
+dumpFrame house (b ∷ []) = cond (eqb b dumpData) (dump house) bad
+dumpFrame house [] = bad
+dumpFrame house (b ∷ c ∷ more) = bad
 
 abbrev pub kindFrame : ℕ → ℕ → List ℕ → Frame
 kindFrame house kind rest =
     cond (eqb kind letterKind) (letterFrame house rest)
     (cond (eqb kind keyKind) (keyFrame house rest)
     (cond (eqb kind dumpKind) (dumpFrame house rest)
-    Bad))
+    bad))
 
 -- the frame of a line's bytes
 unfoldable pub framed : List ℕ → Frame
-framed (house ∷ kind ∷ rest) = cond (isHouse house) (kindFrame house kind rest) Bad
-framed [] = Bad
-framed (house ∷ []) = Bad
+framed (house ∷ kind ∷ rest) = cond (isHouse house) (kindFrame house kind rest) bad
+framed [] = bad
+framed (house ∷ []) = bad
 
 -- "One frame a line": the frame that a line of any length is; a line that writes no bytes is a bad frame too
 unfoldable pub frameOf : List ℕ → Frame
-frameOf line = Option·elim (bytesOf line) Bad framed
+frameOf line = Option·elim (bytesOf line) bad framed
 
 -- ---- what holds of every frame that a line is: its house, its letter or its key lies in its range
 abbrev pub inside : Frame → Bool
-inside Bad = true
-inside (Letter house letter) = isHouse house && isCapital letter
-inside (Key house key) = isHouse house && isKey (key .0)
-inside (Dump house) = isHouse house
+inside bad = true
+inside (letter house c) = isHouse house && isCapital c
+inside (key house k) = isHouse house && isKey k
+inside (dump house) = isHouse house
+
+-- ---- the same as the code's enum
+
+abbrev pub keyOf : ℕ → KeyNumber
+keyOf b = record { 0 = b }
+
+abbrev pub decodedAs : Frame → Decoded
+decodedAs bad = Bad
+decodedAs (letter house c) = Letter house c
+decodedAs (key house k) = Key house (keyOf k)
+decodedAs (dump house) = Dump house
 
 -- of a line no more than these bytes matter: six digits, and one more that makes the line too long for a frame
 abbrev pub enough : ℕ

@@ -6,7 +6,7 @@ use hexadecimal::digits::byte_value;
 ghost use mathlib.Core.Path.{_≡_};
 ghost use mathlib.Core.Bool.{true};
 ghost use mathlib.Core.List.{[], _∷_};
-ghost use Rattle.frames.specs.Frames.{letterFrame, keyFrame, dumpFrame, framed, frameOf, inside};
+ghost use Rattle.frames.specs.Frames.{letterFrame, keyFrame, dumpFrame, framed, frameOf, decodedAs, inside};
 
 // The first byte of a frame: the house that sends it.
 pub const FIRST_HOUSE: u8 = 1;
@@ -30,72 +30,72 @@ const FRAME_DIGITS: usize = 6;
 // Of a line no more than these bytes matter: one more than a frame has makes it too long.
 pub const ENOUGH: usize = FRAME_DIGITS + 1;
 
-// What a frame asks.
-pub enum Frame {
+// What a line asks: its frame, as far as code needs it.
+pub enum Decoded {
     Bad,
     Letter { house: u8, letter: u8 },
     Key { house: u8, key: KeyNumber },
     Dump { house: u8 },
 }
 
-fn read_letter(house: u8, letter: u8) -> Frame
-    ensures { λ r. ⌜ r ≡ letterFrame house (letter ∷ []) ⌝ }
+fn read_letter(house: u8, letter: u8) -> Decoded
+    ensures { λ r. ⌜ r ≡ decodedAs (letterFrame house (letter ∷ [])) ⌝ }
 {
     if is_between(b'A', b'Z', letter) {
-        return Frame::Letter { house, letter };
+        return Decoded::Letter { house, letter };
     }
-    Frame::Bad
+    Decoded::Bad
 }
 
-fn read_key(house: u8, number: u8) -> Frame
-    ensures { λ r. ⌜ r ≡ keyFrame house (number ∷ []) ⌝ }
+fn read_key(house: u8, number: u8) -> Decoded
+    ensures { λ r. ⌜ r ≡ decodedAs (keyFrame house (number ∷ [])) ⌝ }
 {
     if number <= LAST_KEY {
         let key = KeyNumber(number);
-        return Frame::Key { house, key };
+        return Decoded::Key { house, key };
     }
-    Frame::Bad
+    Decoded::Bad
 }
 
-fn read_dump(house: u8, value: u8) -> Frame
-    ensures { λ r. ⌜ r ≡ dumpFrame house (value ∷ []) ⌝ }
+fn read_dump(house: u8, value: u8) -> Decoded
+    ensures { λ r. ⌜ r ≡ decodedAs (dumpFrame house (value ∷ [])) ⌝ }
 {
     if value == DUMP_DATA {
-        return Frame::Dump { house };
+        return Decoded::Dump { house };
     }
-    Frame::Bad
+    Decoded::Bad
 }
 
-// The frame of three bytes.
-fn read_frame(house: u8, kind: u8, value: u8) -> Frame
-    ensures { λ r. ⌜ r ≡ framed (house ∷ kind ∷ value ∷ []) ⌝ }
+// What three bytes ask.
+fn read_frame(house: u8, kind: u8, value: u8) -> Decoded
+    ensures { λ r. ⌜ r ≡ decodedAs (framed (house ∷ kind ∷ value ∷ [])) ⌝ }
 {
     if !is_between(FIRST_HOUSE, SECOND_HOUSE, house) {
-        return Frame::Bad;
+        return Decoded::Bad;
     }
     match kind {
         LETTER_KIND => read_letter(house, value),
         KEY_KIND => read_key(house, value),
         DUMP_KIND => read_dump(house, value),
-        _ => Frame::Bad,
+        _ => Decoded::Bad,
     }
 }
 
-// The frame that a line of any length is.
-pub fn decode(line: &[u8]) -> Frame
-    ensures { λ r. ⌜ (r ≡ frameOf (now (line .entry))) × (inside r ≡ true) ⌝ }
+// What a line of any length asks.
+pub fn decode(line: &[u8]) -> Decoded
+    ensures { λ r. ⌜ (r ≡ decodedAs (frameOf (now (line .entry)))) × (inside (frameOf (now (line .entry))) ≡ true) ⌝ }
 {
     if line.len() != FRAME_DIGITS {
-        return Frame::Bad;
+        return Decoded::Bad;
     }
     let Value::Of(house) = byte_value(line[0], line[1]) else {
-        return Frame::Bad;
+        return Decoded::Bad;
     };
     let Value::Of(kind) = byte_value(line[2], line[3]) else {
-        return Frame::Bad;
+        return Decoded::Bad;
     };
     let Value::Of(value) = byte_value(line[4], line[5]) else {
-        return Frame::Bad;
+        return Decoded::Bad;
     };
     read_frame(house, kind, value)
 }

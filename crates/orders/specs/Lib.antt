@@ -1,2 +1,2 @@
--- Order records, and the search for a letter among them.
+-- Order records, and the search for a trigger among them.
 pub mod Orders

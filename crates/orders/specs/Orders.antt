@@ -11,17 +11,17 @@ use Rattle.orders.specs.declared.Found.the-variants.{Nothing, At}
 
 -- what stands past the end
 abbrev pub noOrder : Order
-noOrder = record { letter = 0; kind = kind.Nothing; number = 0 }
+noOrder = record { trigger = 0; kind = kind.Nothing; number = 0 }
 
 abbrev pub orderAt : List Order → ℕ → Order
 orderAt xs i = getD xs i noOrder
 
--- the first of the next `count` records that has the letter; `at` is the place of the first of them
+-- the first of the next `count` records that has the trigger; `at` is the place of the first of them
 unfoldable pub matchFrom : ℕ → ℕ → List Order → ℕ → Found
-matchFrom letter at [] count = Nothing
-matchFrom letter at (x ∷ xs) zero = Nothing
-matchFrom letter at (x ∷ xs) (suc count) = elim (eqb (x .letter) letter) [ true ↦ At at | false ↦ matchFrom letter (at + 1) xs count ]
+matchFrom trigger at [] count = Nothing
+matchFrom trigger at (x ∷ xs) zero = Nothing
+matchFrom trigger at (x ∷ xs) (suc count) = elim (eqb (x .trigger) trigger) [ true ↦ At at | false ↦ matchFrom trigger (at + 1) xs count ]
 
--- the first of the `count` records from `first` on that has the letter
+-- the first of the `count` records from `first` on that has the trigger
 unfoldable pub firstMatch : ℕ → List Order → ℕ → ℕ → Found
-firstMatch letter xs first count = matchFrom letter first (drop first xs) count
+firstMatch trigger xs first count = matchFrom trigger first (drop first xs) count

@@ -1,4 +1,4 @@
-// Order records, and the search for the first with a letter in a lent slice of them.
+// Order records, and the search for the first with a trigger in a lent slice of them.
 ghost use mathlib.Core.Path.{_≡_};
 ghost use Rattle.orders.specs.Orders.{firstMatch};
 
@@ -10,9 +10,9 @@ pub enum Kind {
     Logic,
 }
 
-// A letter, the kind of what it calls, and the number of the declaration that is called.
+// A trigger, the kind of what it calls, and the number of the declaration that is called.
 pub struct Order {
-    pub letter: u8,
+    pub trigger: u16,
     pub kind: Kind,
     pub number: u16,
 }
@@ -22,9 +22,9 @@ pub enum Found {
     At(usize),
 }
 
-// The first of the `count` records from `first` on that has the letter. The part may reach past the end.
-pub fn find_match(orders: &[Order], letter: u8, first: usize, count: usize) -> Found
-    ensures { λ r. ⌜ r ≡ firstMatch letter (now (orders .entry)) first count ⌝ }
+// The first of the `count` records from `first` on that has the trigger. The part may reach past the end.
+pub fn find_match(orders: &[Order], trigger: u16, first: usize, count: usize) -> Found
+    ensures { λ r. ⌜ r ≡ firstMatch trigger (now (orders .entry)) first count ⌝ }
 {
     let mut i = first;
     let mut left = count;
@@ -32,7 +32,7 @@ pub fn find_match(orders: &[Order], letter: u8, first: usize, count: usize) -> F
         if i >= orders.len() {
             return Found::Nothing;
         }
-        if orders[i].letter == letter {
+        if orders[i].trigger == trigger {
             return Found::At(i);
         }
         i += 1;
@@ -42,8 +42,8 @@ pub fn find_match(orders: &[Order], letter: u8, first: usize, count: usize) -> F
 }
 
 // The same of an array that is lent here, for callers with plain parameters.
-pub fn find_match_in(orders: [Order; 512], letter: u8, first: usize, count: usize) -> Found
-    ensures { λ r. ⌜ r ≡ firstMatch letter orders first count ⌝ }
+pub fn find_match_in(orders: [Order; 512], trigger: u16, first: usize, count: usize) -> Found
+    ensures { λ r. ⌜ r ≡ firstMatch trigger orders first count ⌝ }
 {
-    find_match(&orders, letter, first, count)
+    find_match(&orders, trigger, first, count)
 }

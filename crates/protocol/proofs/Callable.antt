@@ -1,7 +1,6 @@
--- What valid tables have for a call: all that the call reads; and a valid state stays valid. Assumes nothing.
+-- What valid tables have for a call: all that the call reads, and an action that keeps valid states valid. Assumes nothing.
 use mathlib.Core.Path.{_≡_, _∙_, subst}
 use mathlib.Core.Bool.{true}
-use mathlib.Core.List.{List, [], _∷_}
 use mathlib.Core.Option.{Option, some, none}
 use Prim.Native.Nat.{ℕ, _<_}
 use native.Mathlib.Omega.{arith}
@@ -23,12 +22,8 @@ use Rattle.tables.proofs.Lists.{part-length}
 use Rattle.validity.specs.Valid.{validTables}
 use Rattle.validity.specs.Inner.{ValidSystem}
 use Rattle.validity.proofs.Laws.{ValidRow, row-valid, fields-fit}
-use Rattle.protocol.specs.declared.Callee.{Callee}
-use Rattle.protocol.specs.declared.Callee.the-variants.{Nothing, Row}
-use Rattle.protocol.specs.Letters.{actionBy, actionAt}
-use Rattle.protocol.specs.Answers.{byAction, callOn, tuningFrom}
-use Rattle.protocol.specs.Inner.{callsOf, CallableRow, Callable, CallableFound}
-use Rattle.protocol.proofs.Pressable.{Within}
+use Rattle.protocol.specs.Triggers.{actionBy, actionAt}
+use Rattle.protocol.specs.Inner.{tuned, tunedBy, CallableRow, Callable}
 
 -- a valid state of sixty places
 abbrev pub Whole : State → Type 0
@@ -43,12 +38,8 @@ module _ (t : Tables) (v : validTables t ≡ true) where
   callable-row (Retuning r from to) h = h
   callable-row (Logic c s from to) h = tt
 
-  callable : (k : ℕ) → k < rowCount t → Callable t k
+  pub callable : (k : ℕ) → k < rowCount t → Callable t k
   callable k h = record { fields = fields-fit t v k h; row = callable-row (rowAt t k) (row-valid t v k h) }
-
-  pub callable-found : (f : Callee) → Within t (callsOf f) → CallableFound t f
-  callable-found Nothing h = tt
-  callable-found (Row k) h = callable k (h .0)
 
   -- ---- the state after a call
 
@@ -76,15 +67,9 @@ module _ (t : Tables) (v : validTables t ≡ true) where
   action-valid (Retuning r from to) h = retuning-valid r (values.listed (changesFrom t from to))
   action-valid (Logic c s from to) h = tt
 
-  call-valid : (s : State) (k : ℕ) → k < rowCount t → Whole s → Whole (callOn t s k .state)
-  unfolding callOn
+  pub call-valid : (s : State) (k : ℕ) → k < rowCount t → Whole s → Whole (tunedBy t s k .state)
   call-valid s k h w = go (actionAt t k) (action-valid (rowAt t k) (row-valid t v k h))
     where
-      go : (o : Option (Action cents)) → SomeValid o → Whole (byAction s o .state)
+      go : (o : Option (Action cents)) → SomeValid o → Whole (tuned s o .state)
       go none a = w
       go (some c) a = state-valid s (w .0) (w .1) c a
-
-  pub tuning-valid : (s : State) (ks : List ℕ) → Within t ks → Whole s → Whole (tuningFrom t s ks)
-  unfolding tuningFrom
-  tuning-valid s [] h w = w
-  tuning-valid s (k ∷ ks) h w = tuning-valid (callOn t s k .state) ks (h .1) (call-valid s k (h .0) w)

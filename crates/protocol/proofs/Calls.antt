@@ -1,10 +1,13 @@
--- The call of a declaration, by its row; and what the tables hold of it. Assumes nothing.
+-- The call of a declaration, by its row; what the tables hold of it; and a step by its call. Assumes nothing.
 use mathlib.Core.Path.{_≡_, refl, ap, sym, _∙_, subst}
 use mathlib.Core.List.{List, [], _∷_}
+use mathlib.Core.Option.{Option, some, none}
 use Prim.Native.Nat.{ℕ}
 use types.Run.{OneOf, miss}
 use denote.Enum.Declared.{tagOf}
 use Rattle.status.specs.Status.{done}
+use Rattle.tuning.specs.Tuning.{Action}
+use Rattle.tuning.specs.Desk.{cents}
 use Rattle.tuning.specs.declared.State.{State}
 use Rattle.tuning.specs.declared.Reply.{Reply}
 use Rattle.tables.specs.declared.Row.{Row as TableRow}
@@ -13,9 +16,12 @@ use Rattle.tables.specs.Layout.{Tables, rowAt}
 use Rattle.tables.proofs.Row as variants
 use Rattle.protocol.specs.declared.Callee.{Callee}
 use Rattle.protocol.specs.declared.Callee.the-variants.{Nothing, Row}
-use Rattle.protocol.specs.Letters.{actionBy}
-use Rattle.protocol.specs.Answers.{byAction, callOn, tuningFrom, madeFrom}
-use Rattle.protocol.specs.Inner.{CallableRow, Callable, CallsFound}
+use Rattle.protocol.specs.declared.Desk.{Desk}
+use Rattle.protocol.specs.declared.Stepped.{Stepped}
+use Rattle.protocol.specs.declared.triggers.Press.{Press}
+use Rattle.protocol.specs.Triggers.{Sought, actionBy, actionAt, Struck, struck}
+use Rattle.protocol.specs.Steps.{withTuning, withActive, byAction, callOn, deskFrom, madeFrom, lastNumber, triggered}
+use Rattle.protocol.specs.Inner.{callsOf, struckBy, tuned, tunedBy, callLeaves, stepLeaves, CallableRow, Callable}
 
 -- the variants of a row that call nothing
 abbrev pub uncalled : List ℕ
@@ -23,7 +29,7 @@ uncalled = 0 ∷ 1 ∷ 2 ∷ 5 ∷ []
 
 module _ (t : Tables) (s : State) where
   pub call-none : (r : TableRow) → OneOf uncalled (tagOf variants.the-type r)
-      → _≡_ {A = Reply} (record { state = s; number = done }) (byAction s (actionBy t r))
+      → _≡_ {A = Reply} (record { state = s; number = done }) (tuned s (actionBy t r))
   call-none Unused h = refl
   call-none (Interval d) h = refl
   call-none (Tone p) h = refl
@@ -31,21 +37,43 @@ module _ (t : Tables) (s : State) where
   call-none (Retuning r from to) h = absurd (miss uncalled 4 tt h)
   call-none (Logic c n from to) h = refl
 
-  pub call-row : (k : ℕ) {r : TableRow} → r ≡ rowAt t k → byAction s (actionBy t r) ≡ callOn t s k
-  unfolding callOn
-  call-row k e = ap (λ (x : TableRow). byAction s (actionBy t x)) e
+  pub call-row : (k : ℕ) {r : TableRow} → r ≡ rowAt t k → tuned s (actionBy t r) ≡ tunedBy t s k
+  call-row k e = ap (λ (x : TableRow). tuned s (actionBy t x)) e
 
 -- the row that was read has what a call needs
 pub row-callable : {t : Tables} {k : ℕ} → Callable t k → {r q : TableRow} → r ≡ rowAt t k → r ≡ q → CallableRow t q
 row-callable {t} h e f = subst (CallableRow t) (sym e ∙ f) (h .row)
 
--- ---- at most one call
+-- a call changes the desk's tuning alone
+pub call-leaves : (t : Tables) (house : ℕ) (d : Desk) (k : ℕ) {q : Reply} → q ≡ tunedBy t (d .tuning) k
+    → _≡_ {A = Stepped} (record { desk = withTuning (q .state) d; number = q .number }) (callLeaves (callOn t house d k))
+unfolding callOn
+call-leaves t house d k e = ap leaves e ∙ go (actionAt t k)
+  where
+    leaves : Reply → Stepped
+    leaves r = record { desk = withTuning (r .state) d; number = r .number }
 
-module _ (t : Tables) (s : State) (f : Callee) where
-  pub made-none : f ≡ Nothing → CallsFound t s f (record { state = s; number = done })
-  unfolding tuningFrom madeFrom
-  made-none e = record { state = rw e; number = rw e }
+    go : (o : Option (Action cents)) → leaves (tuned (d .tuning) o) ≡ callLeaves (byAction house d o)
+    go none = refl
+    go (some c) = refl
 
-  pub made-one : {k : ℕ} {r : Reply} → f ≡ Row k → r ≡ callOn t s k → CallsFound t s f r
-  unfolding tuningFrom madeFrom
-  made-one e h = record { state = rw e (ap (λ (x : Reply). x .state) h); number = rw e (ap (λ (x : Reply). x .number) h) }
+-- ---- a step, by what is found: at most one call
+
+module _ (t : Tables) (house : ℕ) (d : Desk) (x : Sought) (unfound : ℕ) (p : Press) (e : struckBy p ≡ struck t (d .active) x) where
+  abbrev leaves : Struck → Stepped
+  leaves z =
+      let e = withActive (z .active) d in
+      record { desk = deskFrom t house e (z .calls); number = lastNumber unfound (madeFrom t house e (z .calls)) }
+
+  by-call : {f : Callee} → p .called ≡ f → leaves (record { active = p .active; calls = callsOf f }) ≡ stepLeaves (triggered t house d x unfound)
+  unfolding triggered
+  by-call h = ap (λ (f : Callee). leaves (record { active = p .active; calls = callsOf f })) (sym h) ∙ ap leaves e
+
+  pub step-none : p .called ≡ Nothing → _≡_ {A = Stepped} (record { desk = withActive (p .active) d; number = unfound }) (stepLeaves (triggered t house d x unfound))
+  unfolding deskFrom madeFrom
+  step-none h = by-call h
+
+  pub step-one : {k : ℕ} {r : Stepped} → p .called ≡ Row k → r ≡ callLeaves (callOn t house (withActive (p .active) d) k)
+      → r ≡ stepLeaves (triggered t house d x unfound)
+  unfolding deskFrom madeFrom
+  step-one h f = f ∙ by-call h

@@ -11,11 +11,11 @@ use Rattle.orders.specs.declared.Kind.the-variants as kind
 use Rattle.tables.specs.declared.Numbers.{Numbers}
 use Rattle.tables.specs.declared.Row.{Row}
 use Rattle.tables.specs.declared.Row.the-variants.{Unused}
-use Rattle.tables.specs.Layout.{numbers, rowOf, systemForm, anchorForm, tonesForm, logicForm}
+use Rattle.tables.specs.Layout.{numbers, rowOf, asLogic, systemForm, anchorForm, tonesForm, logicForm}
 use Rattle.tables.proofs.Forms.{by-form, no-row}
 use Rattle.validity.specs.Valid.{isLogic}
-use Rattle.protocol.specs.Letters.{isLogicOf}
-use Rattle.protocol.specs.Inner.{kindOf, isLogicKind}
+use Rattle.protocol.specs.Triggers.{passes}
+use Rattle.protocol.specs.Inner.{isTrigger, kindOf, isLogicKind}
 
 -- the kind of a row, as the code finds it by the form
 abbrev pub kindBy : ℕ → Kind
@@ -30,10 +30,10 @@ module _ (n : Numbers) where
   none : (f : ℕ) → logicForm < f → row f ≡ Unused
   none f h = no-row f (n .first) (n .second) (n .from) (n .to) h
 
-  pub logic-by : (letter : ℕ) → eqb (n .form) logicForm && eqb (up (n .first)) letter ≡ isLogicOf letter (rowOf n)
+  pub logic-by : (trigger : ℕ) → eqb (n .form) logicForm && eqb (up (n .first)) trigger ≡ passes (isTrigger trigger) (asLogic (rowOf n))
   unfolding rowOf
-  logic-by letter =
-      by-form (λ f. eqb f logicForm && eqb (up (n .first)) letter ≡ isLogicOf letter (row f)) refl refl refl refl refl refl refl refl refl
+  logic-by trigger =
+      by-form (λ f. eqb f logicForm && eqb (up (n .first)) trigger ≡ passes (isTrigger trigger) (asLogic (row f))) refl refl refl refl refl refl refl refl refl
       (λ f h. rw (none f h, ne-eqb f logicForm (omega arith))) (n .form)
 
   pub logic-is : eqb (n .form) logicForm ≡ isLogic (rowOf n)

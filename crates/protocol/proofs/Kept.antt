@@ -2,7 +2,7 @@
 use mathlib.Core.Path.{_≡_, refl, ap, _∙_}
 use mathlib.Core.Logic.{_≢_}
 use mathlib.Core.Bool.{Bool, true, false, cond, _&&_}
-use mathlib.Core.List.{[], _∷_}
+use mathlib.Core.List.{List, [], _∷_}
 use mathlib.Core.Option.{Option, some, none}
 use Prim.Native.Nat.{ℕ, zero, suc}
 use lib.Dec.{ltb}
@@ -11,65 +11,64 @@ use Rattle.status.specs.Status.{bufferTooSmall, letterUnbound, tableDamaged}
 use Rattle.tuning.specs.Tuning.{Action}
 use Rattle.tuning.specs.Desk.{cents}
 use Rattle.tuning.specs.State.{places, held, coded, validState}
-use Rattle.tuning.specs.declared.State.{State}
 use Rattle.tuning.proofs.Lists.{both}
 use Rattle.tuning.proofs.Held.{coded-held}
 use Rattle.tuning.proofs.Laws.{refused-keeps}
-use Rattle.tables.specs.declared.Row.{Row}
-use Rattle.tables.specs.declared.Row.the-variants.{Unused, Interval, Tone, System, Retuning, Logic}
-use Rattle.tables.specs.Layout.{Tables, rowCount, rowAt}
+use Rattle.tables.specs.Layout.{Tables, AsLogic, no-logic, a-logic, asLogic, rowAt}
 use Rattle.validity.specs.Valid.{validTables}
-use Rattle.frames.specs.Frames.{frameOf}
-use Rattle.frames.specs.declared.Frame.{Frame}
-use Rattle.frames.specs.declared.Frame.the-variants.{Bad, Letter, Key, Dump}
+use Rattle.frames.specs.Frames.{Frame, bad, letter, key, dump, frameOf}
 use Rattle.answers.specs.Answer.{smallestBuffer}
 use Rattle.protocol.specs.declared.Desk.{Desk}
-use Rattle.protocol.specs.Letters.{actionAt, firstLogic, elseOrder, callsBy, unlessUnbound, pressed}
-use Rattle.protocol.specs.Answers.{byAction, callOn, tuningFrom, madeFrom, lastNumber, letterOutcome, keyOutcome, frameOutcome, activeRight, validDesk, unchanged, answerOf}
+use Rattle.protocol.specs.declared.Active.{Active}
+use Rattle.protocol.specs.declared.Active.the-variants as active
+use Rattle.protocol.specs.Triggers.{Sought, itself, actionAt, callsAs, called, struck}
+use Rattle.protocol.specs.Steps.{withActive, byAction, callOn, deskFrom, madeFrom, lastNumber, triggered}
+use Rattle.protocol.specs.Answers.{letterOutcome, keyOutcome, frameOutcome, activeRight, validDesk, unchanged, answerOf}
 use Rattle.protocol.specs.Kept.{CallKeeps, FrameKeeps}
+use Rattle.protocol.proofs.Presses.{named}
 
-one-kept : (s : State) → validState s ≡ true → length (s .tones) ≡ places → (o : Option (Action cents)) → byAction s o .number ≢ 0 → byAction s o .state ≡ s
-one-kept s v n none h = refl
-one-kept s v n (some c) h = ap coded (refused-keeps (held s) c h) ∙ coded-held s v n
+one-kept : (house : ℕ) (d : Desk) → validState (d .tuning) ≡ true → length (d .tuning .tones) ≡ places → (o : Option (Action cents))
+    → byAction house d o .number ≢ 0 → byAction house d o .desk .tuning ≡ d .tuning
+one-kept house d v n none h = refl
+one-kept house d v n (some c) h = ap coded (refused-keeps (held (d .tuning)) c h) ∙ coded-held (d .tuning) v n
 
 pub call-keeps : CallKeeps
 unfolding CallKeeps callOn
-call-keeps t s v n k h = one-kept s v n (actionAt t k) h
+call-keeps t house d v n k h = one-kept house d v n (actionAt t k) h
 
 module _ (t : Tables) (d : Desk) (n : length (d .tuning .tones) ≡ places) (v : validState (d .tuning) ≡ true) where
-  call-kept : (k : ℕ) → lastNumber (madeFrom t (d .tuning) (k ∷ [])) ≢ 0 → tuningFrom t (d .tuning) (k ∷ []) ≡ d .tuning
-  unfolding tuningFrom madeFrom callOn
-  call-kept k h = one-kept (d .tuning) v n (actionAt t k) h
+  -- a step makes at most one call
+  module _ (house unfound : ℕ) where
+    abbrev Keeps : Active → List ℕ → Type 0
+    Keeps a ks = let e = withActive a d in lastNumber unfound (madeFrom t house e ks) ≢ 0 → deskFrom t house e ks .tuning ≡ d .tuning
 
-  no-call : tuningFrom t (d .tuning) [] ≡ d .tuning
-  unfolding tuningFrom
-  no-call = refl
+    call-kept : (a : Active) (k : ℕ) → Keeps a (k ∷ [])
+    unfolding deskFrom madeFrom callOn
+    call-kept a k h = one-kept house (withActive a d) v n (actionAt t k) h
 
-  row-kept : (k : ℕ) (r : Row) → let x = callsBy (d .active) k r in cond (x .bound) (lastNumber (madeFrom t (d .tuning) (x .calls))) letterUnbound ≢ 0
-      → tuningFrom t (d .tuning) (x .calls) ≡ d .tuning
-  row-kept k Unused h = call-kept k h
-  row-kept k (Interval i) h = call-kept k h
-  row-kept k (Tone p) h = call-kept k h
-  row-kept k (System b P from to) h = call-kept k h
-  row-kept k (Retuning r from to) h = call-kept k h
-  row-kept k (Logic c zero from to) h = no-call
-  row-kept k (Logic c (suc j) from to) h = call-kept j h
+    no-call : (a : Active) → Keeps a []
+    unfolding deskFrom
+    no-call a h = refl
 
-  letter-kept : (house letter : ℕ) → letterOutcome t d house letter .number ≢ 0 → letterOutcome t d house letter .desk .tuning ≡ d .tuning
-  unfolding letterOutcome pressed
-  letter-kept house letter = go (elseOrder t (d .active) letter (firstLogic (t .rows) letter 0 (rowCount t)))
-    where
-      go : (o : Option ℕ) → let x = unlessUnbound t (d .active) o in cond (x .bound) (lastNumber (madeFrom t (d .tuning) (x .calls))) letterUnbound ≢ 0
-          → tuningFrom t (d .tuning) (x .calls) ≡ d .tuning
-      go none h = no-call
-      go (some k) h = row-kept k (rowAt t k) h
+    logic-kept : (k : ℕ) (l : AsLogic) → let z = callsAs (d .active) k l in Keeps (z .active) (z .calls)
+    logic-kept k no-logic = call-kept (d .active) k
+    logic-kept k (a-logic c zero from to) = call-kept (active.Logic k) k
+    logic-kept k (a-logic c (suc j) from to) = call-kept (active.Logic k) j
+
+    called-kept : (o : Option ℕ) → let z = called t (d .active) o in Keeps (z .active) (z .calls)
+    called-kept none = no-call (d .active)
+    called-kept (some k) = logic-kept k (asLogic (rowAt t k))
+
+    step-kept : (x : Sought) → triggered t house d x unfound .number ≢ 0 → triggered t house d x unfound .desk .tuning ≡ d .tuning
+    unfolding triggered struck
+    step-kept x = called-kept (named t (d .active) x)
 
   frame-kept : (f : Frame) → frameOutcome t d f .number ≢ 0 → frameOutcome t d f .desk .tuning ≡ d .tuning
-  unfolding frameOutcome keyOutcome
-  frame-kept Bad h = refl
-  frame-kept (Letter house letter) h = letter-kept house letter h
-  frame-kept (Key house key) h = refl
-  frame-kept (Dump house) h = refl
+  unfolding frameOutcome letterOutcome keyOutcome
+  frame-kept bad h = refl
+  frame-kept (letter house c) h = step-kept house letterUnbound (itself c) h
+  frame-kept (key house k) h = refl
+  frame-kept (dump house) h = refl
 
 pub frame-keeps : FrameKeeps
 unfolding FrameKeeps answerOf

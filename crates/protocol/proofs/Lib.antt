@@ -1,4 +1,4 @@
--- What a letter calls, the calls, and the ways through a frame.
+-- What a trigger calls, the calls, and the ways through a frame.
 pub mod Forms
 pub mod Searches
 pub mod Index

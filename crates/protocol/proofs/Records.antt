@@ -3,7 +3,7 @@ use mathlib.Core.Path.{_≡_, refl, sym, ap, _∙_}
 use mathlib.Core.Bool.{Bool, true, false}
 use mathlib.Core.List.{List, [], _∷_, _++_, zipWith}
 use mathlib.Core.Option.{some}
-use Prim.Native.Nat.{ℕ, suc, _+_, _-_, _*_, _≤_, _<_, _^_}
+use Prim.Native.Nat.{ℕ, suc, _+_, _-_, _*_, _≤_, _<_}
 use native.Mathlib.Numerals.{add-one}
 use native.Mathlib.Omega.{arith}
 use types.Run.{OneOf, miss}
@@ -23,10 +23,10 @@ use Rattle.orders.proofs.Laws.{match-within}
 use Rattle.tables.specs.Layout.{orderWidth, triggersIn, callsIn, mostOrders, full}
 use Rattle.tables.proofs.Columns.{letter-at, call-at, columns-length}
 use Rattle.tables.proofs.Lists.{full-length, full-next}
-use Rattle.protocol.specs.declared.letters.Called.{Called}
-use Rattle.protocol.specs.declared.letters.Called.the-variants as called
-use Rattle.protocol.specs.Letters.{firstOrder}
-use Rattle.protocol.specs.Inner.{kindAt, isLogicKind, byKind, calledIn, recordOf, recordsOf, gathered, OrderPart}
+use Rattle.protocol.specs.declared.triggers.Called.{Called}
+use Rattle.protocol.specs.declared.triggers.Called.the-variants as called
+use Rattle.protocol.specs.Triggers.{firstOrder}
+use Rattle.protocol.specs.Inner.{isTrigger, kindAt, isLogicKind, byKind, calledIn, recordOf, recordsOf, gathered, OrderPart}
 
 -- ---- gathering: where the loop begins, one turn of it, and its end
 
@@ -61,7 +61,7 @@ module _ {rows : List ℤ} {triggers calls : List ℕ} {from to : ℕ} (p : Orde
 
   module _ {all : List Order} {i : ℕ} (g : Gathering rows triggers calls from to all i) where
     pub gathering-next : {kind : Kind} → i < to → kind ≡ kindAt rows (getD calls i 0)
-        → Gathering rows triggers calls from to (set all (i - from) (record { letter = getD triggers i 0; kind = kind; number = getD calls i 0 })) (i + 1)
+        → Gathering rows triggers calls from to (set all (i - from) (record { trigger = getD triggers i 0; kind = kind; number = getD calls i 0 })) (i + 1)
     unfolding zipWith
     gathering-next h e =
         let first : rest rows triggers calls to i ≡ recordOf rows (getD triggers i 0) (getD calls i 0) ∷ rest rows triggers calls to (i + 1) =
@@ -77,17 +77,13 @@ module _ {rows : List ℤ} {triggers calls : List ℕ} {from to : ℕ} (p : Orde
 pub gathering-order : {rows : List ℤ} (orders : List ℕ) {from to : ℕ} → OrderPart (triggersIn orders) (callsIn orders) from to → {all : List Order} {i : ℕ}
     → Gathering rows (triggersIn orders) (callsIn orders) from to all i → {kind : Kind} → i < to → kind ≡ kindAt rows (getD orders (orderWidth * i + 1) 0)
     → Gathering rows (triggersIn orders) (callsIn orders) from to
-    (set all (i - from) (record { letter = getD orders (orderWidth * i) 0; kind = kind; number = getD orders (orderWidth * i + 1) 0 })) (i + 1)
+    (set all (i - from) (record { trigger = getD orders (orderWidth * i) 0; kind = kind; number = getD orders (orderWidth * i + 1) 0 })) (i + 1)
 gathering-order {rows} orders p {all} {i} g h e =
     rw (letter-at orders i, call-at orders i) (gathering-next p g h (e ∙ ap (kindAt rows) (call-at orders i)))
 
--- the code of a letter is a byte, and both codes stand in the slice
-module _ (orders : List ℕ) {from to : ℕ} (p : OrderPart (triggersIn orders) (callsIn orders) from to) where
-  pub letter-byte : (i : ℕ) → i < to → getD orders (orderWidth * i) 0 < 2 ^ 8
-  letter-byte i h = rw (letter-at orders i) (p .bytes i h)
-
-  pub codes-there : orderWidth * to ≤ length orders
-  codes-there = omega (arith, p .triggers, p .calls, columns-length orders)
+-- both codes of each order stand in the slice
+pub codes-there : (orders : List ℕ) {from to : ℕ} → OrderPart (triggersIn orders) (callsIn orders) from to → orderWidth * to ≤ length orders
+codes-there orders p = omega (arith, p .triggers, p .calls, columns-length orders)
 
 -- ---- searching
 
@@ -106,10 +102,10 @@ abbrev pub calledAt : List Order → Match → Called
 calledAt xs match.Nothing = called.Nothing
 calledAt xs (match.At i) = byKind (orderAt xs i .kind) (orderAt xs i .number)
 
-module _ (rows : List ℤ) (letter : ℕ) where
+module _ (rows : List ℤ) (trigger : ℕ) where
   -- `seen` stands before the records, `rest` after them
   called-from : (seen : List Order) (at : ℕ) (cs ks : List ℕ) (rest : List Order) → length seen ≡ at → length cs ≡ length ks
-      → let xs = recordsOf rows cs ks ++ rest in calledAt (seen ++ xs) (matchFrom letter at xs (length cs)) ≡ calledIn rows (firstOrder letter cs ks)
+      → let xs = recordsOf rows cs ks ++ rest in calledAt (seen ++ xs) (matchFrom trigger at xs (length cs)) ≡ calledIn rows (firstOrder (isTrigger trigger) cs ks)
   unfolding zipWith matchFrom firstOrder
   called-from seen at [] ks [] l e = refl
   called-from seen at [] ks (x ∷ rest) l e = refl
@@ -117,34 +113,34 @@ module _ (rows : List ℤ) (letter : ℕ) where
   called-from seen at (c ∷ cs) (k ∷ ks) rest l e =
       let x = recordOf rows c k in
       let m : length (seen ++ x ∷ []) ≡ at + 1 = omega (arith, length-append seen (x ∷ [])) in
-      go (eqb c letter) (called-from (seen ++ x ∷ []) (at + 1) cs ks rest m (omega arith))
+      go (eqb c trigger) (called-from (seen ++ x ∷ []) (at + 1) cs ks rest m (omega arith))
     where
       go : (b : Bool) → let x = recordOf rows c k in let xs = recordsOf rows cs ks ++ rest in
-          calledAt (seen ++ x ∷ [] ++ xs) (matchFrom letter (at + 1) xs (length cs)) ≡ calledIn rows (firstOrder letter cs ks)
-          → calledAt (seen ++ x ∷ xs) (elim b [ true ↦ match.At at | false ↦ matchFrom letter (at + 1) xs (length cs) ])
-          ≡ calledIn rows (elim b [ true ↦ some k | false ↦ firstOrder letter cs ks ])
+          calledAt (seen ++ x ∷ [] ++ xs) (matchFrom trigger (at + 1) xs (length cs)) ≡ calledIn rows (firstOrder (isTrigger trigger) cs ks)
+          → calledAt (seen ++ x ∷ xs) (elim b [ true ↦ match.At at | false ↦ matchFrom trigger (at + 1) xs (length cs) ])
+          ≡ calledIn rows (elim b [ true ↦ some k | false ↦ firstOrder (isTrigger trigger) cs ks ])
       go true later = rw (getD-at seen (recordOf rows c k) (recordsOf rows cs ks ++ rest) noOrder at l)
       go false later = rw append-snoc at later
 
-  -- the first record with the letter calls what the first order with it calls
+  -- the first record with the trigger calls what the first order with it calls
   called-first : (cs ks : List ℕ) → length cs ≡ length ks
       → let xs = full noOrder mostOrders (recordsOf rows cs ks) in
-      calledAt xs (firstMatch letter xs 0 (length cs)) ≡ calledIn rows (firstOrder letter cs ks)
+      calledAt xs (firstMatch trigger xs 0 (length cs)) ≡ calledIn rows (firstOrder (isTrigger trigger) cs ks)
   unfolding firstMatch
   called-first cs ks e = called-from [] 0 cs ks _ refl e
 
   module _ {triggers calls : List ℕ} {from to : ℕ} (p : OrderPart triggers calls from to) {all : List Order} {m : Match}
-      (e : all ≡ gathered rows triggers calls from to) (f : firstMatch letter all 0 (to - from) ≡ m) where
-    pub called-gathered : calledAt all m ≡ calledIn rows (firstOrder letter (slice from to triggers) (slice from to calls))
+      (e : all ≡ gathered rows triggers calls from to) (f : firstMatch trigger all 0 (to - from) ≡ m) where
+    pub called-gathered : calledAt all m ≡ calledIn rows (firstOrder (isTrigger trigger) (slice from to triggers) (slice from to calls))
     called-gathered =
         let xs = gathered rows triggers calls from to in
         let n : length (slice from to triggers) ≡ to - from = length-slice from to triggers (p .triggers) in
         ap (calledAt all) (sym f)
-        ∙ ap (λ (l : List Order). calledAt l (firstMatch letter l 0 (to - from))) e
-        ∙ ap (λ (k : ℕ). calledAt xs (firstMatch letter xs 0 k)) (sym n)
+        ∙ ap (λ (l : List Order). calledAt l (firstMatch trigger l 0 (to - from))) e
+        ∙ ap (λ (k : ℕ). calledAt xs (firstMatch trigger xs 0 k)) (sym n)
         ∙ called-first (slice from to triggers) (slice from to calls) (n ∙ sym (length-slice from to calls (p .calls)))
 
     pub found-gathered : {i : ℕ} → m ≡ match.At i → i < mostOrders
     found-gathered h =
         let n = full-length noOrder mostOrders (rest rows triggers calls to from) (rest-fits rows p) in
-        omega (arith, match-within letter all 0 (to - from) (f ∙ h), ap length e, n)
+        omega (arith, match-within trigger all 0 (to - from) (f ∙ h), ap length e, n)

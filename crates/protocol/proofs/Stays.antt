@@ -1,6 +1,6 @@
 -- A right desk over valid tables stays right, whatever the stream: so 23 is never given after the start. Assumes nothing.
 use mathlib.Core.Path.{_≡_, refl, sym, subst}
-use mathlib.Core.Bool.{true}
+use mathlib.Core.Bool.{true, _&&_}
 use mathlib.Core.List.{List, [], _∷_}
 use mathlib.Core.Option.{Option, some, none}
 use Prim.Native.Nat.{ℕ, _<_}
@@ -8,30 +8,31 @@ use native.Mathlib.Decide.{decLt}
 use native.Mathlib.Omega.{arith}
 use borrow.Author.Tests.{lt-ltb}
 use lib.ListN.{length}
-use Rattle.tuning.specs.Tuning.{start}
+use Rattle.status.specs.Status.{letterUnbound}
+use Rattle.tuning.specs.Tuning.{Action, start}
 use Rattle.tuning.specs.Desk.{cents}
-use Rattle.tuning.specs.State.{places}
+use Rattle.tuning.specs.State.{places, validState}
+use Rattle.tuning.proofs.Lists.{both}
 use Rattle.tuning.proofs.Held.{length-coded}
 use Rattle.tuning.proofs.Laws.{start-valid, start-state-valid}
 use Rattle.tables.specs.declared.Row.{Row as TableRow}
 use Rattle.tables.specs.declared.Row.the-variants.{Unused, Interval, Tone, System, Retuning, Logic}
-use Rattle.tables.specs.Layout.{Tables, rowCount, rowAt}
+use Rattle.tables.specs.Layout.{Tables, rowCount, rowAt, asLogic}
 use Rattle.validity.specs.Valid.{validTables}
-use Rattle.frames.specs.Frames.{frameOf}
-use Rattle.frames.specs.declared.Frame.{Frame}
-use Rattle.frames.specs.declared.Frame.the-variants.{Bad, Letter, Key, Dump}
+use Rattle.frames.specs.Frames.{Frame, bad, letter, key, dump, frameOf}
 use Rattle.answers.specs.Answer.{smallestBuffer}
 use Rattle.protocol.specs.declared.Active.{Active}
 use Rattle.protocol.specs.declared.Active.the-variants as active
 use Rattle.protocol.specs.declared.Desk.{Desk}
-use Rattle.protocol.specs.Letters.{callsBy, unlessUnbound, pressed}
+use Rattle.protocol.specs.Triggers.{Sought, itself, actionAt, callsAs, called, struck}
+use Rattle.protocol.specs.Steps.{withActive, byAction, callOn, deskFrom, triggered}
 use Rattle.protocol.specs.Answers.{startDesk, Outcome, letterOutcome, keyOutcome, frameOutcome, activeRight, validDesk, answerOf}
-use Rattle.protocol.specs.Inner.{Ready}
+use Rattle.protocol.specs.Inner.{tuned}
 use Rattle.protocol.specs.Streams.{Lent, deskAfter}
 use Rattle.protocol.proofs.Presses.{named}
-use Rattle.protocol.proofs.Pressable.{named-within, pressed-within}
-use Rattle.protocol.proofs.Callable.{Whole, tuning-valid}
-use Rattle.protocol.proofs.Ways.{too-small, taken, letter-desk}
+use Rattle.protocol.proofs.Pressable.{Within, named-within, struck-within}
+use Rattle.protocol.proofs.Callable.{Whole, call-valid}
+use Rattle.protocol.proofs.Ways.{tables-right, too-small, taken}
 
 module _ (t : Tables) (v : validTables t ≡ true) where
   -- a state of sixty places whose numbers are in their ranges, and no active logic, or one of the tables
@@ -45,8 +46,9 @@ module _ (t : Tables) (v : validTables t ≡ true) where
   pub start-right : Right startDesk
   start-right = record { tuning = (start-state-valid, length-coded (start cents) (start-valid .most)); active = refl }
 
-  module _ (a : Active) (h : activeRight t a ≡ true) (letter : ℕ) where
-    called-right : (k : ℕ) (r : TableRow) → rowAt t k ≡ r → k < rowCount t → activeRight t (callsBy a k r .active) ≡ true
+  -- what is active after a search is a logic
+  module _ (a : Active) (h : activeRight t a ≡ true) (x : Sought) where
+    called-right : (k : ℕ) (r : TableRow) → rowAt t k ≡ r → k < rowCount t → activeRight t (callsAs a k (asLogic r) .active) ≡ true
     called-right k Unused e l = h
     called-right k (Interval d) e l = h
     called-right k (Tone p) e l = h
@@ -54,28 +56,41 @@ module _ (t : Tables) (v : validTables t ≡ true) where
     called-right k (Retuning r from to) e l = h
     called-right k (Logic c s from to) e l = rw (lt-ltb k (rowCount t) l, e)
 
-    pressed-right : activeRight t (pressed t a letter .active) ≡ true
-    unfolding pressed
-    pressed-right = go (named t a letter) refl
+    pub struck-right : activeRight t (struck t a x .active) ≡ true
+    unfolding struck
+    struck-right = go (named t a x) refl
       where
-        go : (o : Option ℕ) → named t a letter ≡ o → activeRight t (unlessUnbound t a o .active) ≡ true
+        go : (o : Option ℕ) → named t a x ≡ o → activeRight t (called t a o .active) ≡ true
         go none e = h
-        go (some k) e = called-right k (rowAt t k) refl (named-within t v a h letter e)
+        go (some k) e = called-right k (rowAt t k) refl (named-within t v a h x e)
+
+  -- a desk stays right along calls of rows
+  call-right : (house : ℕ) (d : Desk) (k : ℕ) → k < rowCount t → Right d → Right (callOn t house d k .desk)
+  unfolding callOn
+  call-right house d k h r = go (actionAt t k) (call-valid t v (d .tuning) k h (r .tuning))
+    where
+      go : (o : Option (Action cents)) → Whole (tuned (d .tuning) o .state) → Right (byAction house d o .desk)
+      go none w = r
+      go (some c) w = record { tuning = w; active = r .active }
+
+  pub desk-valid : (house : ℕ) (d : Desk) (ks : List ℕ) → Within t ks → Right d → Right (deskFrom t house d ks)
+  unfolding deskFrom
+  desk-valid house d [] h r = r
+  desk-valid house d (k ∷ ks) h r = desk-valid house _ ks (h .1) (call-right house d k (h .0) r)
+
+  pub step-right : (d : Desk) → Right d → (house : ℕ) (x : Sought) (unfound : ℕ) → Right (triggered t house d x unfound .desk)
+  unfolding triggered
+  step-right d r house x unfound =
+      desk-valid house (withActive (struck t (d .active) x .active) d) (struck t (d .active) x .calls) (struck-within t v (d .active) (r .active) x)
+      (record { tuning = r .tuning; active = struck-right (d .active) (r .active) x })
 
   module _ (d : Desk) (r : Right d) where
-    letter-right : (house letter : ℕ) → Right (letterOutcome t d house letter .desk)
-    letter-right house letter =
-        subst Right (sym (letter-desk t d house letter)) (record {
-          tuning = tuning-valid t v (d .tuning) _ (pressed-within t v (d .active) (r .active) letter) (r .tuning);
-          active = pressed-right (d .active) (r .active) letter;
-        })
-
     frame-right : (f : Frame) → Right (frameOutcome t d f .desk)
-    unfolding frameOutcome keyOutcome
-    frame-right Bad = r
-    frame-right (Letter house letter) = letter-right house letter
-    frame-right (Key house key) = r
-    frame-right (Dump house) = r
+    unfolding frameOutcome letterOutcome keyOutcome
+    frame-right bad = r
+    frame-right (letter house c) = step-right d r house (itself c) letterUnbound
+    frame-right (key house k) = r
+    frame-right (dump house) = r
 
     pub answer-right : (frame : List ℕ) (room : ℕ) → Right (answerOf t d frame room .desk)
     answer-right frame room =
@@ -89,8 +104,8 @@ module _ (t : Tables) (v : validTables t ≡ true) where
   stream-right d r [] = r
   stream-right d r (l ∷ ls) = stream-right _ (answer-right d r (l .frame) (l .room)) ls
 
--- the same of a desk that is ready for a frame
-pub letter-valid : (t : Tables) (d : Desk) {buffer : List ℕ} → Ready t d buffer → length (d .tuning .tones) ≡ places → (house letter : ℕ)
-    → validDesk t (letterOutcome t d house letter .desk) ≡ true
-letter-valid t d r n house letter =
-    right-valid t (r .tables) _ (letter-right t (r .tables) d (record { tuning = (r .state, n); active = r .active }) house letter)
+-- the same of a desk that is known to be valid
+pub valid-right : (t : Tables) (d : Desk) (h : validDesk t d ≡ true) → length (d .tuning .tones) ≡ places → Right t (tables-right t d h) d
+valid-right t d h n =
+    let a = both (validTables t && validState (d .tuning)) (activeRight t (d .active)) h in
+    record { tuning = (both (validTables t) (validState (d .tuning)) (a .0) .1, n); active = a .1 }

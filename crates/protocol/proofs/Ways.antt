@@ -1,35 +1,34 @@
 -- The ways through a frame. Assumes nothing.
 use mathlib.Core.Path.{_≡_, refl, sym, ap, _∙_, subst}
-use mathlib.Core.Bool.{Bool, true, false, cond, _&&_}
+use mathlib.Core.Bool.{Bool, true, false, _&&_}
 use mathlib.Core.List.{List, [], _∷_}
 use Prim.Native.Nat.{ℕ, _≤_, _<_}
 use borrow.Author.Tests.{lt-ltb, le-ltb, leb-true}
 use types.Run.{OneOf, miss}
 use denote.Enum.Declared.{tagOf}
 use lib.ListN.{length}
-use Rattle.status.specs.Status.{bufferTooSmall, letterUnbound, tableDamaged}
+use Rattle.status.specs.Status.{bufferTooSmall, tableDamaged}
 use Rattle.tuning.specs.State.{held, heard, toneOf, validState}
-use Rattle.tuning.specs.declared.Reply.{Reply}
 use Rattle.tuning.specs.declared.Tone.{Tone}
 use Rattle.tuning.proofs.Lists.{both}
 use Rattle.tuning.proofs.Held.{heard-tone}
 use Rattle.tables.specs.Layout.{Tables}
 use Rattle.validity.specs.Valid.{validTables}
-use Rattle.frames.specs.Frames.{frameOf, inside, isHouse, isKey, lastKey}
-use Rattle.frames.specs.declared.Frame.{Frame}
-use Rattle.cents.specs.declared.KeyNumber.{KeyNumber}
-use Rattle.frames.specs.declared.Frame.the-variants.{Bad, Letter, Key, Dump}
+use Rattle.frames.specs.Frames.{Frame, bad, letter, key, dump, frameOf, inside, isHouse, isKey, lastKey, decodedAs}
+use Rattle.frames.specs.declared.Decoded.{Decoded}
+use Rattle.frames.specs.declared.Decoded.the-variants.{Bad, Letter, Key, Dump}
 use Rattle.hexadecimal.specs.Lines.{lineOf}
-use Rattle.frames.proofs.Frame as variants
+use Rattle.frames.proofs.Decoded as variants
+use Rattle.frames.proofs.Decoding.{letter-decoded}
 use Rattle.answers.specs.Answer.{letterBytes, keyBytes, smallestBuffer}
 use Rattle.protocol.specs.declared.Desk.{Desk}
 use Rattle.protocol.specs.declared.Answered.{Answered}
 use Rattle.protocol.specs.declared.Told.{Told}
-use Rattle.protocol.specs.declared.letters.Press.{Press}
-use Rattle.protocol.specs.Letters.{Pressed, pressed}
-use Rattle.protocol.specs.Answers.{tuningFrom, madeFrom, lastNumber, Outcome, letterOutcome, soundAt, keyNumber, keyOutcome, frameOutcome}
+use Rattle.protocol.specs.declared.Stepped.{Stepped}
+use Rattle.protocol.specs.Steps.{letterStep}
+use Rattle.protocol.specs.Answers.{Outcome, letterOutcome, soundAt, keyNumber, keyOutcome, frameOutcome}
 use Rattle.protocol.specs.Answers.{activeRight, validDesk, unchanged, answerOf, Gives}
-use Rattle.protocol.specs.Inner.{callsOf, pressedBy, Ready, toldOutcome, Tells}
+use Rattle.protocol.specs.Inner.{stepLeaves, Ready, KeyInside, toldOutcome, Tells}
 
 -- what gives an outcome gives an equal one
 pub gives : {r : Answered} {before after : List ℕ} {o q : Outcome} → o ≡ q → Gives o r before after → Gives q r before after
@@ -58,6 +57,9 @@ module _ (t : Tables) (d : Desk) where
       let b = both (validTables t) (validState (d .tuning)) (a .0) in
       record { tables = b .0; state = b .1; active = a .1; room = l }
 
+  pub ready-valid : {buffer : List ℕ} → Ready t d buffer → validDesk t d ≡ true
+  ready-valid r = rw (r .tables, r .state, r .active)
+
   pub tables-right : validDesk t d ≡ true → validTables t ≡ true
   tables-right h = both (validTables t) (validState (d .tuning)) (both (validTables t && validState (d .tuning)) (activeRight t (d .active)) h .0) .0
 
@@ -80,23 +82,26 @@ module _ (t : Tables) (d : Desk) (frame : List ℕ) (room : ℕ) where
 
 -- ---- by the frame
 
-pub key-inside : {f : Frame} (house : ℕ) (key : KeyNumber) → f ≡ Key house key → inside f ≡ true → key .0 ≤ lastKey
-key-inside house key e h = leb-true (key .0) lastKey (both (isHouse house) (isKey (key .0)) (ap inside (sym e) ∙ h) .1)
+pub key-inside : (f : Frame) {r : Decoded} → r ≡ decodedAs f → inside f ≡ true → KeyInside r
+key-inside f e h = subst KeyInside (sym e) (go f h)
+  where
+    go : (f : Frame) → inside f ≡ true → KeyInside (decodedAs f)
+    go bad h = tt
+    go (letter house c) h = tt
+    go (key house k) h = leb-true k lastKey (both (isHouse house) (isKey k) h .1)
+    go (dump house) h = tt
 
-module _ (t : Tables) (d : Desk) (frame : List ℕ) {f : Frame} (e : f ≡ frameOf frame) where
-  on-frame : {g : Frame} → f ≡ g → frameOutcome t d g ≡ frameOutcome t d (frameOf frame)
-  on-frame h = ap (frameOutcome t d) (sym h ∙ e)
-
-  pub on-letter : (house letter : ℕ) → f ≡ Letter house letter → letterOutcome t d house letter ≡ frameOutcome t d (frameOf frame)
-  unfolding frameOutcome
-  on-letter house letter h = on-frame h
+pub on-letter : (t : Tables) (d : Desk) (f : Frame) {r : Decoded} → r ≡ decodedAs f → (house c : ℕ) → r ≡ Letter house c
+    → letterOutcome t d house c ≡ frameOutcome t d f
+unfolding frameOutcome
+on-letter t d f e house c h = ap (frameOutcome t d) (sym (letter-decoded f (sym e ∙ h)))
 
 -- ---- what a frame is told that is no letter
 
 pub outcome-tells : {o q : Outcome} {r : Told} {before after : List ℕ} → o ≡ q → Tells o r before after → Tells q r before after
 outcome-tells {r = r} {before = before} {after = after} e h = subst (λ (x : Outcome). Tells x r before after) e h
 
-pub tells : (d : Desk) {f g : Frame} {r : Told} {before after : List ℕ} → f ≡ g → Tells (toldOutcome d g) r before after → Tells (toldOutcome d f) r before after
+pub tells : (d : Desk) {f g : Decoded} {r : Told} {before after : List ℕ} → f ≡ g → Tells (toldOutcome d g) r before after → Tells (toldOutcome d f) r before after
 tells d e h = outcome-tells (ap (toldOutcome d) (sym e)) h
 
 -- the variants of a frame that is no letter
@@ -107,47 +112,41 @@ noLetter = 0 ∷ 2 ∷ 3 ∷ []
 abbrev pub toldBy : Desk → Told → Answered
 toldBy d r = record { desk = d; number = r .number; length = r .length }
 
-pub told-gives : (t : Tables) (d : Desk) (f : Frame) {r : Told} {before after : List ℕ} → OneOf noLetter (tagOf variants.the-type f)
-    → Tells (toldOutcome d f) r before after → Gives (frameOutcome t d f) (toldBy d r) before after
+pub told-gives : (t : Tables) (d : Desk) (f : Frame) {q : Decoded} {r : Told} {before after : List ℕ} → q ≡ decodedAs f
+    → OneOf noLetter (tagOf variants.the-type q) → Tells (toldOutcome d q) r before after → Gives (frameOutcome t d f) (toldBy d r) before after
 unfolding frameOutcome keyOutcome
-told-gives t d Bad h r = record { desk = refl; number = r .number; size = r .size; buffer = r .buffer }
-told-gives t d (Letter house letter) h r = absurd (miss noLetter 1 tt h)
-told-gives t d (Key house key) h r = record { desk = refl; number = r .number; size = r .size; buffer = r .buffer }
-told-gives t d (Dump house) h r = record { desk = refl; number = r .number; size = r .size; buffer = r .buffer }
+told-gives t d f {q} {r} {before} {after} e h g =
+    go f (subst (λ (x : Decoded). OneOf noLetter (tagOf variants.the-type x)) e h) (subst (λ (x : Decoded). Tells (toldOutcome d x) r before after) e g)
+  where
+    go : (f : Frame) → OneOf noLetter (tagOf variants.the-type (decodedAs f)) → Tells (toldOutcome d (decodedAs f)) r before after
+        → Gives (frameOutcome t d f) (toldBy d r) before after
+    go bad h g = record { desk = refl; number = g .number; size = g .size; buffer = g .buffer }
+    go (letter house c) h g = absurd (miss noLetter 1 tt h)
+    go (key house k) h g = record { desk = refl; number = g .number; size = g .size; buffer = g .buffer }
+    go (dump house) h g = record { desk = refl; number = g .number; size = g .size; buffer = g .buffer }
 
 -- ---- a letter
 
-module _ (t : Tables) (d : Desk) (house letter : ℕ) where
-  -- by what the letter comes to
-  abbrev outcome : Pressed → Outcome
-  outcome x =
-      let s = tuningFrom t (d .tuning) (x .calls) in
-      let ms = madeFrom t (d .tuning) (x .calls) in
-      let n = cond (x .bound) (lastNumber ms) letterUnbound in
-      record { desk = record { tuning = s; active = x .active }; number = n; made = ms; line = lineOf (letterBytes house letter n (held s)) }
+module _ (t : Tables) (d : Desk) (house c : ℕ) where
+  -- by the desk and the number that the step leaves
+  abbrev pub outcome : Stepped → Outcome
+  outcome r =
+      record {
+        desk = r .desk;
+        number = r .number;
+        made = letterStep t house d c .made;
+        line = lineOf (letterBytes house c (r .number) (held (r .desk .tuning)));
+      }
 
-  pub letter-gives : (p : Press) (q : Reply) (n : ℕ) → pressedBy p ≡ pressed t (d .active) letter
-      → q .state ≡ tuningFrom t (d .tuning) (callsOf (p .called)) → q .number ≡ lastNumber (madeFrom t (d .tuning) (callsOf (p .called)))
-      → n ≡ cond (p .bound) (q .number) letterUnbound
-      → _≡_ {A = Outcome} (record {
-        desk = record { tuning = q .state; active = p .active };
-        number = n;
-        made = madeFrom t (d .tuning) (callsOf (p .called));
-        line = lineOf (letterBytes house letter n (held (q .state)));
-      }) (letterOutcome t d house letter)
+  pub letter-gives : {r : Stepped} → r ≡ stepLeaves (letterStep t house d c) → outcome r ≡ letterOutcome t d house c
   unfolding letterOutcome
-  letter-gives p q n e f g h = rw (h, g, f) (ap outcome e)
-
-  pub letter-desk : let x = pressed t (d .active) letter in
-      letterOutcome t d house letter .desk ≡ record { tuning = tuningFrom t (d .tuning) (x .calls); active = x .active }
-  unfolding letterOutcome
-  letter-desk = refl
+  letter-gives e = ap outcome e
 
 -- ---- a key
 
-pub key-gives : (d : Desk) (house key : ℕ) (tone : Tone) (n : ℕ) → tone ≡ toneOf (soundAt d key) → n ≡ keyNumber (heard tone)
-    → _≡_ {A = Outcome} (record { desk = d; number = n; made = []; line = lineOf (keyBytes house key n (heard tone)) }) (keyOutcome d house key)
+pub key-gives : (d : Desk) (house k : ℕ) (tone : Tone) (n : ℕ) → tone ≡ toneOf (soundAt d k) → n ≡ keyNumber (heard tone)
+    → _≡_ {A = Outcome} (record { desk = d; number = n; made = []; line = lineOf (keyBytes house k n (heard tone)) }) (keyOutcome d house k)
 unfolding keyOutcome
-key-gives d house key tone n e f =
-    let z : heard tone ≡ soundAt d key = ap heard e ∙ heard-tone (soundAt d key) in
+key-gives d house k tone n e f =
+    let z : heard tone ≡ soundAt d k = ap heard e ∙ heard-tone (soundAt d k) in
     rw (f, z)

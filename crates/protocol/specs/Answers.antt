@@ -2,64 +2,29 @@
 use mathlib.Core.Path.{_≡_}
 use mathlib.Core.Bool.{Bool, true, cond, _&&_}
 use mathlib.Core.List.{List, [], _∷_}
-use mathlib.Core.Option.{Option, some, none}
 use Prim.Native.Nat.{ℕ}
 use lib.Dec.{ltb}
 use lib.IntN.{ℤ}
 use lib.ListN.{length}
-use Rattle.status.specs.Status.{done, bufferTooSmall, keySilent, letterUnbound, badFrame, tableDamaged}
+use Rattle.status.specs.Status.{done, bufferTooSmall, keySilent, badFrame, tableDamaged}
 use Rattle.tuning.specs.Scale.{Sound, muted, sounds}
-use Rattle.tuning.specs.Tuning.{Action, soundOf, start}
+use Rattle.tuning.specs.Tuning.{soundOf, start}
 use Rattle.tuning.specs.Desk.{cents}
-use Rattle.tuning.specs.State.{held, coded, replied, validState}
-use Rattle.tuning.specs.declared.State.{State}
-use Rattle.tuning.specs.declared.Reply.{Reply}
+use Rattle.tuning.specs.State.{held, coded, validState}
 use Rattle.tables.specs.Layout.{Tables}
 use Rattle.validity.specs.Valid.{isLogic, refersTo, validTables}
-use Rattle.frames.specs.Frames.{frameOf}
-use Rattle.frames.specs.declared.Frame.{Frame}
-use Rattle.frames.specs.declared.Frame.the-variants.{Bad, Letter, Key, Dump}
+use Rattle.frames.specs.Frames.{Frame, bad, letter, key, dump, frameOf}
 use Rattle.hexadecimal.specs.Lines.{lineOf, begunWith}
 use Rattle.answers.specs.Answer.{letterBytes, keyBytes, dumpBytes, badBytes, smallestBuffer}
 use Rattle.protocol.specs.declared.Active.{Active}
 use Rattle.protocol.specs.declared.Active.the-variants as active
 use Rattle.protocol.specs.declared.Desk.{Desk}
 use Rattle.protocol.specs.declared.Answered.{Answered}
-use Rattle.protocol.specs.Letters.{actionAt, pressed}
+use Rattle.protocol.specs.Steps.{Made, Step, letterStep}
 
 -- "At the start: .. no logic active."
 abbrev pub startDesk : Desk
 startDesk = record { tuning = coded (start cents); active = active.Nothing }
-
--- ---- calls
-
--- a call of a declaration: the state that it leaves, and its number
-abbrev pub byAction : State → Option (Action cents) → Reply
-byAction s none = record { state = s; number = done }
-byAction s (some c) = replied s c
-
-unfoldable pub callOn : Tables → State → ℕ → Reply
-callOn t s k = byAction s (actionAt t k)
-
--- a call that was made: the declaration that was called, and the number that the call got
-pub record Made : Type 0 where
-  pub called : ℕ
-  pub number : ℕ
-
--- the state after calls in their order, and the calls with their numbers
-unfoldable pub tuningFrom : Tables → State → List ℕ → State
-tuningFrom t s [] = s
-tuningFrom t s (k ∷ ks) = tuningFrom t (callOn t s k .state) ks
-
-unfoldable pub madeFrom : Tables → State → List ℕ → List Made
-madeFrom t s [] = []
-madeFrom t s (k ∷ ks) = record { called = k; number = callOn t s k .number } ∷ madeFrom t (callOn t s k .state) ks
-
--- "the number returned is that of the call, 0 with no start"
-abbrev pub lastNumber : List Made → ℕ
-lastNumber [] = done
-lastNumber (m ∷ []) = m .number
-lastNumber (m ∷ n ∷ ms) = lastNumber (n ∷ ms)
 
 -- ---- what a frame does, by its kind; the line is empty where nothing is written
 
@@ -69,17 +34,17 @@ pub record Outcome : Type 0 where
   pub made : List Made
   pub line : List ℕ
 
+-- a step, answered by a line
+abbrev pub answered : Step → List ℕ → Outcome
+answered s line = record { desk = s .desk; number = s .number; made = s .made; line = line }
+
 unfoldable pub letterOutcome : Tables → Desk → ℕ → ℕ → Outcome
-letterOutcome t d house letter =
-    let x = pressed t (d .active) letter in
-    let s = tuningFrom t (d .tuning) (x .calls) in
-    let ms = madeFrom t (d .tuning) (x .calls) in
-    let n = cond (x .bound) (lastNumber ms) letterUnbound in
-    record { desk = record { tuning = s; active = x .active }; number = n; made = ms; line = lineOf (letterBytes house letter n (held s)) }
+letterOutcome t d house c =
+    let s = letterStep t house d c in answered s (lineOf (letterBytes house c (s .number) (held (s .desk .tuning))))
 
 -- what a key sounds, as the frame of kind 02 answers it
 abbrev pub soundAt : Desk → ℕ → Sound ℤ
-soundAt d key = soundOf cents (held (d .tuning)) key
+soundAt d k = soundOf cents (held (d .tuning)) k
 
 -- "key asked is silent; pitch bytes 80000000"
 abbrev pub keyNumber : Sound ℤ → ℕ
@@ -87,9 +52,9 @@ keyNumber muted = keySilent
 keyNumber (sounds z) = done
 
 unfoldable pub keyOutcome : Desk → ℕ → ℕ → Outcome
-keyOutcome d house key =
-    let t = soundAt d key in
-    record { desk = d; number = keyNumber t; made = []; line = lineOf (keyBytes house key (keyNumber t) t) }
+keyOutcome d house k =
+    let t = soundAt d k in
+    record { desk = d; number = keyNumber t; made = []; line = lineOf (keyBytes house k (keyNumber t) t) }
 
 -- "03: anchor, width, period, each tone"
 abbrev pub dumpOutcome : Desk → ℕ → Outcome
@@ -100,10 +65,10 @@ abbrev pub badOutcome : Desk → Outcome
 badOutcome d = record { desk = d; number = badFrame; made = []; line = lineOf badBytes }
 
 unfoldable pub frameOutcome : Tables → Desk → Frame → Outcome
-frameOutcome t d (Letter house letter) = letterOutcome t d house letter
-frameOutcome t d (Key house key) = keyOutcome d house (key .0)
-frameOutcome t d (Dump house) = dumpOutcome d house
-frameOutcome t d Bad = badOutcome d
+frameOutcome t d (letter house c) = letterOutcome t d house c
+frameOutcome t d (key house k) = keyOutcome d house k
+frameOutcome t d (dump house) = dumpOutcome d house
+frameOutcome t d bad = badOutcome d
 
 -- ---- the whole answer
 

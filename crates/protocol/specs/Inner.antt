@@ -3,7 +3,7 @@ use mathlib.Core.Path.{_≡_}
 use mathlib.Core.Bool.{Bool, true, false, cond}
 use mathlib.Core.List.{List, [], _∷_, zipWith}
 use mathlib.Core.Option.{Option, some, none}
-use Prim.Native.Nat.{ℕ, zero, suc, _+_, _≤_, _<_, _^_}
+use Prim.Native.Nat.{ℕ, zero, suc, _+_, _≤_, _<_}
 use lib.Dec.{eqb}
 use lib.IntN.{ℤ}
 use lib.ListN.{length, getD}
@@ -13,7 +13,9 @@ use Rattle.orders.specs.declared.Kind.the-variants as kind
 use Rattle.orders.specs.declared.Order.{Order}
 use Rattle.orders.specs.Orders.{noOrder}
 use Rattle.status.specs.Status.{done}
-use Rattle.tuning.specs.State.{validState}
+use Rattle.tuning.specs.Tuning.{Action}
+use Rattle.tuning.specs.Desk.{cents}
+use Rattle.tuning.specs.State.{replied, validState}
 use Rattle.tuning.specs.declared.Reply.{Reply}
 use Rattle.tuning.specs.declared.State.{State}
 use Rattle.tables.specs.declared.Row.{Row as TableRow}
@@ -24,8 +26,9 @@ use Rattle.tables.specs.Layout.{Tables, logicForm, rowCount, mostOrders, readAt
 use Rattle.tables.specs.Values.{FieldsFit}
 use Rattle.validity.specs.Valid.{validTables}
 use Rattle.validity.specs.Inner.{ValidSystem, ValidRetuning}
-use Rattle.frames.specs.declared.Frame.{Frame}
-use Rattle.frames.specs.declared.Frame.the-variants.{Bad, Letter, Key, Dump}
+use Rattle.frames.specs.Frames.{lastKey}
+use Rattle.frames.specs.declared.Decoded.{Decoded}
+use Rattle.frames.specs.declared.Decoded.the-variants.{Bad, Letter, Key, Dump}
 use Rattle.hexadecimal.specs.Lines.{begunWith}
 use Rattle.answers.specs.Answer.{smallestBuffer}
 use Rattle.protocol.specs.declared.Active.{Active}
@@ -34,11 +37,13 @@ use Rattle.protocol.specs.declared.Callee.{Callee}
 use Rattle.protocol.specs.declared.Callee.the-variants.{Nothing, Row}
 use Rattle.protocol.specs.declared.Desk.{Desk}
 use Rattle.protocol.specs.declared.Told.{Told}
-use Rattle.protocol.specs.declared.letters.Press.{Press}
-use Rattle.protocol.specs.declared.letters.Called.{Called}
-use Rattle.protocol.specs.declared.letters.Called.the-variants as called
-use Rattle.protocol.specs.Letters.{Pressed, firstLogic, elseOrder}
-use Rattle.protocol.specs.Answers.{tuningFrom, madeFrom, lastNumber, activeRight, Outcome, unchanged, keyOutcome, dumpOutcome, badOutcome}
+use Rattle.protocol.specs.declared.Stepped.{Stepped}
+use Rattle.protocol.specs.declared.triggers.Press.{Press}
+use Rattle.protocol.specs.declared.triggers.Called.{Called}
+use Rattle.protocol.specs.declared.triggers.Called.the-variants as called
+use Rattle.protocol.specs.Triggers.{Sought, answersTo, actionAt, Struck, firstLogic, elseOrder}
+use Rattle.protocol.specs.Steps.{Replied, Step}
+use Rattle.protocol.specs.Answers.{activeRight, Outcome, unchanged, keyOutcome, dumpOutcome, badOutcome}
 
 -- ---- the code's values
 
@@ -58,22 +63,26 @@ decoded (suc k) = some k
 
 -- how many codes of triggers there are
 abbrev pub triggerCodes : ℕ
-triggerCodes = 256
+triggerCodes = 1024
 
 -- the trigger of a row that is a logic; what is no trigger, of any other row
 abbrev pub logicTrigger : Numbers → ℕ
 logicTrigger n = cond (eqb (n .form) logicForm) (up (n .first)) triggerCodes
 
+-- the test for one trigger
+abbrev pub isTrigger : ℕ → ℕ → Bool
+isTrigger trigger code = eqb code trigger
+
 -- of each trigger the first logic with it
 pub record Indexed (rows : List ℤ) (count : ℕ) (index : List ℕ) : Type 0 where
-  pub first : (letter : ℕ) → letter < triggerCodes → getD index letter 0 ≡ oneMore (firstLogic rows letter 0 count)
+  pub first : (trigger : ℕ) → trigger < triggerCodes → getD index trigger 0 ≡ oneMore (firstLogic rows (isTrigger trigger) 0 count)
 
 abbrev pub IndexOf : Tables → List ℕ → Type 0
 IndexOf t index = Indexed (t .rows) (rowCount t) index
 
--- the first logic with a letter
-abbrev pub logicFor : Tables → ℕ → Callee
-logicFor t letter = found (firstLogic (t .rows) letter 0 (rowCount t))
+-- the first logic for what is looked for
+abbrev pub logicFor : Tables → Sought → Callee
+logicFor t x = found (firstLogic (t .rows) (answersTo t x) 0 (rowCount t))
 
 -- the kind of a declaration that is called
 abbrev pub kindOf : TableRow → Kind
@@ -101,13 +110,13 @@ abbrev pub calledIn : List ℤ → Option ℕ → Called
 calledIn rows none = called.Nothing
 calledIn rows (some k) = byKind (kindAt rows k) k
 
--- what a letter names
-abbrev pub calledBy : Tables → Active → ℕ → Called
-calledBy t a letter = calledIn (t .rows) (elseOrder t a letter (firstLogic (t .rows) letter 0 (rowCount t)))
+-- what is found for what is looked for
+abbrev pub calledBy : Tables → Active → Sought → Called
+calledBy t a x = let p = answersTo t x in calledIn (t .rows) (elseOrder t a p (firstLogic (t .rows) p 0 (rowCount t)))
 
--- orders as records: of each its letter, the kind of the declaration that it calls, and that declaration's number
+-- orders as records: of each its trigger, the kind of the declaration that it calls, and that declaration's number
 abbrev pub recordOf : List ℤ → ℕ → ℕ → Order
-recordOf rows letter k = record { letter = letter; kind = kindAt rows k; number = k }
+recordOf rows trigger k = record { trigger = trigger; kind = kindAt rows k; number = k }
 
 abbrev pub recordsOf : List ℤ → List ℕ → List ℕ → List Order
 recordsOf rows triggers calls = zipWith (recordOf rows) triggers calls
@@ -121,9 +130,24 @@ abbrev pub callsOf : Callee → List ℕ
 callsOf Nothing = []
 callsOf (Row k) = k ∷ []
 
--- what a letter comes to, as the code's struct has it
-abbrev pub pressedBy : Press → Pressed
-pressedBy p = record { bound = p .bound; active = p .active; calls = callsOf (p .called) }
+-- what is found, as the code's struct has it
+abbrev pub struckBy : Press → Struck
+struckBy p = record { active = p .active; calls = callsOf (p .called) }
+
+-- what a call does to the tuning
+abbrev pub tuned : State → Option (Action cents) → Reply
+tuned s none = record { state = s; number = done }
+tuned s (some c) = replied s c
+
+abbrev pub tunedBy : Tables → State → ℕ → Reply
+tunedBy t s k = tuned s (actionAt t k)
+
+-- what a call and a step leave, as the code's struct has it
+abbrev pub callLeaves : Replied → Stepped
+callLeaves r = record { desk = r .desk; number = r .number }
+
+abbrev pub stepLeaves : Step → Stepped
+stepLeaves s = record { desk = s .desk; number = s .number }
 
 -- ---- what is required of the tables
 
@@ -133,7 +157,6 @@ pub record OrderPart (cs ks : List ℕ) (from to : ℕ) : Type 0 where
   pub most : to ≤ from + mostOrders
   pub triggers : to ≤ length cs
   pub calls : to ≤ length ks
-  pub bytes : (i : ℕ) → i < to → getD cs i 0 < 2 ^ 8
 
 -- the orders of a logic are all there
 abbrev pub OrdersThere : Tables → TableRow → Type 0
@@ -162,15 +185,6 @@ pub record Callable (t : Tables) (k : ℕ) : Type 0 where
   pub fields : FieldsFit (readAt (t .rows) k)
   pub row : CallableRow t (rowAt t k)
 
-abbrev pub CallableFound : Tables → Callee → Type 0
-CallableFound t Nothing = Unit
-CallableFound t (Row k) = Callable t k
-
--- the state that a call leaves, and its number
-pub record CallsFound (t : Tables) (s : State) (f : Callee) (r : Reply) : Type 0 where
-  pub state : r .state ≡ tuningFrom t s (callsOf f)
-  pub number : r .number ≡ lastNumber (madeFrom t s (callsOf f))
-
 -- ---- of frames
 
 -- what is known once 19 and 23 are excluded
@@ -180,8 +194,15 @@ pub record Ready (t : Tables) (d : Desk) (buffer : List ℕ) : Type 0 where
   pub active : activeRight t (d .active) ≡ true
   pub room : smallestBuffer ≤ length buffer
 
+-- the key that is asked for is one of the keyboard
+abbrev pub KeyInside : Decoded → Type 0
+KeyInside Bad = Unit
+KeyInside (Letter house letter) = Unit
+KeyInside (Key house key) = key .0 ≤ lastKey
+KeyInside (Dump house) = Unit
+
 -- what a frame is told that changes nothing; a letter nothing
-abbrev pub toldOutcome : Desk → Frame → Outcome
+abbrev pub toldOutcome : Desk → Decoded → Outcome
 toldOutcome d Bad = badOutcome d
 toldOutcome d (Letter house letter) = unchanged d done
 toldOutcome d (Key house key) = keyOutcome d house (key .0)

@@ -8,15 +8,16 @@ use Prim.Native.Nat.{ℕ}
 use lib.ListN.{length}
 use Rattle.status.specs.Status.{done}
 use Rattle.tuning.specs.State.{places, validState}
-use Rattle.tuning.specs.declared.State.{State}
 use Rattle.tables.specs.Layout.{Tables}
 use Rattle.protocol.specs.declared.Desk.{Desk}
-use Rattle.protocol.specs.Answers.{callOn, answerOf}
+use Rattle.protocol.specs.Steps.{callOn}
+use Rattle.protocol.specs.Answers.{answerOf}
 
--- a call whose number is not 0 leaves the very state, whatever the tables and the declaration are
+-- a call whose number is not 0 leaves the very tuning, whatever the tables, the house and the declaration are
 unfoldable pub CallKeeps : Type 0
 CallKeeps =
-    (t : Tables) (s : State) → validState s ≡ true → length (s .tones) ≡ places → (k : ℕ) → callOn t s k .number ≢ done → callOn t s k .state ≡ s
+    (t : Tables) (house : ℕ) (d : Desk) → validState (d .tuning) ≡ true → length (d .tuning .tones) ≡ places → (k : ℕ)
+    → callOn t house d k .number ≢ done → callOn t house d k .desk .tuning ≡ d .tuning
 
 -- and so does a frame, whatever the tables, the desk, its bytes and the length of its buffer are
 unfoldable pub FrameKeeps : Type 0

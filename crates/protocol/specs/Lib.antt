@@ -1,5 +1,6 @@
--- Document 01, section "Frames": letters, logics and orders, and what a frame does to the desk.
-pub mod Letters
+-- Document 01, section "Frames": triggers, logics and orders, and what a frame does to the desk.
+pub mod Triggers
+pub mod Steps
 pub mod Answers
 pub mod Streams
 pub mod Kept

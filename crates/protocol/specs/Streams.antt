@@ -3,7 +3,8 @@ use mathlib.Core.List.{List, [], _∷_, _++_}
 use Prim.Native.Nat.{ℕ}
 use Rattle.tables.specs.Layout.{Tables}
 use Rattle.protocol.specs.declared.Desk.{Desk}
-use Rattle.protocol.specs.Answers.{Made, answerOf}
+use Rattle.protocol.specs.Steps.{Made}
+use Rattle.protocol.specs.Answers.{answerOf}
 
 -- the bytes of a frame, and the length of the buffer that is lent for its answer
 pub record Lent : Type 0 where

@@ -1,8 +1,8 @@
 // The frame call: a frame, the tables, the desk and a lent buffer give an answer and the next desk.
-mod letters;
+mod triggers;
 
 use answers::SMALLEST_BUFFER;
-use frames::Frame;
+use frames::Decoded;
 use status::BAD_FRAME;
 use status::BUFFER_TOO_SMALL;
 use status::DONE;
@@ -18,20 +18,21 @@ use tuning::State;
 use tuning::Tone;
 use validity::valid_tables;
 ghost use mathlib.Core.Path.{_≡_};
-ghost use mathlib.Core.Bool.{true, cond};
-ghost use Prim.Native.Nat.{_≤_};
+ghost use mathlib.Core.Bool.{true};
+ghost use Prim.Native.Nat.{_≤_, _<_};
 ghost use lib.ListN.{length, getD};
-ghost use Rattle.status.specs.Status.{letterUnbound};
 ghost use Rattle.tuning.specs.State.{heard, validState};
 ghost use Rattle.tables.specs.Layout.{tablesIn};
 ghost use Rattle.tables.specs.Values.{Slices};
-ghost use Rattle.frames.specs.Frames.{frameOf, inside};
+ghost use Rattle.frames.specs.Frames.{frameOf};
 ghost use Rattle.answers.specs.Answer.{smallestBuffer};
+ghost use Rattle.protocol.specs.Triggers.{itself};
+ghost use Rattle.protocol.specs.Steps.{withTuning, withActive};
 ghost use Rattle.protocol.specs.Answers.{startDesk, letterOutcome, keyNumber, frameOutcome, activeRight, validDesk, answerOf, Gives};
-ghost use Rattle.protocol.specs.Inner.{found, decoded, logicFor, IndexOf, Ready, toldOutcome, Tells};
+ghost use Rattle.protocol.specs.Inner.{found, decoded, triggerCodes, logicFor, IndexOf, Ready, KeyInside, toldOutcome, Tells};
 
-// How many codes of triggers there are. A letter's code is its byte.
-pub const TRIGGERS: usize = 256;
+// How many codes of triggers there are. A letter's code is its byte; from 256 on there is room for each declaration that a text can have.
+pub const TRIGGERS: usize = 1024;
 
 // The active logic, by the number of its declaration.
 pub enum Active {
@@ -58,6 +59,12 @@ pub struct Told {
     pub length: usize,
 }
 
+// The desk after a call or a step, and its number.
+pub struct Stepped {
+    pub desk: Desk,
+    pub number: u8,
+}
+
 // A declaration's number, where there is one.
 pub enum Callee {
     Nothing,
@@ -73,6 +80,22 @@ impl Desk {
             tuning: State::start(),
             active: Active::Nothing,
         }
+    }
+
+    // Another tuning, all else as it was.
+    fn with_tuning(self, tuning: State) -> Desk
+        ensures { λ r. ⌜ r ≡ withTuning tuning self ⌝ }
+    {
+        let active = self.active;
+        Desk { tuning, active }
+    }
+
+    // Another active logic, or none; all else as it was.
+    fn with_active(self, active: Active) -> Desk
+        ensures { λ r. ⌜ r ≡ withActive active self ⌝ }
+    {
+        let tuning = self.tuning;
+        Desk { tuning, active }
     }
 }
 
@@ -110,14 +133,15 @@ pub fn index_logics(numbers: &[i32], codes: &[u16]) -> [u32; TRIGGERS]
     ensures { λ r. ⌜ IndexOf (tablesIn (now (numbers .entry)) (now (codes .entry))) r ⌝ }
 {
     let used = Counts::read(&codes[0..SOUNDING_AT]);
-    letters::index_rows(&numbers[0..TONES_AT], used.rows)
+    triggers::index_rows(&numbers[0..TONES_AT], used.rows)
 }
 
-// The first logic with this letter, from the index.
-pub fn find_indexed(index: &[u32; TRIGGERS], letter: u8) -> Callee
-    ensures { λ r. ⌜ r ≡ found (decoded (getD (now (index .entry)) letter 0)) ⌝ }
+// The first logic with this trigger, from the index.
+pub fn find_indexed(index: &[u32; TRIGGERS], trigger: u16) -> Callee
+    requires { ⌜ trigger < triggerCodes ⌝ }
+    ensures { λ r. ⌜ r ≡ found (decoded (getD (now (index .entry)) trigger 0)) ⌝ }
 {
-    let k = index[letter as usize];
+    let k = index[trigger as usize];
     if k == 0 {
         return Callee::Nothing;
     }
@@ -135,13 +159,6 @@ fn refuse(desk: Desk, number: u8) -> Answered
     }
 }
 
-// The number of a letter: that of its call, where it is bound.
-fn letter_number(bound: bool, number: u8) -> u8
-    ensures { λ r. ⌜ r ≡ cond bound number letterUnbound ⌝ }
-{
-    if bound { number } else { LETTER_UNBOUND }
-}
-
 // A letter: what it calls is called, and the state after it answered. `logic` is the first logic with the letter.
 pub fn answer_letter(
     numbers: &[i32],
@@ -153,23 +170,18 @@ pub fn answer_letter(
     buffer: &mut [u8],
 ) -> Answered
     requires { ⌜ Ready (tablesIn (now numbers) (now codes)) desk (now buffer) ⌝ }
-    requires { ⌜ logic ≡ logicFor (tablesIn (now numbers) (now codes)) letter ⌝ }
+    requires { ⌜ logic ≡ logicFor (tablesIn (now numbers) (now codes)) (itself letter) ⌝ }
     ensures gives { λ r. ⌜ Gives (letterOutcome (tablesIn (now (numbers .entry)) (now (codes .entry))) desk house letter) r (now (buffer .entry)) (now (buffer .exit)) ⌝ }
     ensures stays { λ r. ⌜ validDesk (tablesIn (now (numbers .entry)) (now (codes .entry))) (r .desk) ≡ true ⌝ }
 {
-    let s = desk.tuning;
-    let before = desk.active;
-    let press = letters::press_letter(numbers, codes, before, letter, logic);
-    let called = press.called;
-    let reply = letters::make_call(numbers, codes, s, called);
-    let number = letter_number(press.bound, reply.number);
-    let tuning = reply.state;
-    let active = press.active;
-    let length = answers::answer_letter(buffer, house, letter, number, tuning);
-    let next = Desk { tuning, active };
+    let code = letter as u16;
+    let step = triggers::trigger(numbers, codes, desk, house, code, logic, LETTER_UNBOUND);
+    let next = step.desk;
+    let tuning = next.tuning;
+    let length = answers::answer_letter(buffer, house, letter, step.number, tuning);
     Answered {
         desk: next,
-        number,
+        number: step.number,
         length,
     }
 }
@@ -184,30 +196,30 @@ fn key_number(tone: Tone) -> u8
 }
 
 // The answer to a frame that is no letter, and so changes nothing. A letter is told nothing.
-pub fn tell(desk: Desk, frame: Frame, buffer: &mut [u8]) -> Told
-    requires { ⌜ (validState (desk .tuning) ≡ true) × (smallestBuffer ≤ length (now buffer)) × (inside frame ≡ true) ⌝ }
+pub fn tell(desk: Desk, frame: Decoded, buffer: &mut [u8]) -> Told
+    requires { ⌜ (validState (desk .tuning) ≡ true) × (smallestBuffer ≤ length (now buffer)) × KeyInside frame ⌝ }
     ensures { λ r. ⌜ Tells (toldOutcome desk frame) r (now (buffer .entry)) (now (buffer .exit)) ⌝ }
 {
     let s = desk.tuning;
     match frame {
-        Frame::Bad => Told {
+        Decoded::Bad => Told {
             number: BAD_FRAME,
             length: answers::answer_bad(buffer),
         },
-        Frame::Letter {
+        Decoded::Letter {
             house: _,
             letter: _,
         } => Told {
             number: DONE,
             length: 0,
         },
-        Frame::Key { house, key } => {
+        Decoded::Key { house, key } => {
             let tone = s.sound_of(key);
             let number = key_number(tone);
             let length = answers::answer_key(buffer, house, key, number, tone);
             Told { number, length }
         }
-        Frame::Dump { house } => Told {
+        Decoded::Dump { house } => Told {
             number: DONE,
             length: answers::answer_dump(buffer, house, s),
         },
@@ -226,8 +238,8 @@ fn take_frame(
     ensures { λ r. ⌜ Gives (frameOutcome (tablesIn (now (numbers .entry)) (now (codes .entry))) desk (frameOf (now (frame .entry)))) r (now (buffer .entry)) (now (buffer .exit)) ⌝ }
 {
     let taken = frames::decode(frame);
-    if let Frame::Letter { house, letter } = taken {
-        let logic = letters::first_logic(numbers, codes, letter);
+    if let Decoded::Letter { house, letter } = taken {
+        let logic = triggers::first_logic(numbers, codes, letter as u16);
         return answer_letter(numbers, codes, desk, house, letter, logic, buffer);
     }
     let told = tell(desk, taken, buffer);

@@ -5,24 +5,24 @@ use mathlib.Core.Bool.{true}
 use mathlib.Core.List.{List, [], _∷_, _++_, append-assoc, append-nil}
 use native.Mathlib.Numerals.{add-one}
 use native.Mathlib.Omega.{arith}
-use borrow.Author.Tests.{le-ltb, eq-eqb, ne-eqb, leb-true}
+use borrow.Author.Tests.{le-ltb, eq-eqb, ne-eqb}
 use types.Run.{OneOf}
 use denote.Enum.Declared.{tagOf}
-use lib.Dec.{leb}
 use lib.ListN.{length, getD, take, drop, set, take-append-drop, length-append, length-take, length-drop}
 use lib.Seq.{drop-cons, take-suc-set, take-all, take-at, drop-at, drop-drop, drop-append-le, length-take-le}
 use Rattle.hexadecimal.specs.Lines.{lineFeed}
-use Rattle.tuning.proofs.Lists.{both}
-use Rattle.frames.specs.Frames.{firstLetter, lastLetter, isHouse, isCapital, frameOf, inside, enough}
-use Rattle.frames.specs.declared.Frame.{Frame}
-use Rattle.frames.specs.declared.Frame.the-variants.{Letter}
-use Rattle.frames.proofs.Frame as variants
+use Rattle.frames.specs.Frames.{frameOf, inside, decodedAs, enough}
+use Rattle.frames.specs.declared.Decoded.{Decoded}
+use Rattle.frames.specs.declared.Decoded.the-variants.{Letter}
+use Rattle.frames.proofs.Decoded as variants
+use Rattle.frames.proofs.Decoding.{letter-decoded}
+use Rattle.frames.proofs.Ranges.{letter-ranges}
 use Rattle.answers.specs.Answer.{smallestBuffer}
 use Rattle.tables.specs.Layout.{Tables}
 use Rattle.protocol.specs.declared.Desk.{Desk}
 use Rattle.protocol.specs.declared.Answered.{Answered}
 use Rattle.protocol.specs.declared.Told.{Told}
-use Rattle.protocol.specs.Answers.{Outcome, letterOutcome, frameOutcome, validDesk, answerOf, Gives}
+use Rattle.protocol.specs.Answers.{Outcome, letterOutcome, validDesk, answerOf, Gives}
 use Rattle.protocol.specs.Inner.{triggerCodes, toldOutcome, Tells}
 use Rattle.protocol.proofs.Ways.{gives, damaged, taken, on-letter, noLetter, toldBy, told-gives}
 use Rattle.stream.specs.Feed.{Fed, feed, fedByte, fed, finished, streamed, SameStream}
@@ -135,19 +135,15 @@ module _ (chunk : List ℕ) (i : ℕ) (k : i < length chunk) where
 
 -- ---- the answer to a frame, by its kind
 
-pub letter-byte : {f : Frame} (house letter : ℕ) → f ≡ Letter house letter → inside f ≡ true → letter < triggerCodes
-letter-byte house letter e h =
-    let b = both (isHouse house) (isCapital letter) (ap inside (sym e) ∙ h) .1 in
-    omega (arith, leb-true letter lastLetter (both (leb firstLetter letter) (leb letter lastLetter) b .1))
+module _ (line : List ℕ) {f : Decoded} (e : f ≡ decodedAs (frameOf line)) where
+  pub letter-byte : (house c : ℕ) → f ≡ Letter house c → inside (frameOf line) ≡ true → c < triggerCodes
+  letter-byte house c h i = omega (arith, letter-ranges house c (ap inside (sym (letter-decoded (frameOf line) (sym e ∙ h))) ∙ i) .3)
 
-module _ (t : Tables) (d : Desk) (line : List ℕ) (room : ℕ) (m : smallestBuffer ≤ room) (v : validDesk t d ≡ true) {f : Frame} (e : f ≡ frameOf line) where
-  here : frameOutcome t d f ≡ answerOf t d line room
-  here = ap (frameOutcome t d) e ∙ taken t d line room m refl v
+  module _ (t : Tables) (d : Desk) (room : ℕ) (m : smallestBuffer ≤ room) (v : validDesk t d ≡ true) where
+    pub letter-answered : (house c : ℕ) {r : Answered} {before after : List ℕ} → f ≡ Letter house c
+        → Gives (letterOutcome t d house c) r before after → Gives (answerOf t d line room) r before after
+    letter-answered house c h g = gives (on-letter t d (frameOf line) e house c h ∙ taken t d line room m refl v) g
 
-  pub letter-answered : (house letter : ℕ) {r : Answered} {before after : List ℕ} → f ≡ Letter house letter
-      → Gives (letterOutcome t d house letter) r before after → Gives (answerOf t d line room) r before after
-  letter-answered house letter h g = gives (on-letter t d line e house letter h ∙ taken t d line room m refl v) g
-
-  pub told-answered : {r : Told} {before after : List ℕ} → OneOf noLetter (tagOf variants.the-type f) → Tells (toldOutcome d f) r before after
-      → Gives (answerOf t d line room) (toldBy d r) before after
-  told-answered h r = gives here (told-gives t d f h r)
+    pub told-answered : {r : Told} {before after : List ℕ} → OneOf noLetter (tagOf variants.the-type f) → Tells (toldOutcome d f) r before after
+        → Gives (answerOf t d line room) (toldBy d r) before after
+    told-answered h r = gives (taken t d line room m refl v) (told-gives t d (frameOf line) e h r)

@@ -1,7 +1,7 @@
 // Bytes of standard input cut into lines, each line a frame, and the answers to it.
 use answers::SMALLEST_BUFFER;
+use frames::Decoded;
 use frames::ENOUGH;
-use frames::Frame;
 use hexadecimal::LINE_FEED;
 use protocol::Desk;
 use protocol::TRIGGERS;
@@ -126,8 +126,8 @@ pub fn fill_ready(
             break;
         }
         let frame = frames::decode(&held[..n]);
-        if let Frame::Letter { house, letter } = frame {
-            let logic = find_indexed(index, letter);
+        if let Decoded::Letter { house, letter } = frame {
+            let logic = find_indexed(index, letter as u16);
             let r = answer_letter(numbers, codes, d, house, letter, logic, &mut out[used..]);
             d = r.desk;
             used += r.length;

@@ -5,9 +5,9 @@ use mathlib.Core.Bool.{true}
 use mathlib.Core.List.{List}
 use mathlib.Core.Option.{Option·elim}
 use native.Mathlib.Omega.{arith}
-use Rattle.frames.specs.declared.Frame.{Frame}
+use Rattle.frames.specs.declared.Decoded.{Decoded}
 use Rattle.hexadecimal.specs.Digits.{byteOf}
-use Rattle.frames.specs.Frames.{frameOf, inside}
+use Rattle.frames.specs.Frames.{frameOf, decodedAs, inside}
 use Rattle.hexadecimal.proofs.Values.{found, lacking}
 use Rattle.frames.proofs.Lines.{six, six-digits}
 use Rattle.frames.proofs.Ranges.{frame-inside}
@@ -16,11 +16,11 @@ use Rattle.frames.proofs.decode.Statement.{statement}
 use Rattle.frames.proofs.decode.Tie as tie
 
 -- the equation, from which the ranges follow
-whole : (l : List ℕ) {r : Frame} → r ≡ frameOf l → (r ≡ frameOf l) × (inside r ≡ true)
-whole l e = (e, ap inside e ∙ frame-inside l)
+whole : (l : List ℕ) {r : Decoded} → r ≡ decodedAs (frameOf l) → (r ≡ decodedAs (frameOf l)) × (inside (frameOf l) ≡ true)
+whole l e = (e, frame-inside l)
 
 returns : tie.Need-returns
-returns c = whole _ (sym (six _ (λ e. omega (arith, c .if1 .taken))))
+returns c = whole _ (ap decodedAs (sym (six _ (λ e. omega (arith, c .if1 .taken)))))
 
 shared-slice-read-byte-value : tie.Need-shared-slice-read-byte-value
 shared-slice-read-byte-value c = search needs
@@ -41,7 +41,7 @@ returns-2 : tie.Need-returns-2
 unfolding Option·elim
 returns-2 c =
     whole _ (sym (
-    six-digits _ (omega (arith, c .before .before .before .before .before .if1 .left))
+    ap decodedAs (six-digits _ (omega (arith, c .before .before .before .before .before .if1 .left)))
     ∙ rw (lacking (byteOf _ _) (c .before .before .byte-value .ensures) (c .enum-told .given .1))))
 
 shared-slice-read-byte-value-3 : tie.Need-shared-slice-read-byte-value-3
@@ -63,7 +63,7 @@ returns-3 : tie.Need-returns-3
 unfolding Option·elim
 returns-3 c =
     whole _ (sym (
-    six-digits _ (omega (arith, c .before .before .before .before .before .before .before .before .before .before .before .if1 .left))
+    ap decodedAs (six-digits _ (omega (arith, c .before .before .before .before .before .before .before .before .before .before .before .if1 .left)))
     ∙ rw (
       found (byteOf _ _) (c .before .before .before .before .before .before .before .before .byte-value .ensures) (c .before .before .before .before .before .before .house .given .1),
       lacking (byteOf _ _) (c .before .before .byte-value2 .ensures) (c .enum-told2 .given .1),
@@ -88,7 +88,7 @@ returns-4 : tie.Need-returns-4
 unfolding Option·elim
 returns-4 c =
     whole _ (sym (
-    six-digits _ (omega (arith, c .before .before .before .before .before .before .before .before .before .before .before .before .before .before .before .before .before .if1 .left))
+    ap decodedAs (six-digits _ (omega (arith, c .before .before .before .before .before .before .before .before .before .before .before .before .before .before .before .before .before .if1 .left)))
     ∙ rw (
       found (byteOf _ _) (c .before .before .before .before .before .before .before .before .before .before .before .before .before .before .byte-value .ensures) (c .before .before .before .before .before .before .before .before .before .before .before .before .house .given .1),
       found (byteOf _ _) (c .before .before .before .before .before .before .before .before .byte-value2 .ensures) (c .before .before .before .before .before .before .kind .given .1),
@@ -102,7 +102,7 @@ returns-5 : tie.Need-returns-5
 unfolding Option·elim
 returns-5 c =
     whole _ (c .read-frame .ensures ∙ sym (
-    six-digits _ (omega (arith, c .before .before .before .before .before .before .before .before .before .before .before .before .before .before .before .before .before .before .before .if1 .left))
+    ap decodedAs (six-digits _ (omega (arith, c .before .before .before .before .before .before .before .before .before .before .before .before .before .before .before .before .before .before .before .if1 .left)))
     ∙ rw (
       found (byteOf _ _) (c .before .before .before .before .before .before .before .before .before .before .before .before .before .before .before .before .byte-value .ensures) (c .before .before .before .before .before .before .before .before .before .before .before .before .before .before .house .given .1),
       found (byteOf _ _) (c .before .before .before .before .before .before .before .before .before .before .byte-value2 .ensures) (c .before .before .before .before .before .before .before .before .kind .given .1),

@@ -1,10 +1,8 @@
 -- `protocol::take_frame` meets its contract: a letter, or a frame that changes nothing. Assumes nothing.
-use mathlib.Core.Path.{ap}
 use borrow.Author.Needs.{needs}
-use Rattle.tables.specs.Layout.{tablesIn}
+use Rattle.frames.specs.Frames.{frameOf}
 use Rattle.validity.proofs.Laws.{slices-valid}
-use Rattle.protocol.specs.Answers.{frameOutcome}
-use Rattle.protocol.proofs.Ways.{gives, on-letter, told-gives}
+use Rattle.protocol.proofs.Ways.{gives, key-inside, on-letter, told-gives}
 use Rattle.protocol.proofs.take_frame.Statement.{statement}
 use Rattle.protocol.proofs.take_frame.Tie as tie
 
@@ -13,6 +11,9 @@ decode-requires c κs = search needs
 
 enum-known-taken : tie.Need-enum-known-taken
 enum-known-taken c = search needs
+
+cast-first-logic : tie.Need-cast-first-logic
+cast-first-logic c = search needs
 
 first-logic-requires : tie.Need-first-logic-requires
 first-logic-requires c κs = slices-valid (c .before .before .before .before .before .before .before .args .numbers .now) (c .before .before .before .before .before .before .before .args .codes .now) (c .before .before .before .before .before .before .before .pre .tables)
@@ -27,17 +28,19 @@ returns : tie.Need-returns
 returns c = gives (on-letter _ _ _ (c .before .before .before .before .before .before .before .before .decode .ensures .0) _ _ (c .before .before .before .before .before .before .taken .given .1)) (c .before .before .answer-letter .ensures .0)
 
 tell-requires : tie.Need-tell-requires
-tell-requires c κs = (c .before .before .before .before .before .before .pre .state, c .before .before .before .before .before .before .pre .room, c .before .before .decode .ensures .1)
+tell-requires c κs =
+    let d = c .before .before in
+    let a = d .before .before .before .before in
+    (a .pre .state, a .pre .room, key-inside (frameOf (a .args .frame .now)) (d .decode .ensures .0) (d .decode .ensures .1))
 
 same-length-2 : tie.Need-same-length-2
 same-length-2 c = search needs
 
 returns-2 : tie.Need-returns-2
 returns-2 c =
-    let d = (c .before .before .before .before .before) in
-    let a = (c .before .before .before .before .before .before .before .before .before) in
-    gives (ap (frameOutcome (tablesIn (a .args .numbers .now) (a .args .codes .now)) (a .args .desk)) (d .decode .ensures .0))
-    (told-gives _ (a .args .desk) (d .decode .result) (c .before .before .before .before .match .keys2) (c .before .before .tell .ensures))
+    let d = c .before .before .before .before .before in
+    told-gives _ (d .before .before .before .before .args .desk) _ (d .decode .ensures .0) (c .before .before .before .before .match .keys2)
+    (c .before .before .tell .ensures)
 
 pub take-frame-spec : {M : Type 1} → statement M
 take-frame-spec =
@@ -45,6 +48,7 @@ take-frame-spec =
     (tie.spec
     decode-requires
     enum-known-taken
+    cast-first-logic
     first-logic-requires
     answer-letter-requires
     same-length

@@ -11,17 +11,17 @@ use types.Run.{OneOf}
 use denote.Enum.Declared.{tagOf}
 use lib.ListN.{length, take, drop, length-take, length-drop}
 use lib.Seq.{length-take-le}
-use Rattle.frames.specs.Frames.{enough}
-use Rattle.frames.specs.declared.Frame.the-variants.{Letter}
-use Rattle.frames.proofs.Frame as variants
+use Rattle.frames.specs.Frames.{frameOf, enough}
+use Rattle.frames.specs.declared.Decoded.the-variants.{Letter}
+use Rattle.frames.proofs.Decoded as variants
 use Rattle.answers.specs.Answer.{smallestBuffer}
 use Rattle.tables.specs.Layout.{Tables, tablesIn}
 use Rattle.protocol.specs.declared.Desk.{Desk}
 use Rattle.protocol.specs.declared.Answered.{Answered}
 use Rattle.protocol.specs.declared.Told.{Told}
 use Rattle.protocol.specs.Answers.{letterOutcome, validDesk, answerOf, Gives}
-use Rattle.protocol.specs.Inner.{Ready, toldOutcome, Tells}
-use Rattle.protocol.proofs.Ways.{desk-ready, noLetter, toldBy}
+use Rattle.protocol.specs.Inner.{triggerCodes, Ready, toldOutcome, Tells}
+use Rattle.protocol.proofs.Ways.{desk-ready, key-inside, noLetter, toldBy}
 use Rattle.protocol.proofs.Index.{indexed}
 use Rattle.stream.specs.Feed.{Fed, feed, streamed, SameStream}
 use Rattle.stream.proofs.Steps.{answer-fits, rest-kept, drop-more, on-line, letter-byte, letter-answered, told-answered}
@@ -116,8 +116,8 @@ decode-requires c κs = search needs
 enum-known-frame : tie.Need-enum-known-frame Inv-loop μ-loop
 enum-known-frame c = search needs
 
-find-indexed-requires : tie.Need-find-indexed-requires Inv-loop μ-loop
-find-indexed-requires c κs = search needs
+cast-find-indexed : tie.Need-cast-find-indexed Inv-loop μ-loop
+cast-find-indexed c = search needs
 
 sub-answer-letter : tie.Need-sub-answer-letter Inv-loop μ-loop
 sub-answer-letter c = search needs
@@ -161,14 +161,17 @@ module _ (c : tie.After-decode Inv-loop μ-loop) where
   ready : Ready t d₁ part
   ready = desk-ready t d₁ part (turn line .loop .inv .known) room-here
 
+  byte-here : (house letter : ℕ) → c .decode .result ≡ Letter house letter → letter < triggerCodes
+  byte-here house letter e = letter-byte bytes (c .decode .ensures .0) house letter e (c .decode .ensures .1)
+
   letter-here : (house letter : ℕ) {r : Answered} {written : List ℕ} → c .decode .result ≡ Letter house letter
       → Gives (letterOutcome t d₁ house letter) r part written → Gives (answerOf t d₁ bytes (length part)) r part written
   letter-here house letter e g =
-      letter-answered t d₁ bytes (length part) room-here (turn line .loop .inv .known) (c .decode .ensures .0) house letter e g
+      letter-answered bytes (c .decode .ensures .0) t d₁ (length part) room-here (turn line .loop .inv .known) house letter e g
 
   told-here : {r : Told} {written : List ℕ} → OneOf noLetter (tagOf variants.the-type (c .decode .result)) → Tells (toldOutcome d₁ (c .decode .result)) r part written
       → Gives (answerOf t d₁ bytes (length part)) (toldBy d₁ r) part written
-  told-here h r = told-answered t d₁ bytes (length part) room-here (turn line .loop .inv .known) (c .decode .ensures .0) h r
+  told-here h r = told-answered bytes (c .decode .ensures .0) t d₁ (length part) room-here (turn line .loop .inv .known) h r
 
   -- an answer ends within the output
   module _ {r : Answered} {written : List ℕ} (g : Gives (answerOf t d₁ bytes (length part)) r part written) (k : length written ≡ length part) where
@@ -208,13 +211,16 @@ module _ (c : tie.After-decode Inv-loop μ-loop) where
               ∙ line-same line more;
         }
 
+find-indexed-requires : tie.Need-find-indexed-requires Inv-loop μ-loop
+find-indexed-requires c κs = byte-here (c .before .before .before) _ _ (c .before .frame .given .1)
+
 answer-letter-requires : tie.Need-answer-letter-requires Inv-loop μ-loop
 answer-letter-requires c κs =
     let found-here = c .before in
     let known = found-here .before .before in
     let decoded-here = known .before .before in (
       ready decoded-here,
-      indexed _ _ _ (letter-byte _ _ (known .frame .given .1) (decoded-here .decode .ensures .1))
+      indexed _ _ _ (byte-here decoded-here _ _ (known .frame .given .1))
           (call (line decoded-here) .pre .1 .1) (found-here .find-indexed .ensures),
     )
 
@@ -240,7 +246,7 @@ part-tell-end c = search needs
 tell-requires : tie.Need-tell-requires Inv-loop μ-loop
 tell-requires c κs =
     let decoded-here = c .before .before in
-    (ready decoded-here .state, ready decoded-here .room, decoded-here .decode .ensures .1)
+    (ready decoded-here .state, ready decoded-here .room, key-inside (frameOf (bytes decoded-here)) (decoded-here .decode .ensures .0) (decoded-here .decode .ensures .1))
 
 add-used-2 : tie.Need-add-used-2 Inv-loop μ-loop
 add-used-2 c =
@@ -319,6 +325,7 @@ fill-ready-spec =
     slice-aggregate-decode
     decode-requires
     enum-known-frame
+    cast-find-indexed
     find-indexed-requires
     sub-answer-letter
     part-answer-letter-start

@@ -1,4 +1,4 @@
--- `protocol::letters::find_called` meets its contract. Assumes nothing.
+-- `protocol::triggers::find_called` meets its contract. Assumes nothing.
 use mathlib.Core.Path.{_≡_, sym, ap, _∙_, subst}
 use mathlib.Core.List.{List}
 use mathlib.Core.Option.{Option, none}
@@ -8,20 +8,20 @@ use lib.Seq.{slice}
 use Rattle.tables.specs.Layout.{Tables, tablesIn, rowCount, ordersAt, orderWidth, mostOrders, triggersIn, callsIn}
 use Rattle.tables.proofs.Sizes.{section-last}
 use Rattle.protocol.specs.declared.Active.the-variants as active
-use Rattle.protocol.specs.Letters.{firstLogic, firstOrder, elseOrder}
-use Rattle.protocol.specs.Inner.{calledIn, OrderPart, OrdersThere, ActiveReadable}
+use Rattle.protocol.specs.Triggers.{firstLogic, firstOrder, elseOrder}
+use Rattle.protocol.specs.Inner.{isTrigger, calledIn, OrderPart, OrdersThere, ActiveReadable}
 use Rattle.protocol.proofs.Searches.{logic-found}
 use Rattle.protocol.proofs.Presses.{told, no-orders, order-inactive, order-active, logic-called}
 use borrow.Author.Needs.{needs}
-use Rattle.protocol.proofs.letters.find_called.Statement.{statement}
-use Rattle.protocol.proofs.letters.find_called.Tie as tie
+use Rattle.protocol.proofs.triggers.find_called.Statement.{statement}
+use Rattle.protocol.proofs.triggers.find_called.Tie as tie
 
--- the tables that are lent, and the first logic with the letter
+-- the tables that are lent, and the first logic with the trigger
 abbrev lent : tie.Start → Tables
 lent a = tablesIn (a .args .numbers .now) (a .args .codes .now)
 
 abbrev logic : tie.Start → Option ℕ
-logic a = firstLogic (lent a .rows) (a .args .letter) 0 (rowCount (lent a))
+logic a = firstLogic (lent a .rows) (isTrigger (a .args .trigger)) 0 (rowCount (lent a))
 
 enum-known-logic : tie.Need-enum-known-logic
 enum-known-logic c = search needs
@@ -31,13 +31,13 @@ returns c =
     let a = (c .before .before .before .before) in
     let t = lent a in
     let e = told (logic a) (a .pre .1 .0) (c .before .logic .given .1) in
-    logic-called (a .args .letter) (t .rows) _ (logic-found (t .rows) (a .args .letter) 0 (rowCount t) e .1)
-    ∙ ap (λ (o : Option ℕ). calledIn (t .rows) (elseOrder t (a .args .active) (a .args .letter) o)) (sym e)
+    logic-called (isTrigger (a .args .trigger)) (t .rows) _ (logic-found (t .rows) (isTrigger (a .args .trigger)) 0 (rowCount t) e .1)
+    ∙ ap (λ (o : Option ℕ). calledIn (t .rows) (elseOrder t (a .args .active) (isTrigger (a .args .trigger)) o)) (sym e)
 
 enum-told : tie.Need-enum-told
 enum-told c = search needs
 
--- no logic has the letter
+-- no logic has the trigger
 no-logic : (c : tie.After-enum-told) → logic (c .before .before .before) ≡ none
 no-logic c = let a = c .before .before .before in told (logic a) (a .pre .1 .0) (c .enum-told .given .1)
 
@@ -51,7 +51,7 @@ returns-2 : tie.Need-returns-2
 returns-2 c =
     let a = (c .before .before .before .before .before) in
     let t = lent a in
-    ap (calledIn (t .rows)) (order-inactive t (a .args .letter) (a .args .active) (no-logic ((c .before .before))) (c .enum-told2 .given .1))
+    ap (calledIn (t .rows)) (order-inactive t (isTrigger (a .args .trigger)) (a .args .active) (no-logic ((c .before .before))) (c .enum-told2 .given .1))
 
 -- the active logic's row can be read, and its orders
 readable : (c : tie.After-active) → ActiveReadable (lent (c .before .before .before .before .before)) (active.Logic (c .active .given .0 .0))
@@ -84,8 +84,8 @@ returns-3 c =
     let a = (c .before .before .before .before .before .before .before .before .before) in
     let t = lent a in
     ap (calledIn (t .rows))
-    (no-orders t (a .args .letter) (c .before .row-at .result) (c .match3 .keys2)
-    ∙ order-active t (a .args .letter) (a .args .active) (no-logic ((c .before .before .before .before .before .before))) (c .before .before .before .before .active .given .1) (c .before .row-at .ensures))
+    (no-orders t (isTrigger (a .args .trigger)) (c .before .row-at .result) (c .match3 .keys2)
+    ∙ order-active t (isTrigger (a .args .trigger)) (a .args .active) (no-logic ((c .before .before .before .before .before .before))) (c .before .before .before .before .active .given .1) (c .before .row-at .ensures))
 
 sub-orders : tie.Need-sub-orders
 sub-orders c = search needs
@@ -121,8 +121,8 @@ returns-4 c =
     let from = c .before .before .before .from .given .0 .1 .1 .0 in
     let to = c .before .before .before .from .given .0 .1 .1 .1 .0 in
     c .find-order .ensures
-    ∙ ap (λ (os : List ℕ). calledIn (t .rows) (firstOrder (a .args .letter) (slice from to (triggersIn os)) (slice from to (callsIn os)))) (orders-all a)
-    ∙ ap (calledIn (t .rows)) (order-active t (a .args .letter) (a .args .active) (no-logic ((c .before .before .before .before .before .before .before .before .before .before))) (c .before .before .before .before .before .before .before .before .active .given .1) (sym (c .before .before .before .from .given .1) ∙ c .before .before .before .before .before .row-at .ensures))
+    ∙ ap (λ (os : List ℕ). calledIn (t .rows) (firstOrder (isTrigger (a .args .trigger)) (slice from to (triggersIn os)) (slice from to (callsIn os)))) (orders-all a)
+    ∙ ap (calledIn (t .rows)) (order-active t (isTrigger (a .args .trigger)) (a .args .active) (no-logic ((c .before .before .before .before .before .before .before .before .before .before))) (c .before .before .before .before .before .before .before .before .active .given .1) (sym (c .before .before .before .from .given .1) ∙ c .before .before .before .before .before .row-at .ensures))
 
 pub find-called-spec : {M : Type 1} → statement M
 find-called-spec =

@@ -1,12 +1,12 @@
--- `protocol::letters::logic_trigger` meets its contract. Assumes nothing.
+-- `protocol::triggers::logic_trigger` meets its contract. Assumes nothing.
 use borrow.Author.Needs.{needs}
 use borrow.Author.Tests.{eq-eqb, ne-eqb}
 use mir.Facts.{toZ-ofZ}
 use mir.Syntax.{w32}
 use mir.Val.{SFits}
 use Rattle.tables.specs.Layout.{logicForm}
-use Rattle.protocol.proofs.letters.logic_trigger.Statement.{statement}
-use Rattle.protocol.proofs.letters.logic_trigger.Tie as tie
+use Rattle.protocol.proofs.triggers.logic_trigger.Statement.{statement}
+use Rattle.protocol.proofs.triggers.logic_trigger.Tie as tie
 
 returns : tie.Need-returns
 returns c = rw (ne-eqb _ logicForm (c .if1 .taken))

@@ -1,4 +1,4 @@
--- `protocol::letters::kind_of` meets its contract. Assumes nothing.
+-- `protocol::triggers::kind_of` meets its contract. Assumes nothing.
 use mathlib.Core.Path.{_≡_, sym, ap, _∙_}
 use native.Mathlib.Omega.{arith}
 use borrow.Author.Needs.{needs}
@@ -8,8 +8,8 @@ use Rattle.tables.specs.declared.Numbers.{Numbers}
 use Rattle.tables.specs.Layout.{systemForm, anchorForm, tonesForm, logicForm, rowOf}
 use Rattle.protocol.specs.Inner.{kindOf, kindAt}
 use Rattle.protocol.proofs.Forms.{kindBy, kind-by}
-use Rattle.protocol.proofs.letters.kind_of.Statement.{statement}
-use Rattle.protocol.proofs.letters.kind_of.Tie as tie
+use Rattle.protocol.proofs.triggers.kind_of.Statement.{statement}
+use Rattle.protocol.proofs.triggers.kind_of.Tie as tie
 
 numbers-at-requires : tie.Need-numbers-at-requires
 numbers-at-requires c κs = search needs

@@ -1,4 +1,4 @@
--- `protocol::letters::index_rows` meets its contract. The loop's invariant: the index is that of the rows from the present one on. Assumes nothing.
+-- `protocol::triggers::index_rows` meets its contract. The loop's invariant: the index is that of the rows from the present one on. Assumes nothing.
 use mathlib.Core.Path.{_≡_, ap, _∙_, subst}
 use Prim.Native.Nat.{ℕ, _+_, _-_}
 use native.Mathlib.Omega.{arith}
@@ -6,8 +6,8 @@ use borrow.Author.Needs.{needs}
 use Rattle.tables.specs.Layout.{readAt}
 use Rattle.protocol.specs.Inner.{logicTrigger}
 use Rattle.protocol.proofs.Index.{From, from-end, from-logic, from-other, from-start}
-use Rattle.protocol.proofs.letters.index_rows.Statement.{statement}
-use Rattle.protocol.proofs.letters.index_rows.Tie as tie
+use Rattle.protocol.proofs.triggers.index_rows.Statement.{statement}
+use Rattle.protocol.proofs.triggers.index_rows.Tie as tie
 
 abbrev Inv-loop : tie.InvT-loop
 Inv-loop rows count index₀ i₀ index i = From rows count i index

@@ -1,12 +1,12 @@
--- `protocol::letters::gather_orders` meets its contract. The loop's invariant: with the records that are left stored, the array is the one that is
+-- `protocol::triggers::gather_orders` meets its contract. The loop's invariant: with the records that are left stored, the array is the one that is
 -- asked for. Assumes nothing.
 use Prim.Native.Nat.{_-_, _+_, _*_}
 use native.Mathlib.Omega.{arith}
 use Rattle.tables.specs.Layout.{orderWidth, triggersIn, callsIn}
-use Rattle.protocol.proofs.Records.{Gathering, gathering-starts, gathering-order, gathering-ends, letter-byte, codes-there}
+use Rattle.protocol.proofs.Records.{Gathering, gathering-starts, gathering-order, gathering-ends, codes-there}
 use borrow.Author.Needs.{needs}
-use Rattle.protocol.proofs.letters.gather_orders.Statement.{statement}
-use Rattle.protocol.proofs.letters.gather_orders.Tie as tie
+use Rattle.protocol.proofs.triggers.gather_orders.Statement.{statement}
+use Rattle.protocol.proofs.triggers.gather_orders.Tie as tie
 
 abbrev Inv-loop : tie.InvT-loop
 Inv-loop rows orders from to all₀ i₀ all i = Gathering rows (triggersIn orders) (callsIn orders) from to all i
@@ -20,14 +20,11 @@ loop-holds c = gathering-starts (c .before .pre)
 mul-at : tie.Need-mul-at Inv-loop μ-loop
 mul-at c = omega (arith, codes-there (c .before .before .before .args .orders .now) (c .before .before .before .pre))
 
-mul-letter : tie.Need-mul-letter Inv-loop μ-loop
-mul-letter c = omega (arith, codes-there (c .before .before .before .args .orders .now) (c .before .before .before .pre))
+mul-trigger : tie.Need-mul-trigger Inv-loop μ-loop
+mul-trigger c = omega (arith, codes-there (c .before .before .before .args .orders .now) (c .before .before .before .pre))
 
-shared-slice-read-letter : tie.Need-shared-slice-read-letter Inv-loop μ-loop
-shared-slice-read-letter c = omega (arith, codes-there (c .before .before .before .before .args .orders .now) (c .before .before .before .before .pre))
-
-cast-letter : tie.Need-cast-letter Inv-loop μ-loop
-cast-letter c = omega (arith, letter-byte (c .before .before .before .before .args .orders .now) (c .before .before .before .before .pre) (c .before .before .loop .i) (c .before .loop-test .taken))
+shared-slice-read-trigger : tie.Need-shared-slice-read-trigger Inv-loop μ-loop
+shared-slice-read-trigger c = omega (arith, codes-there (c .before .before .before .before .args .orders .now) (c .before .before .before .before .pre))
 
 add-number : tie.Need-add-number Inv-loop μ-loop
 add-number c = omega (arith, codes-there (c .before .before .before .before .args .orders .now) (c .before .before .before .before .pre))
@@ -73,9 +70,8 @@ gather-orders-spec =
     μ-loop
     loop-holds
     mul-at
-    mul-letter
-    shared-slice-read-letter
-    cast-letter
+    mul-trigger
+    shared-slice-read-trigger
     add-number
     mul-number
     shared-slice-read-number

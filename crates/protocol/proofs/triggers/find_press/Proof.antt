@@ -1,6 +1,5 @@
--- `protocol::letters::press_letter` meets its contract. Assumes nothing.
+-- `protocol::triggers::find_press` meets its contract. Assumes nothing.
 use mathlib.Core.Path.{ap, _∙_}
-use mathlib.Core.Bool.{true}
 use mathlib.Core.List.{List}
 use Prim.Native.Nat.{ℕ}
 use mir.Facts.{toZ-ofZ}
@@ -10,11 +9,11 @@ use Rattle.integers.specs.Parts.{up}
 use Rattle.tables.specs.declared.Numbers.{Numbers}
 use Rattle.tables.specs.Layout.{tablesIn}
 use Rattle.protocol.specs.declared.Active.the-variants as active
-use Rattle.protocol.specs.Letters.{startCalls}
-use Rattle.protocol.proofs.Presses.{pressed-named}
+use Rattle.protocol.specs.Triggers.{itself, startCalls}
+use Rattle.protocol.proofs.Presses.{struck-named}
 use borrow.Author.Needs.{needs}
-use Rattle.protocol.proofs.letters.press_letter.Statement.{statement}
-use Rattle.protocol.proofs.letters.press_letter.Tie as tie
+use Rattle.protocol.proofs.triggers.find_press.Statement.{statement}
+use Rattle.protocol.proofs.triggers.find_press.Tie as tie
 
 find-called-requires : tie.Need-find-called-requires
 find-called-requires c κs = search needs
@@ -50,20 +49,20 @@ find-start-requires : tie.Need-find-start-requires
 find-start-requires c κs = search needs
 
 returns : tie.Need-returns
-returns c = pressed-named (tablesIn (c .before .before .before .before .args .numbers .now) (c .before .before .before .before .args .codes .now)) (c .before .before .before .before .args .active) (c .before .before .before .before .args .letter) (c .before .before .find-called .ensures) (c .enum-told .given .1)
+returns c = struck-named (tablesIn (c .before .before .before .before .args .numbers .now) (c .before .before .before .before .args .codes .now)) (c .before .before .before .before .args .active) (itself (c .before .before .before .before .args .trigger)) (c .before .before .find-called .ensures) (c .enum-told .given .1)
 
 returns-2 : tie.Need-returns-2
-returns-2 c = pressed-named (tablesIn (c .before .before .before .before .before .args .numbers .now) (c .before .before .before .before .before .args .codes .now)) (c .before .before .before .before .before .args .active) (c .before .before .before .before .before .args .letter) (c .before .before .before .find-called .ensures) (c .before .k .given .1)
+returns-2 c = struck-named (tablesIn (c .before .before .before .before .before .args .numbers .now) (c .before .before .before .before .before .args .codes .now)) (c .before .before .before .before .before .args .active) (itself (c .before .before .before .before .before .args .trigger)) (c .before .before .before .find-called .ensures) (c .before .k .given .1)
 
 returns-3 : tie.Need-returns-3
 unfolding tablesIn
 returns-3 c = let f : SFits w32 (c .before .before .before .numbers-at .result .second) = search needs in
     let start = simp toZ-ofZ at (c .before .natural .ensures) ∙ ap (λ (n : Numbers). up (n .second)) (c .before .before .before .numbers-at .ensures) in
-    ap (λ (l : List ℕ). record { bound = true; active = active.Logic (c .before .before .before .before .before .before .k2 .given .0 .0); calls = l }) (c .find-start .ensures ∙ ap startCalls start)
-    ∙ pressed-named (tablesIn (c .before .before .before .before .before .before .before .before .before .before .args .numbers .now) (c .before .before .before .before .before .before .before .before .before .before .args .codes .now)) (c .before .before .before .before .before .before .before .before .before .before .args .active) (c .before .before .before .before .before .before .before .before .before .before .args .letter) (c .before .before .before .before .before .before .before .before .find-called .ensures) (c .before .before .before .before .before .before .k2 .given .1)
+    ap (λ (l : List ℕ). record { active = active.Logic (c .before .before .before .before .before .before .k2 .given .0 .0); calls = l }) (c .find-start .ensures ∙ ap (startCalls (c .before .before .before .before .before .before .k2 .given .0 .0)) start)
+    ∙ struck-named (tablesIn (c .before .before .before .before .before .before .before .before .before .before .args .numbers .now) (c .before .before .before .before .before .before .before .before .before .before .args .codes .now)) (c .before .before .before .before .before .before .before .before .before .before .args .active) (itself (c .before .before .before .before .before .before .before .before .before .before .args .trigger)) (c .before .before .before .before .before .before .before .before .find-called .ensures) (c .before .before .before .before .before .before .k2 .given .1)
 
-pub press-letter-spec : {M : Type 1} → statement M
-press-letter-spec =
+pub find-press-spec : {M : Type 1} → statement M
+find-press-spec =
     tie.close
     (tie.spec
     find-called-requires

@@ -1,12 +1,12 @@
--- `protocol::letters::first_logic` meets its contract. Assumes nothing.
+-- `protocol::triggers::first_logic` meets its contract. Assumes nothing.
 use mathlib.Core.Path.{ap, _∙_}
 use Rattle.tables.specs.declared.Counts.{Counts}
 use Rattle.tables.specs.Layout.{tablesIn}
-use Rattle.protocol.specs.Letters.{firstLogic}
-use Rattle.protocol.specs.Inner.{found}
+use Rattle.protocol.specs.Triggers.{firstLogic}
+use Rattle.protocol.specs.Inner.{found, isTrigger}
 use borrow.Author.Needs.{needs}
-use Rattle.protocol.proofs.letters.first_logic.Statement.{statement}
-use Rattle.protocol.proofs.letters.first_logic.Tie as tie
+use Rattle.protocol.proofs.triggers.first_logic.Statement.{statement}
+use Rattle.protocol.proofs.triggers.first_logic.Tie as tie
 
 sub-read : tie.Need-sub-read
 sub-read c = search needs
@@ -37,7 +37,7 @@ unfolding tablesIn
 returns c =
     let a = c .before .before .before .before .before .args in
     let t = tablesIn (a .numbers .now) (a .codes .now) in
-    c .find-logic .ensures ∙ ap (λ (u : Counts). found (firstLogic (t .rows) (a .letter) 0 (u .rows))) (c .before .before .read .ensures)
+    c .find-logic .ensures ∙ ap (λ (u : Counts). found (firstLogic (t .rows) (isTrigger (a .trigger)) 0 (u .rows))) (c .before .before .read .ensures)
 
 pub first-logic-spec : {M : Type 1} → statement M
 first-logic-spec =

@@ -1,6 +1,8 @@
-// What a letter calls: logics are tried in declared order, else the active logic's orders; and the call of a declaration.
+// What a trigger calls: logics are tried in declared order, else the active logic's orders; and the call of a declaration.
 use crate::Active;
 use crate::Callee;
+use crate::Desk;
+use crate::Stepped;
 use crate::TRIGGERS;
 use orders::Kind;
 use orders::Order;
@@ -28,59 +30,60 @@ use tuning::Reply;
 use tuning::State;
 ghost use mathlib.Core.Path.{_≡_};
 ghost use mathlib.Core.Bool.{true};
+ghost use mathlib.Core.List.{[], _∷_};
 ghost use lib.Seq.{slice};
 ghost use Rattle.tuning.specs.State.{validState};
-ghost use Rattle.tables.specs.Layout.{tablesIn, triggersIn, callsIn, rowOf};
+ghost use Rattle.tables.specs.Layout.{tablesIn, triggersIn, callsIn, rowOf, asLogic};
 ghost use Rattle.tables.specs.Values.{Slices};
-ghost use Rattle.protocol.specs.Letters.{isLogicOf, firstLogic, firstOrder, startCalls, pressed};
-ghost use Rattle.protocol.specs.Answers.{callOn};
-ghost use Rattle.protocol.specs.Inner.{found, logicFor, logicTrigger, Indexed, kindAt, calledIn, calledBy, gathered, callsOf, pressedBy, OrderPart, ActiveReadable, Callable, CallableFound, CallsFound};
+ghost use Rattle.protocol.specs.Triggers.{itself, passes, firstLogic, firstOrder, startCalls, struck};
+ghost use Rattle.protocol.specs.Steps.{callOn, triggered};
+ghost use Rattle.protocol.specs.Answers.{validDesk};
+ghost use Rattle.protocol.specs.Inner.{found, isTrigger, logicFor, logicTrigger, Indexed, kindAt, calledIn, calledBy, gathered, struckBy, tunedBy, callLeaves, stepLeaves, OrderPart, ActiveReadable, Callable};
 
 // What is no trigger.
-const NO_TRIGGER: u32 = 256;
+const NO_TRIGGER: u32 = 1024;
 
-// What a letter names: nothing, a logic, or a declaration that is called itself.
+// What a trigger names: nothing, a logic, or a declaration that is called itself.
 enum Called {
     Nothing,
     Logic(u32),
     Other(u32),
 }
 
-// What a letter comes to: whether it is bound, the logic that is active then, and the declaration that is called.
+// What a trigger comes to: the logic that is active then, and the declaration that is called.
 pub struct Press {
-    pub bound: bool,
     pub active: Active,
     pub called: Callee,
 }
 
-// Whether a row is a logic with this letter.
-fn is_logic(n: Numbers, letter: u8) -> bool
-    ensures { λ r. ⌜ r ≡ isLogicOf letter (rowOf n) ⌝ }
+// Whether a row is a logic with this trigger.
+fn is_logic(n: Numbers, trigger: u16) -> bool
+    ensures { λ r. ⌜ r ≡ passes (isTrigger trigger) (asLogic (rowOf n)) ⌝ }
 {
     let form = n.form;
     let key = decode::natural(n.first);
-    (form == LOGIC_FORM) & (key == letter as u32)
+    (form == LOGIC_FORM) & (key == trigger as u32)
 }
 
-// The first of the rows that is a logic with this letter.
-fn find_logic(rows: &[i32], count: u32, letter: u8) -> Callee
-    ensures { λ r. ⌜ r ≡ found (firstLogic (now (rows .entry)) letter 0 count) ⌝ }
+// The first of the rows that is a logic with this trigger.
+fn find_logic(rows: &[i32], count: u32, trigger: u16) -> Callee
+    ensures { λ r. ⌜ r ≡ found (firstLogic (now (rows .entry)) (isTrigger trigger) 0 count) ⌝ }
 {
     for i in 0..count {
-        if is_logic(decode::numbers_at(rows, i as usize), letter) {
+        if is_logic(decode::numbers_at(rows, i as usize), trigger) {
             return Callee::Row(i);
         }
     }
     Callee::Nothing
 }
 
-// The first logic with this letter, from the rows.
-pub fn first_logic(numbers: &[i32], codes: &[u16], letter: u8) -> Callee
+// The first logic with this trigger, from the rows.
+pub fn first_logic(numbers: &[i32], codes: &[u16], trigger: u16) -> Callee
     requires { ⌜ Slices (now numbers) (now codes) ⌝ }
-    ensures { λ r. ⌜ r ≡ logicFor (tablesIn (now (numbers .entry)) (now (codes .entry))) letter ⌝ }
+    ensures { λ r. ⌜ r ≡ logicFor (tablesIn (now (numbers .entry)) (now (codes .entry))) (itself trigger) ⌝ }
 {
     let used = Counts::read(&codes[0..SOUNDING_AT]);
-    find_logic(&numbers[0..TONES_AT], used.rows, letter)
+    find_logic(&numbers[0..TONES_AT], used.rows, trigger)
 }
 
 // The trigger of a row that is a logic; what is no trigger, of any other row.
@@ -130,17 +133,17 @@ fn gather_orders(rows: &[i32], orders: &[u16], from: usize, to: usize) -> [Order
     ensures { λ r. ⌜ r ≡ gathered (now (rows .entry)) (triggersIn (now (orders .entry))) (callsIn (now (orders .entry))) from to ⌝ }
 {
     let mut all = [Order {
-        letter: 0,
+        trigger: 0,
         kind: Kind::Nothing,
         number: 0,
     }; ORDERS];
     for i in from..to {
         let at = ORDER_WIDTH * i;
-        let letter = orders[at] as u8;
+        let trigger = orders[at];
         let number = orders[at + 1];
         let kind = kind_of(rows, number as usize);
         all[i - from] = Order {
-            letter,
+            trigger,
             kind,
             number,
         };
@@ -148,13 +151,13 @@ fn gather_orders(rows: &[i32], orders: &[u16], from: usize, to: usize) -> [Order
     all
 }
 
-// What the first order with this letter calls, of those from `from` to `to`.
-fn find_order(rows: &[i32], orders: &[u16], from: usize, to: usize, letter: u8) -> Called
+// What the first order with this trigger calls, of those from `from` to `to`.
+fn find_order(rows: &[i32], orders: &[u16], from: usize, to: usize, trigger: u16) -> Called
     requires { ⌜ OrderPart (triggersIn (now orders)) (callsIn (now orders)) from to ⌝ }
-    ensures { λ r. ⌜ r ≡ calledIn (now (rows .entry)) (firstOrder letter (slice from to (triggersIn (now (orders .entry)))) (slice from to (callsIn (now (orders .entry))))) ⌝ }
+    ensures { λ r. ⌜ r ≡ calledIn (now (rows .entry)) (firstOrder (isTrigger trigger) (slice from to (triggersIn (now (orders .entry)))) (slice from to (callsIn (now (orders .entry))))) ⌝ }
 {
     let all = gather_orders(rows, orders, from, to);
-    let orders::Found::At(i) = orders::find_match_in(all, letter, 0, to - from) else {
+    let orders::Found::At(i) = orders::find_match_in(all, trigger, 0, to - from) else {
         return Called::Nothing;
     };
     let order = all[i];
@@ -166,12 +169,18 @@ fn find_order(rows: &[i32], orders: &[u16], from: usize, to: usize, letter: u8) 
     Called::Other(number)
 }
 
-// `logic`, the first with this letter, else what the active logic's first order with it calls.
-fn find_called(numbers: &[i32], codes: &[u16], active: Active, letter: u8, logic: Callee) -> Called
+// `logic`, the first with this trigger, else what the active logic's first order with it calls.
+fn find_called(
+    numbers: &[i32],
+    codes: &[u16],
+    active: Active,
+    trigger: u16,
+    logic: Callee,
+) -> Called
     requires { ⌜ Slices (now numbers) (now codes) ⌝ }
-    requires { ⌜ logic ≡ logicFor (tablesIn (now numbers) (now codes)) letter ⌝ }
+    requires { ⌜ logic ≡ logicFor (tablesIn (now numbers) (now codes)) (itself trigger) ⌝ }
     requires { ⌜ ActiveReadable (tablesIn (now numbers) (now codes)) active ⌝ }
-    ensures { λ r. ⌜ r ≡ calledBy (tablesIn (now (numbers .entry)) (now (codes .entry))) active letter ⌝ }
+    ensures { λ r. ⌜ r ≡ calledBy (tablesIn (now (numbers .entry)) (now (codes .entry))) active (itself trigger) ⌝ }
 {
     if let Callee::Row(i) = logic {
         return Called::Logic(i);
@@ -190,40 +199,32 @@ fn find_called(numbers: &[i32], codes: &[u16], active: Active, letter: u8, logic
         return Called::Nothing;
     };
     let orders = &codes[ORDERS_AT..CODES];
-    find_order(rows, orders, from as usize, to as usize, letter)
+    find_order(rows, orders, from as usize, to as usize, trigger)
 }
 
-// The declaration of a logic's start: none where it is 0.
-fn find_start(start: u32) -> Callee
-    ensures { λ r. ⌜ callsOf r ≡ startCalls start ⌝ }
+// What logic k calls: its start, or itself where its start is 0.
+fn find_start(k: u32, start: u32) -> u32
+    ensures { λ r. ⌜ r ∷ [] ≡ startCalls k start ⌝ }
 {
     if start == 0 {
-        return Callee::Nothing;
+        return k;
     }
-    Callee::Row(start - 1)
+    start - 1
 }
 
-// What a letter comes to. A called logic becomes active, and its start is called.
-pub fn press_letter(
-    numbers: &[i32],
-    codes: &[u16],
-    active: Active,
-    letter: u8,
-    logic: Callee,
-) -> Press
+// What a trigger comes to. A called logic becomes active, and its start is called.
+fn find_press(numbers: &[i32], codes: &[u16], active: Active, trigger: u16, logic: Callee) -> Press
     requires { ⌜ Slices (now numbers) (now codes) ⌝ }
-    requires { ⌜ logic ≡ logicFor (tablesIn (now numbers) (now codes)) letter ⌝ }
+    requires { ⌜ logic ≡ logicFor (tablesIn (now numbers) (now codes)) (itself trigger) ⌝ }
     requires { ⌜ ActiveReadable (tablesIn (now numbers) (now codes)) active ⌝ }
-    ensures { λ r. ⌜ pressedBy r ≡ pressed (tablesIn (now (numbers .entry)) (now (codes .entry))) active letter ⌝ }
+    ensures { λ r. ⌜ struckBy r ≡ struck (tablesIn (now (numbers .entry)) (now (codes .entry))) active (itself trigger) ⌝ }
 {
-    match find_called(numbers, codes, active, letter, logic) {
+    match find_called(numbers, codes, active, trigger, logic) {
         Called::Nothing => Press {
-            bound: false,
             active,
             called: Callee::Nothing,
         },
         Called::Other(k) => Press {
-            bound: true,
             active,
             called: Callee::Row(k),
         },
@@ -231,20 +232,19 @@ pub fn press_letter(
             let n = decode::numbers_at(&numbers[0..TONES_AT], k as usize);
             let start = decode::natural(n.second);
             Press {
-                bound: true,
                 active: Active::Logic(k),
-                called: find_start(start),
+                called: Callee::Row(find_start(k, start)),
             }
         }
     }
 }
 
-// The call of declaration k: of a tone system or a retuning; any other changes nothing.
+// What the call of declaration k does to the tuning: of a tone system or a retuning; any other changes nothing.
 fn call_declaration(numbers: &[i32], codes: &[u16], s: State, k: u32) -> Reply
     requires { ⌜ Slices (now numbers) (now codes) ⌝ }
     requires { ⌜ validState s ≡ true ⌝ }
     requires { ⌜ Callable (tablesIn (now numbers) (now codes)) k ⌝ }
-    ensures { λ r. ⌜ r ≡ callOn (tablesIn (now (numbers .entry)) (now (codes .entry))) s k ⌝ }
+    ensures { λ r. ⌜ r ≡ tunedBy (tablesIn (now (numbers .entry)) (now (codes .entry))) s k ⌝ }
 {
     match decode::row_at(&numbers[0..TONES_AT], k as usize) {
         Row::System {
@@ -273,18 +273,46 @@ fn call_declaration(numbers: &[i32], codes: &[u16], s: State, k: u32) -> Reply
     }
 }
 
-// The call that a letter makes, if it makes one.
-pub fn make_call(numbers: &[i32], codes: &[u16], s: State, called: Callee) -> Reply
+// The call of declaration k by a frame of this house.
+fn make_call(numbers: &[i32], codes: &[u16], desk: Desk, house: u8, k: u32) -> Stepped
     requires { ⌜ Slices (now numbers) (now codes) ⌝ }
-    requires { ⌜ validState s ≡ true ⌝ }
-    requires { ⌜ CallableFound (tablesIn (now numbers) (now codes)) called ⌝ }
-    ensures { λ r. ⌜ CallsFound (tablesIn (now (numbers .entry)) (now (codes .entry))) s called r ⌝ }
+    requires { ⌜ validState (desk .tuning) ≡ true ⌝ }
+    requires { ⌜ Callable (tablesIn (now numbers) (now codes)) k ⌝ }
+    ensures { λ r. ⌜ r ≡ callLeaves (callOn (tablesIn (now (numbers .entry)) (now (codes .entry))) house desk k) ⌝ }
 {
+    let s = desk.tuning;
+    let reply = call_declaration(numbers, codes, s, k);
+    let tuning = reply.state;
+    Stepped {
+        desk: desk.with_tuning(tuning),
+        number: reply.number,
+    }
+}
+
+// What a trigger does, from a frame of this house. `logic` is the first logic with it; the number is `unfound` where nothing has it.
+pub fn trigger(
+    numbers: &[i32],
+    codes: &[u16],
+    desk: Desk,
+    house: u8,
+    trigger: u16,
+    logic: Callee,
+    unfound: u8,
+) -> Stepped
+    requires { ⌜ validDesk (tablesIn (now numbers) (now codes)) desk ≡ true ⌝ }
+    requires { ⌜ logic ≡ logicFor (tablesIn (now numbers) (now codes)) (itself trigger) ⌝ }
+    ensures { λ r. ⌜ r ≡ stepLeaves (triggered (tablesIn (now (numbers .entry)) (now (codes .entry))) house desk (itself trigger) unfound) ⌝ }
+{
+    let before = desk.active;
+    let found = find_press(numbers, codes, before, trigger, logic);
+    let active = found.active;
+    let called = found.called;
+    let next = desk.with_active(active);
     let Callee::Row(k) = called else {
-        return Reply {
-            state: s,
-            number: DONE,
+        return Stepped {
+            desk: next,
+            number: unfound,
         };
     };
-    call_declaration(numbers, codes, s, k)
+    make_call(numbers, codes, next, house, k)
 }

@@ -1,0 +1,41 @@
+-- What the code's enum says of a frame: an inversion for each variant.
+use Prim.Native.Nat.{ℕ}
+use mathlib.Core.Path.{_≡_, refl, ap}
+use native.Mathlib.Omega.{arith}
+use Rattle.cents.specs.declared.KeyNumber.{KeyNumber}
+use Rattle.frames.specs.declared.Decoded.the-variants.{Bad, Letter, Key, Dump}
+use Rattle.frames.specs.Frames.{Frame, bad, letter, key, dump, keyOf, decodedAs}
+
+-- two different variants are not the same
+other : {A : Type 0} → _≡_ {A = ℕ} 0 1 → A
+other z = absurd (omega (arith, z))
+
+pub bad-decoded : (f : Frame) → decodedAs f ≡ Bad → f ≡ bad
+bad-decoded bad e = refl
+bad-decoded (letter h c) e = other cc
+bad-decoded (key h k) e = other cc
+bad-decoded (dump h) e = other cc
+
+pub letter-decoded : (f : Frame) {house c : ℕ} → decodedAs f ≡ Letter house c → f ≡ letter house c
+letter-decoded bad e = other cc
+letter-decoded (letter h x) {house} {c} e =
+    let same : h ≡ house = cc in
+    let too : x ≡ c = cc in
+    rw (same, too)
+letter-decoded (key h k) e = other cc
+letter-decoded (dump h) e = other cc
+
+pub key-decoded : (f : Frame) {house : ℕ} {k : KeyNumber} → decodedAs f ≡ Key house k → f ≡ key house (k .0)
+key-decoded bad e = other cc
+key-decoded (letter h x) e = other cc
+key-decoded (key h x) {house} {k} e =
+    let same : h ≡ house = cc in
+    let too : keyOf x ≡ k = cc in
+    rw (same, ← too)
+key-decoded (dump h) e = other cc
+
+pub dump-decoded : (f : Frame) {house : ℕ} → decodedAs f ≡ Dump house → f ≡ dump house
+dump-decoded bad e = other cc
+dump-decoded (letter h x) e = other cc
+dump-decoded (key h k) e = other cc
+dump-decoded (dump h) e = ap dump cc
