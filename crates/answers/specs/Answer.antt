@@ -6,7 +6,8 @@ use Rattle.status.specs.Status.{done, badFrame}
 use Rattle.tuning.specs.Scale.{Sound, muted, sounds}
 use Rattle.tuning.specs.Tuning.{Tuning, width}
 use Rattle.tuning.specs.Desk.{cents}
-use Rattle.frames.specs.Frames.{letterKind, keyKind, dumpKind, dumpData}
+use Rattle.frames.specs.declared.Way.{Way}
+use Rattle.frames.specs.Frames.{letterKind, keyKind, dumpKind, dumpData, wayKind}
 use Rattle.hexadecimal.specs.Numbers.{twos, fourOf}
 
 -- "muted is 80000000"
@@ -33,8 +34,16 @@ head house kind value number = house ∷ kind ∷ value ∷ number ∷ []
 abbrev pub stateBytes : Tuning cents → List ℕ
 stateBytes s = s .anchor ∷ width cents s ∷ fourOf (twos (s .period))
 
+-- the answer to what may change the state: house, kind and value of the frame, and the number; document 02, 5/13, of a key that goes down or up: "It answers
+-- as a letter does"
+abbrev pub changeBytes : ℕ → ℕ → ℕ → ℕ → Tuning cents → List ℕ
+changeBytes house kind value number s = head house kind value number ++ stateBytes s
+
 abbrev pub letterBytes : ℕ → ℕ → ℕ → Tuning cents → List ℕ
-letterBytes house letter number s = head house letterKind letter number ++ stateBytes s
+letterBytes house letter number s = changeBytes house letterKind letter number s
+
+abbrev pub moveBytes : Way → ℕ → ℕ → ℕ → Tuning cents → List ℕ
+moveBytes way house key number s = changeBytes house (wayKind way) key number s
 
 abbrev pub keyBytes : ℕ → ℕ → ℕ → Sound ℤ → List ℕ
 keyBytes house key number t = head house keyKind key number ++ soundBytes t

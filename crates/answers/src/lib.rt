@@ -4,7 +4,6 @@ use cents::KeyNumber;
 use frames::DUMP_DATA;
 use frames::DUMP_KIND;
 use frames::KEY_KIND;
-use frames::LETTER_KIND;
 use hexadecimal::LINE_FEED;
 use hexadecimal::bits_of;
 use hexadecimal::put_byte;
@@ -20,7 +19,7 @@ ghost use lib.ListN.{length, set};
 ghost use Rattle.tuning.specs.State.{held, heard, validState};
 ghost use Rattle.hexadecimal.specs.Numbers.{twos};
 ghost use Rattle.hexadecimal.specs.Lines.{written, lineFeed, lineOf, begunWith};
-ghost use Rattle.answers.specs.Answer.{bitsOf, tonesBytes, head, stateBytes, letterBytes, keyBytes, dumpBytes, badBytes, refusalBytes, smallestBuffer};
+ghost use Rattle.answers.specs.Answer.{bitsOf, tonesBytes, head, stateBytes, changeBytes, keyBytes, dumpBytes, badBytes, refusalBytes, smallestBuffer};
 
 // The shortest buffer that every answer fits into.
 pub const SMALLEST_BUFFER: usize = 512;
@@ -101,12 +100,19 @@ fn end_line(buf: &mut [u8], bytes: usize) -> usize
     2 * bytes + 1
 }
 
-// The answer to a letter. Each of these tells how long the line is.
-pub fn answer_letter(buf: &mut [u8], house: u8, letter: u8, number: u8, s: State) -> usize
+// The answer to a letter, or to a key that goes down or up. Each of these tells how long the line is.
+pub fn answer_change(
+    buf: &mut [u8],
+    house: u8,
+    kind: u8,
+    value: u8,
+    number: u8,
+    s: State,
+) -> usize
     requires { ⌜ (smallestBuffer ≤ length (now buf)) × (validState s ≡ true) ⌝ }
-    ensures { λ r. ⌜ (r ≡ length (lineOf (letterBytes house letter number (held s)))) × (now (buf .exit) ≡ begunWith (lineOf (letterBytes house letter number (held s))) (now (buf .entry))) ⌝ }
+    ensures { λ r. ⌜ (r ≡ length (lineOf (changeBytes house kind value number (held s)))) × (now (buf .exit) ≡ begunWith (lineOf (changeBytes house kind value number (held s))) (now (buf .entry))) ⌝ }
 {
-    put_head(buf, house, LETTER_KIND, letter, number);
+    put_head(buf, house, kind, value, number);
     put_state(buf, s);
     end_line(buf, TONES_AT)
 }

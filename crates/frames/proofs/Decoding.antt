@@ -3,8 +3,9 @@ use Prim.Native.Nat.{ℕ}
 use mathlib.Core.Path.{_≡_, refl, ap}
 use native.Mathlib.Omega.{arith}
 use Rattle.cents.specs.declared.KeyNumber.{KeyNumber}
-use Rattle.frames.specs.declared.Decoded.the-variants.{Bad, Letter, Key, Dump}
-use Rattle.frames.specs.Frames.{Frame, bad, letter, key, dump, keyOf, decodedAs}
+use Rattle.frames.specs.declared.Decoded.the-variants.{Bad, Letter, Key, Dump, Move}
+use Rattle.frames.specs.Frames.{Frame, bad, letter, key, dump, move, keyOf, decodedAs}
+use Rattle.frames.specs.declared.Way.{Way}
 
 -- two different variants are not the same
 other : {A : Type 0} → _≡_ {A = ℕ} 0 1 → A
@@ -15,6 +16,7 @@ bad-decoded bad e = refl
 bad-decoded (letter h c) e = other cc
 bad-decoded (key h k) e = other cc
 bad-decoded (dump h) e = other cc
+bad-decoded (move w h k) e = other cc
 
 pub letter-decoded : (f : Frame) {house c : ℕ} → decodedAs f ≡ Letter house c → f ≡ letter house c
 letter-decoded bad e = other cc
@@ -24,6 +26,7 @@ letter-decoded (letter h x) {house} {c} e =
     rw (same, too)
 letter-decoded (key h k) e = other cc
 letter-decoded (dump h) e = other cc
+letter-decoded (move w h k) e = other cc
 
 pub key-decoded : (f : Frame) {house : ℕ} {k : KeyNumber} → decodedAs f ≡ Key house k → f ≡ key house (k .0)
 key-decoded bad e = other cc
@@ -33,9 +36,22 @@ key-decoded (key h x) {house} {k} e =
     let too : keyOf x ≡ k = cc in
     rw (same, ← too)
 key-decoded (dump h) e = other cc
+key-decoded (move w h k) e = other cc
 
 pub dump-decoded : (f : Frame) {house : ℕ} → decodedAs f ≡ Dump house → f ≡ dump house
 dump-decoded bad e = other cc
 dump-decoded (letter h x) e = other cc
 dump-decoded (key h k) e = other cc
 dump-decoded (dump h) e = ap dump cc
+dump-decoded (move w h k) e = other cc
+
+pub move-decoded : (f : Frame) {way : Way} {house : ℕ} {k : KeyNumber} → decodedAs f ≡ Move way house k → f ≡ move way house (k .0)
+move-decoded bad e = other cc
+move-decoded (letter h x) e = other cc
+move-decoded (key h x) e = other cc
+move-decoded (dump h) e = other cc
+move-decoded (move w h x) {way} {house} {k} e =
+    let same : h ≡ house = cc in
+    let too : keyOf x ≡ k = cc in
+    let so : w ≡ way = cc in
+    rw (same, ← too, so)

@@ -7,7 +7,9 @@ use mathlib.Core.Option.{Option, none, some, Option·elim}
 use borrow.Author.Tests.{leb-true}
 use lib.Dec.{eqb}
 use Rattle.hexadecimal.specs.Digits.{bytesOf}
-use Rattle.frames.specs.Frames.{firstHouse, secondHouse, isHouse, letterKind, keyKind, dumpKind, firstLetter, lastLetter, isCapital, lastKey, isKey, dumpData, Frame, bad, letter, key, dump, letterFrame, keyFrame, dumpFrame, kindFrame, framed, frameOf, inside}
+use Rattle.frames.specs.declared.Way.{Way}
+use Rattle.frames.specs.declared.Way.the-variants.{Down, Up}
+use Rattle.frames.specs.Frames.{firstHouse, secondHouse, isHouse, letterKind, keyKind, dumpKind, firstLetter, lastLetter, isCapital, lastKey, isKey, dumpData, downKind, upKind, Frame, bad, letter, key, dump, move, letterFrame, keyFrame, dumpFrame, moveFrame, kindFrame, framed, frameOf, inside}
 use Rattle.ascii.proofs.Between.{each, in-range}
 
 -- ---- for callers: what `inside` says of a frame that has come
@@ -22,6 +24,12 @@ letter-ranges house c e =
 
 pub key-ranges : (house b : ℕ) → inside (key house b) ≡ true → (firstHouse ≤ house) × (house ≤ secondHouse) × (b ≤ lastKey)
 key-ranges house b e =
+    let k = each (isHouse house) (isKey b) e in
+    let h = in-range firstHouse secondHouse house (k .0) in
+    (h .0, h .1, leb-true b lastKey (k .1))
+
+pub move-ranges : (way : Way) (house b : ℕ) → inside (move way house b) ≡ true → (firstHouse ≤ house) × (house ≤ secondHouse) × (b ≤ lastKey)
+move-ranges way house b e =
     let k = each (isHouse house) (isKey b) e in
     let h = in-range firstHouse secondHouse house (k .0) in
     (h .0, h .1, leb-true b lastKey (k .1))
@@ -55,11 +63,18 @@ module _ (house : ℕ) (h : isHouse house ≡ true) where
   dump-inside (b ∷ []) = inside-if (eqb b dumpData) (dump house) (λ e. h)
   dump-inside (b ∷ c ∷ more) = refl
 
+  move-inside : (way : Way) (rest : List ℕ) → inside (moveFrame way house rest) ≡ true
+  move-inside way [] = refl
+  move-inside way (b ∷ []) = inside-if (isKey b) (move way house b) (λ e. rw (h, e))
+  move-inside way (b ∷ c ∷ more) = refl
+
   kind-inside : (kind : ℕ) (rest : List ℕ) → inside (kindFrame house kind rest) ≡ true
   kind-inside kind rest =
       inside-either (eqb kind letterKind) (letterFrame house rest) _ (letter-inside rest)
       (inside-either (eqb kind keyKind) (keyFrame house rest) _ (key-inside rest)
-      (inside-if (eqb kind dumpKind) (dumpFrame house rest) (λ e. dump-inside rest)))
+      (inside-either (eqb kind dumpKind) (dumpFrame house rest) _ (dump-inside rest)
+      (inside-either (eqb kind downKind) (moveFrame Down house rest) _ (move-inside Down rest)
+      (inside-if (eqb kind upKind) (moveFrame Up house rest) (λ e. move-inside Up rest)))))
 
 framed-inside : (bs : List ℕ) → inside (framed bs) ≡ true
 unfolding framed

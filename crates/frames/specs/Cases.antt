@@ -4,7 +4,8 @@ use mathlib.Core.Path.{_≡_}
 use mathlib.Core.List.{List, [], _∷_, map}
 use lib.ListN.{replicate}
 use Rattle.ascii.specs.Ascii.{byte, bytes}
-use Rattle.frames.specs.Frames.{firstHouse, secondHouse, Frame, bad, letter, key, dump, frameOf}
+use Rattle.frames.specs.Frames.{firstHouse, secondHouse, Frame, bad, letter, key, dump, move, frameOf}
+use Rattle.frames.specs.declared.Way.the-variants.{Down, Up}
 
 -- the column "In"
 abbrev pub caseLines : List String
@@ -25,10 +26,11 @@ caseFrames =
 unfoldable pub CaseS : Type 0
 CaseS = map (λ s. frameOf (bytes s)) caseLines ≡ caseFrames
 
--- a dump; and bad frames: an empty line, a digit too many, two digits too many, a small letter, a house, a kind, a letter, a key
--- and a dump's last byte out of range
+-- a dump, a key that goes down and one that goes up; and bad frames: an empty line, a digit too many, two digits too many, a small letter, a house, a
+-- kind, a letter, a key, a dump's last byte and the two keys that move out of range
 abbrev pub otherLines : List String
-otherLines = "010300" ∷ "" ∷ "01014D0" ∷ "01014D00" ∷ "01014d" ∷ "03014D" ∷ "01044D" ∷ "01015B" ∷ "010280" ∷ "010301" ∷ []
+otherLines =
+    "010300" ∷ "01053C" ∷ "02067F" ∷ "" ∷ "01014D0" ∷ "01014D00" ∷ "01014d" ∷ "03014D" ∷ "01044D" ∷ "01015B" ∷ "010280" ∷ "010301" ∷ "010580" ∷ "0206FF" ∷ []
 
 unfoldable pub Others : Type 0
-Others = map (λ s. frameOf (bytes s)) otherLines ≡ dump firstHouse ∷ replicate 9 bad
+Others = map (λ s. frameOf (bytes s)) otherLines ≡ dump firstHouse ∷ move Down firstHouse 0x3C ∷ move Up secondHouse 0x7F ∷ replicate 11 bad

@@ -1,4 +1,4 @@
--- Document 01, section "Frames": the frame that a line is. A line comes without its line feed, "which the desk is not handed".
+-- Document 01, section "Frames": the frame that a line is; document 02, 5/13. A line comes without its line feed, "which the desk is not handed".
 use Prim.Native.Nat.{ℕ}
 use mathlib.Core.Bool.{Bool, true, cond, _&&_}
 use mathlib.Core.List.{List, [], _∷_}
@@ -8,8 +8,10 @@ use Rattle.ascii.specs.Ascii.{between}
 pub use Rattle.limits.specs.Limits.{firstLetter, lastLetter}
 use Rattle.cents.specs.declared.KeyNumber.{KeyNumber}
 use Rattle.hexadecimal.specs.Digits.{bytesOf}
+use Rattle.frames.specs.declared.Way.{Way}
+use Rattle.frames.specs.declared.Way.the-variants.{Down, Up}
 use Rattle.frames.specs.declared.Decoded.{Decoded}
-use Rattle.frames.specs.declared.Decoded.the-variants.{Bad, Letter, Key, Dump}
+use Rattle.frames.specs.declared.Decoded.the-variants.{Bad, Letter, Key, Dump, Move}
 
 -- ---- "Byte 1: house, 01 or 02."
 
@@ -45,11 +47,23 @@ isCapital b = between firstLetter lastLetter b
 abbrev pub isKey : ℕ → Bool
 isKey b = leb b lastKey
 
+-- "Frames of kind 05 and 06 say that a key goes down or up in that house": 05 or 06 and a key 00 to 7F
+abbrev pub downKind : ℕ
+downKind = 0x05
+
+abbrev pub upKind : ℕ
+upKind = 0x06
+
+abbrev pub wayKind : Way → ℕ
+wayKind Down = downKind
+wayKind Up = upKind
+
 -- a frame: its house, and its letter or key
 pub data Frame : Type 0 where
   bad : Frame
   letter key : ℕ → ℕ → Frame
   dump : ℕ → Frame
+  move : Way → ℕ → ℕ → Frame
 
 -- what stands after house and kind, a case for each kind
 abbrev pub letterFrame : ℕ → List ℕ → Frame
@@ -67,12 +81,19 @@ dumpFrame house (b ∷ []) = cond (eqb b dumpData) (dump house) bad
 dumpFrame house [] = bad
 dumpFrame house (b ∷ c ∷ more) = bad
 
+abbrev pub moveFrame : Way → ℕ → List ℕ → Frame
+moveFrame way house (b ∷ []) = cond (isKey b) (move way house b) bad
+moveFrame way house [] = bad
+moveFrame way house (b ∷ c ∷ more) = bad
+
 abbrev pub kindFrame : ℕ → ℕ → List ℕ → Frame
 kindFrame house kind rest =
     cond (eqb kind letterKind) (letterFrame house rest)
     (cond (eqb kind keyKind) (keyFrame house rest)
     (cond (eqb kind dumpKind) (dumpFrame house rest)
-    bad))
+    (cond (eqb kind downKind) (moveFrame Down house rest)
+    (cond (eqb kind upKind) (moveFrame Up house rest)
+    bad))))
 
 -- the frame of a line's bytes
 unfoldable pub framed : List ℕ → Frame
@@ -90,6 +111,7 @@ inside bad = true
 inside (letter house c) = isHouse house && isCapital c
 inside (key house k) = isHouse house && isKey k
 inside (dump house) = isHouse house
+inside (move way house k) = isHouse house && isKey k
 
 -- ---- the same as the code's enum
 
@@ -101,6 +123,7 @@ decodedAs bad = Bad
 decodedAs (letter house c) = Letter house c
 decodedAs (key house k) = Key house (keyOf k)
 decodedAs (dump house) = Dump house
+decodedAs (move way house k) = Move way house (keyOf k)
 
 -- of a line no more than these bytes matter: six digits, and one more that makes the line too long for a frame
 abbrev pub enough : ℕ

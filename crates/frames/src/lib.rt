@@ -6,7 +6,7 @@ use hexadecimal::digits::byte_value;
 ghost use mathlib.Core.Path.{_≡_};
 ghost use mathlib.Core.Bool.{true};
 ghost use mathlib.Core.List.{[], _∷_};
-ghost use Rattle.frames.specs.Frames.{letterFrame, keyFrame, dumpFrame, framed, frameOf, decodedAs, inside};
+ghost use Rattle.frames.specs.Frames.{letterFrame, keyFrame, dumpFrame, wayKind, moveFrame, framed, frameOf, decodedAs, inside};
 
 // The first byte of a frame: the house that sends it.
 pub const FIRST_HOUSE: u8 = 1;
@@ -20,6 +20,10 @@ pub const KEY_KIND: u8 = 2;
 
 pub const DUMP_KIND: u8 = 3;
 
+pub const DOWN_KIND: u8 = 5;
+
+pub const UP_KIND: u8 = 6;
+
 // The third byte of a frame that asks for a dump.
 pub const DUMP_DATA: u8 = 0;
 
@@ -30,12 +34,29 @@ const FRAME_DIGITS: usize = 6;
 // Of a line no more than these bytes matter: one more than a frame has makes it too long.
 pub const ENOUGH: usize = FRAME_DIGITS + 1;
 
+// How a key moves.
+pub enum Way {
+    Down,
+    Up,
+}
+
 // What a line asks: its frame, as far as code needs it.
 pub enum Decoded {
     Bad,
     Letter { house: u8, letter: u8 },
     Key { house: u8, key: KeyNumber },
     Dump { house: u8 },
+    Move { way: Way, house: u8, key: KeyNumber },
+}
+
+// The kind of a frame that says so.
+pub fn kind_of(way: Way) -> u8
+    ensures { λ r. ⌜ r ≡ wayKind way ⌝ }
+{
+    match way {
+        Way::Down => DOWN_KIND,
+        Way::Up => UP_KIND,
+    }
 }
 
 fn read_letter(house: u8, letter: u8) -> Decoded
@@ -66,6 +87,16 @@ fn read_dump(house: u8, value: u8) -> Decoded
     Decoded::Bad
 }
 
+fn read_move(way: Way, house: u8, number: u8) -> Decoded
+    ensures { λ r. ⌜ r ≡ decodedAs (moveFrame way house (number ∷ [])) ⌝ }
+{
+    if number <= LAST_KEY {
+        let key = KeyNumber(number);
+        return Decoded::Move { way, house, key };
+    }
+    Decoded::Bad
+}
+
 // What three bytes ask.
 fn read_frame(house: u8, kind: u8, value: u8) -> Decoded
     ensures { λ r. ⌜ r ≡ decodedAs (framed (house ∷ kind ∷ value ∷ [])) ⌝ }
@@ -77,6 +108,8 @@ fn read_frame(house: u8, kind: u8, value: u8) -> Decoded
         LETTER_KIND => read_letter(house, value),
         KEY_KIND => read_key(house, value),
         DUMP_KIND => read_dump(house, value),
+        DOWN_KIND => read_move(Way::Down, house, value),
+        UP_KIND => read_move(Way::Up, house, value),
         _ => Decoded::Bad,
     }
 }

@@ -11,20 +11,22 @@ use Rattle.tuning.specs.Scale.{Sound, muted, sounds}
 use Rattle.tuning.specs.Tuning.{soundOf, start}
 use Rattle.tuning.specs.Desk.{cents}
 use Rattle.tuning.specs.State.{held, coded, validState}
+use Rattle.keys.specs.Keys.{noKeys}
 use Rattle.tables.specs.Layout.{Tables}
 use Rattle.validity.specs.Valid.{isLogic, refersTo, validTables}
-use Rattle.frames.specs.Frames.{Frame, bad, letter, key, dump, frameOf}
+use Rattle.frames.specs.Frames.{Frame, bad, letter, key, dump, move, frameOf}
+use Rattle.frames.specs.declared.Way.{Way}
 use Rattle.hexadecimal.specs.Lines.{lineOf, begunWith}
-use Rattle.answers.specs.Answer.{letterBytes, keyBytes, dumpBytes, badBytes, smallestBuffer}
+use Rattle.answers.specs.Answer.{letterBytes, moveBytes, keyBytes, dumpBytes, badBytes, smallestBuffer}
 use Rattle.protocol.specs.declared.Active.{Active}
 use Rattle.protocol.specs.declared.Active.the-variants as active
 use Rattle.protocol.specs.declared.Desk.{Desk}
 use Rattle.protocol.specs.declared.Answered.{Answered}
-use Rattle.protocol.specs.Steps.{Made, Step, letterStep}
+use Rattle.protocol.specs.Steps.{Made, Step, letterStep, moveStep}
 
--- "At the start: .. no logic active."
+-- "At the start: .. no logic active."; no key is held
 abbrev pub startDesk : Desk
-startDesk = record { tuning = coded (start cents); active = active.Nothing }
+startDesk = record { tuning = coded (start cents); active = active.Nothing; keys = noKeys }
 
 -- ---- what a frame does, by its kind; the line is empty where nothing is written
 
@@ -41,6 +43,11 @@ answered s line = record { desk = s .desk; number = s .number; made = s .made; l
 unfoldable pub letterOutcome : Tables → Desk → ℕ → ℕ → Outcome
 letterOutcome t d house c =
     let s = letterStep t house d c in answered s (lineOf (letterBytes house c (s .number) (held (s .desk .tuning))))
+
+-- "It answers as a letter does"
+unfoldable pub moveOutcome : Tables → Desk → Way → ℕ → ℕ → Outcome
+moveOutcome t d way house k =
+    let s = moveStep t way house d k in answered s (lineOf (moveBytes way house k (s .number) (held (s .desk .tuning))))
 
 -- what a key sounds, as the frame of kind 02 answers it
 abbrev pub soundAt : Desk → ℕ → Sound ℤ
@@ -68,6 +75,7 @@ unfoldable pub frameOutcome : Tables → Desk → Frame → Outcome
 frameOutcome t d (letter house c) = letterOutcome t d house c
 frameOutcome t d (key house k) = keyOutcome d house k
 frameOutcome t d (dump house) = dumpOutcome d house
+frameOutcome t d (move way house k) = moveOutcome t d way house k
 frameOutcome t d bad = badOutcome d
 
 -- ---- the whole answer

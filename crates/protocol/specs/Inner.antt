@@ -19,7 +19,7 @@ use Rattle.tuning.specs.State.{replied, validState}
 use Rattle.tuning.specs.declared.Reply.{Reply}
 use Rattle.tuning.specs.declared.State.{State}
 use Rattle.tables.specs.declared.Row.{Row as TableRow}
-use Rattle.tables.specs.declared.Row.the-variants.{Unused, Interval, Tone, System, Retuning, Logic}
+use Rattle.tables.specs.declared.Row.the-variants.{Unused, Interval, Tone, System, Retuning, Logic, Harmony}
 use Rattle.integers.specs.Parts.{up}
 use Rattle.tables.specs.declared.Numbers.{Numbers}
 use Rattle.tables.specs.Layout.{Tables, logicForm, rowCount, mostOrders, readAt, rowOf, rowAt, full}
@@ -28,7 +28,8 @@ use Rattle.validity.specs.Valid.{validTables}
 use Rattle.validity.specs.Inner.{ValidSystem, ValidRetuning}
 use Rattle.frames.specs.Frames.{lastKey}
 use Rattle.frames.specs.declared.Decoded.{Decoded}
-use Rattle.frames.specs.declared.Decoded.the-variants.{Bad, Letter, Key, Dump}
+use Rattle.frames.specs.declared.Decoded.the-variants.{Bad, Letter, Key, Dump, Move}
+use Rattle.keys.specs.Keys.{Place}
 use Rattle.hexadecimal.specs.Lines.{begunWith}
 use Rattle.answers.specs.Answer.{smallestBuffer}
 use Rattle.protocol.specs.declared.Active.{Active}
@@ -92,6 +93,7 @@ kindOf (Tone p) = kind.Nothing
 kindOf (System a P from to) = kind.System
 kindOf (Retuning r from to) = kind.Retuning
 kindOf (Logic c s from to) = kind.Logic
+kindOf (Harmony needed named) = kind.Nothing
 
 abbrev pub kindAt : List ℤ → ℕ → Kind
 kindAt rows k = kindOf (rowOf (readAt rows k))
@@ -166,6 +168,7 @@ OrdersThere t (Tone p) = Unit
 OrdersThere t (System a P from to) = Unit
 OrdersThere t (Retuning r from to) = Unit
 OrdersThere t (Logic c s from to) = OrderPart (t .triggers) (t .calls) from to
+OrdersThere t (Harmony needed named) = Unit
 
 -- the active logic's row can be read, and its orders
 abbrev pub ActiveReadable : Tables → Active → Type 0
@@ -180,6 +183,7 @@ CallableRow t (Tone p) = Unit
 CallableRow t (System a P from to) = ValidSystem t (a .0) (P .0) from to
 CallableRow t (Retuning r from to) = ValidRetuning t from to
 CallableRow t (Logic c s from to) = Unit
+CallableRow t (Harmony needed named) = Unit
 
 pub record Callable (t : Tables) (k : ℕ) : Type 0 where
   pub fields : FieldsFit (readAt (t .rows) k)
@@ -194,19 +198,21 @@ pub record Ready (t : Tables) (d : Desk) (buffer : List ℕ) : Type 0 where
   pub active : activeRight t (d .active) ≡ true
   pub room : smallestBuffer ≤ length buffer
 
--- the key that is asked for is one of the keyboard
+-- the key that is asked for, or moves, is one of the keyboard, and its house one of the two
 abbrev pub KeyInside : Decoded → Type 0
 KeyInside Bad = Unit
 KeyInside (Letter house letter) = Unit
 KeyInside (Key house key) = key .0 ≤ lastKey
 KeyInside (Dump house) = Unit
+KeyInside (Move way house key) = Place house (key .0)
 
--- what a frame is told that changes nothing; a letter nothing
+-- what a frame is told that changes nothing; a letter, or a key that moves, nothing
 abbrev pub toldOutcome : Desk → Decoded → Outcome
 toldOutcome d Bad = badOutcome d
 toldOutcome d (Letter house letter) = unchanged d done
 toldOutcome d (Key house key) = keyOutcome d house (key .0)
 toldOutcome d (Dump house) = dumpOutcome d house
+toldOutcome d (Move way house key) = unchanged d done
 
 -- its number is told, its line written, and the line's length told
 pub record Tells (o : Outcome) (r : Told) (before after : List ℕ) : Type 0 where

@@ -1,24 +1,36 @@
--- Calls, and what a trigger does to the desk. Document 01, "Frames" and "Numbers returned".
+-- Calls, and what a trigger or a key does to the desk. Document 01, "Frames" and "Numbers returned"; document 02, 5/13.
+use mathlib.Core.Bool.{cond}
 use mathlib.Core.List.{List, [], _∷_}
 use mathlib.Core.Option.{Option, some, none}
 use Prim.Native.Nat.{ℕ}
+use lib.Dec.{eqb}
 use Rattle.status.specs.Status.{done, letterUnbound}
-use Rattle.tuning.specs.Tuning.{Action}
+use Rattle.tuning.specs.Tuning.{Action, width}
 use Rattle.tuning.specs.Desk.{cents}
-use Rattle.tuning.specs.State.{replied}
+use Rattle.tuning.specs.State.{held, replied}
 use Rattle.tuning.specs.declared.State.{State}
+use Rattle.keys.specs.declared.HeldKeys.{HeldKeys}
+use Rattle.keys.specs.declared.Changed.{Changed}
+use Rattle.keys.specs.Keys.{wentDown, wentUp}
+use Rattle.harmonies.specs.Harmonies.{chordOf}
 use Rattle.tables.specs.Layout.{Tables}
+use Rattle.frames.specs.declared.Way.{Way}
+use Rattle.frames.specs.declared.Way.the-variants.{Down, Up}
 use Rattle.protocol.specs.declared.Active.{Active}
 use Rattle.protocol.specs.declared.Desk.{Desk}
-use Rattle.protocol.specs.Triggers.{Sought, itself, actionAt, struck}
+use Rattle.protocol.specs.declared.Chord.{Chord}
+use Rattle.protocol.specs.Triggers.{Sought, itself, matching, actionAt, struck}
 
 -- ---- the desk with one part changed: the only lines that a new part of the desk adds to
 
 abbrev pub withTuning : State → Desk → Desk
-withTuning s d = record { tuning = s; active = d .active }
+withTuning s d = record { tuning = s; active = d .active; keys = d .keys }
 
 abbrev pub withActive : Active → Desk → Desk
-withActive a d = record { tuning = d .tuning; active = a }
+withActive a d = record { tuning = d .tuning; active = a; keys = d .keys }
+
+abbrev pub withKeys : HeldKeys → Desk → Desk
+withKeys h d = record { tuning = d .tuning; active = d .active; keys = h }
 
 -- ---- calls
 
@@ -72,3 +84,25 @@ triggered t house d x unfound =
 -- "letter bound to nothing"
 abbrev pub letterStep : Tables → ℕ → Desk → ℕ → Step
 letterStep t house d letter = triggered t house d (itself letter) letterUnbound
+
+-- ---- a key that goes down or up
+
+-- "Held keys of both houses are projected by r into the present width."
+abbrev pub chordOn : Desk → Chord
+chordOn d = let s = held (d .tuning) in record { positions = chordOf (d .keys) (s .anchor) (width cents s); width = width cents s }
+
+-- "Each key frame is analysed once, after the key has changed. It answers as a letter does, with 0 where nothing matches"
+abbrev pub analysed : Tables → ℕ → Desk → Step
+analysed t house d = triggered t house d (matching (chordOn d)) done
+
+-- "a key goes down or up in that house": the held keys then, and 0; or "17 for a key already held in that house, 18 for one not held"
+abbrev pub keyMoved : Way → HeldKeys → ℕ → ℕ → Changed
+keyMoved Down h house k = wentDown h house k
+keyMoved Up h house k = wentUp h house k
+
+-- "each before any analysis"; "a call refused leaves the key as changed"
+abbrev pub ifMoved : Tables → ℕ → Desk → Changed → Step
+ifMoved t house d c = cond (eqb (c .number) done) (analysed t house (withKeys (c .held) d)) (record { desk = d; number = c .number; made = [] })
+
+unfoldable pub moveStep : Tables → Way → ℕ → Desk → ℕ → Step
+moveStep t way house d k = ifMoved t house d (keyMoved way (d .keys) house k)

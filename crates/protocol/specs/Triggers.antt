@@ -1,32 +1,42 @@
 -- What a trigger calls. Document 01, "Frames": "Letter: logics are tried in declared order; the first with this letter becomes active and its start
 -- is called, and the search ends. Else the active logic's orders in declared order, the first with it being called; a called logic becomes active,
--- its start called."
-use mathlib.Core.Bool.{Bool, true, false}
+-- its start called." Document 02, 5/13: "A harmony matches when exactly its numbers are held, starred ones apart"; "triggers are tried in declared order,
+-- logics first".
+use mathlib.Core.Bool.{Bool, true, false, _&&_}
 use mathlib.Core.List.{List, [], _∷_}
 use mathlib.Core.Option.{Option, some, none}
-use Prim.Native.Nat.{ℕ, zero, suc}
-use lib.Dec.{eqb}
+use Prim.Native.Nat.{ℕ, zero, suc, _-_}
+use lib.Dec.{eqb, leb}
 use lib.IntN.{ℤ}
 use lib.Seq.{slice}
 use Rattle.tuning.specs.Tuning.{Action, system}
 use Rattle.tuning.specs.Desk.{cents}
 use Rattle.tuning.specs.State.{meant}
 use Rattle.tables.specs.declared.Row.{Row}
-use Rattle.tables.specs.declared.Row.the-variants.{Unused, Interval, Tone, System, Retuning, Logic}
-use Rattle.tables.specs.Layout.{Tables, rowCount, rowOf, readAt, rowAt, AsLogic, no-logic, a-logic, asLogic, tonesFrom, changesFrom}
+use Rattle.tables.specs.declared.Row.the-variants.{Unused, Interval, Tone, System, Retuning, Logic, Harmony}
+use Rattle.tables.specs.Layout.{Tables, rowCount, rowOf, readAt, rowAt, AsLogic, no-logic, a-logic, asLogic, AsHarmony, no-harmony, a-harmony, asHarmony, harmonyBase, tonesFrom, changesFrom}
 use Rattle.tables.specs.Values as values
 use Rattle.tables.specs.Values.{listed}
+use Rattle.harmonies.specs.Harmonies.{matches}
 use Rattle.protocol.specs.declared.Active.{Active}
 use Rattle.protocol.specs.declared.Active.the-variants as active
+use Rattle.protocol.specs.declared.Chord.{Chord}
 
--- ---- what is looked for among triggers: a trigger itself
+-- ---- what is looked for among triggers: a trigger itself, or any harmony that matches the chord of the held keys
 
 pub data Sought : Type 0 where
   itself : ℕ → Sought
+  matching : Chord → Sought
+
+-- a row is a harmony that matches
+abbrev pub matchesAs : Chord → AsHarmony → Bool
+matchesAs x no-harmony = false
+matchesAs x (a-harmony needed named) = matches (x .positions) (x .width) (record { needed = needed; named = named })
 
 -- a trigger is one that is looked for
 abbrev pub answersTo : Tables → Sought → ℕ → Bool
 answersTo t (itself c) code = eqb code c
+answersTo t (matching x) code = leb harmonyBase code && matchesAs x (asHarmony (rowAt t (code - harmonyBase)))
 
 -- ---- what a row calls
 
@@ -38,6 +48,7 @@ actionBy t (Tone p) = none
 actionBy t (System a P from to) = some (system (values.system (a .0) (tonesFrom t from to) (P .0)))
 actionBy t (Retuning r from to) = some (meant r (listed (changesFrom t from to)))
 actionBy t (Logic c s from to) = none
+actionBy t (Harmony needed named) = none
 
 abbrev pub actionAt : Tables → ℕ → Option (Action cents)
 actionAt t k = actionBy t (rowAt t k)

@@ -1,8 +1,14 @@
 // The frame call: a frame, the tables, the desk and a lent buffer give an answer and the next desk.
+mod chords;
 mod triggers;
 
 use answers::SMALLEST_BUFFER;
+use cents::KeyNumber;
 use frames::Decoded;
+use frames::LETTER_KIND;
+use frames::Way;
+use keys::Changed;
+use keys::HeldKeys;
 use status::BAD_FRAME;
 use status::BUFFER_TOO_SMALL;
 use status::DONE;
@@ -24,12 +30,13 @@ ghost use lib.ListN.{length, getD};
 ghost use Rattle.tuning.specs.State.{heard, validState};
 ghost use Rattle.tables.specs.Layout.{tablesIn};
 ghost use Rattle.tables.specs.Values.{Slices};
+ghost use Rattle.keys.specs.Keys.{Place};
 ghost use Rattle.frames.specs.Frames.{frameOf};
 ghost use Rattle.answers.specs.Answer.{smallestBuffer};
 ghost use Rattle.protocol.specs.Triggers.{itself};
-ghost use Rattle.protocol.specs.Steps.{withTuning, withActive};
-ghost use Rattle.protocol.specs.Answers.{startDesk, letterOutcome, keyNumber, frameOutcome, activeRight, validDesk, answerOf, Gives};
-ghost use Rattle.protocol.specs.Inner.{found, decoded, triggerCodes, logicFor, IndexOf, Ready, KeyInside, toldOutcome, Tells};
+ghost use Rattle.protocol.specs.Steps.{withTuning, withActive, withKeys, keyMoved, moveStep};
+ghost use Rattle.protocol.specs.Answers.{startDesk, letterOutcome, moveOutcome, keyNumber, frameOutcome, activeRight, validDesk, answerOf, Gives};
+ghost use Rattle.protocol.specs.Inner.{found, decoded, triggerCodes, logicFor, IndexOf, Ready, KeyInside, stepLeaves, toldOutcome, Tells};
 
 // How many codes of triggers there are. A letter's code is its byte; from 256 on there is room for each declaration that a text can have.
 pub const TRIGGERS: usize = 1024;
@@ -44,6 +51,13 @@ pub enum Active {
 pub struct Desk {
     pub tuning: State,
     pub active: Active,
+    pub keys: HeldKeys,
+}
+
+// The held keys as triggers see them: the positions that they are projected to, and the width.
+pub struct Chord {
+    pub positions: u64,
+    pub width: u8,
 }
 
 // The desk after a frame, the number, and how many bytes of the buffer are the answer.
@@ -72,13 +86,14 @@ pub enum Callee {
 }
 
 impl Desk {
-    // The start's tuning, and no logic active.
+    // The start's tuning, no logic active, and no key held.
     pub fn start() -> Desk
         ensures { λ r. ⌜ r ≡ startDesk ⌝ }
     {
         Desk {
             tuning: State::start(),
             active: Active::Nothing,
+            keys: HeldKeys::none(),
         }
     }
 
@@ -87,7 +102,12 @@ impl Desk {
         ensures { λ r. ⌜ r ≡ withTuning tuning self ⌝ }
     {
         let active = self.active;
-        Desk { tuning, active }
+        let keys = self.keys;
+        Desk {
+            tuning,
+            active,
+            keys,
+        }
     }
 
     // Another active logic, or none; all else as it was.
@@ -95,7 +115,25 @@ impl Desk {
         ensures { λ r. ⌜ r ≡ withActive active self ⌝ }
     {
         let tuning = self.tuning;
-        Desk { tuning, active }
+        let keys = self.keys;
+        Desk {
+            tuning,
+            active,
+            keys,
+        }
+    }
+
+    // Other held keys, all else as it was.
+    fn with_keys(self, keys: HeldKeys) -> Desk
+        ensures { λ r. ⌜ r ≡ withKeys keys self ⌝ }
+    {
+        let tuning = self.tuning;
+        let active = self.active;
+        Desk {
+            tuning,
+            active,
+            keys,
+        }
     }
 }
 
@@ -178,7 +216,68 @@ pub fn answer_letter(
     let step = triggers::trigger(numbers, codes, desk, house, code, logic, LETTER_UNBOUND);
     let next = step.desk;
     let tuning = next.tuning;
-    let length = answers::answer_letter(buffer, house, letter, step.number, tuning);
+    let length = answers::answer_change(buffer, house, LETTER_KIND, letter, step.number, tuning);
+    Answered {
+        desk: next,
+        number: step.number,
+        length,
+    }
+}
+
+// A key goes down or up: the held keys then, and the number.
+fn move_key(held: HeldKeys, way: Way, house: u8, key: KeyNumber) -> Changed
+    requires { ⌜ Place house (key .0) ⌝ }
+    ensures { λ r. ⌜ r ≡ keyMoved way held house (key .0) ⌝ }
+{
+    match way {
+        Way::Down => held.press(house, key),
+        Way::Up => held.release(house, key),
+    }
+}
+
+// What a key that goes down or up does: its harmonies are looked for after it has changed.
+fn step_key(
+    numbers: &[i32],
+    codes: &[u16],
+    desk: Desk,
+    way: Way,
+    house: u8,
+    key: KeyNumber,
+) -> Stepped
+    requires { ⌜ validDesk (tablesIn (now numbers) (now codes)) desk ≡ true ⌝ }
+    requires { ⌜ Place house (key .0) ⌝ }
+    ensures { λ r. ⌜ r ≡ stepLeaves (moveStep (tablesIn (now (numbers .entry)) (now (codes .entry))) way house desk (key .0)) ⌝ }
+{
+    let held = desk.keys;
+    let moved = move_key(held, way, house, key);
+    let number = moved.number;
+    if number != DONE {
+        return Stepped { desk, number };
+    }
+    let keys = moved.held;
+    chords::analyse(numbers, codes, desk.with_keys(keys), house)
+}
+
+// A key that goes down or up, and the state after it answered.
+pub fn answer_move(
+    numbers: &[i32],
+    codes: &[u16],
+    desk: Desk,
+    way: Way,
+    house: u8,
+    key: KeyNumber,
+    buffer: &mut [u8],
+) -> Answered
+    requires { ⌜ Ready (tablesIn (now numbers) (now codes)) desk (now buffer) ⌝ }
+    requires { ⌜ Place house (key .0) ⌝ }
+    ensures gives { λ r. ⌜ Gives (moveOutcome (tablesIn (now (numbers .entry)) (now (codes .entry))) desk way house (key .0)) r (now (buffer .entry)) (now (buffer .exit)) ⌝ }
+    ensures stays { λ r. ⌜ validDesk (tablesIn (now (numbers .entry)) (now (codes .entry))) (r .desk) ≡ true ⌝ }
+{
+    let step = step_key(numbers, codes, desk, way, house, key);
+    let next = step.desk;
+    let tuning = next.tuning;
+    let kind = frames::kind_of(way);
+    let length = answers::answer_change(buffer, house, kind, key.0, step.number, tuning);
     Answered {
         desk: next,
         number: step.number,
@@ -195,7 +294,7 @@ fn key_number(tone: Tone) -> u8
     }
 }
 
-// The answer to a frame that is no letter, and so changes nothing. A letter is told nothing.
+// The answer to a frame that changes nothing. A letter, or a key that moves, is told nothing.
 pub fn tell(desk: Desk, frame: Decoded, buffer: &mut [u8]) -> Told
     requires { ⌜ (validState (desk .tuning) ≡ true) × (smallestBuffer ≤ length (now buffer)) × KeyInside frame ⌝ }
     ensures { λ r. ⌜ Tells (toldOutcome desk frame) r (now (buffer .entry)) (now (buffer .exit)) ⌝ }
@@ -223,6 +322,14 @@ pub fn tell(desk: Desk, frame: Decoded, buffer: &mut [u8]) -> Told
             number: DONE,
             length: answers::answer_dump(buffer, house, s),
         },
+        Decoded::Move {
+            way: _,
+            house: _,
+            key: _,
+        } => Told {
+            number: DONE,
+            length: 0,
+        },
     }
 }
 
@@ -241,6 +348,9 @@ fn take_frame(
     if let Decoded::Letter { house, letter } = taken {
         let logic = triggers::first_logic(numbers, codes, letter as u16);
         return answer_letter(numbers, codes, desk, house, letter, logic, buffer);
+    }
+    if let Decoded::Move { way, house, key } = taken {
+        return answer_move(numbers, codes, desk, way, house, key, buffer);
     }
     let told = tell(desk, taken, buffer);
     Answered {

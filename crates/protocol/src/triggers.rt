@@ -190,7 +190,7 @@ fn find_called(
     };
     let rows = &numbers[0..TONES_AT];
     let Row::Logic {
-        letter: _,
+        trigger: _,
         start: _,
         from,
         to,

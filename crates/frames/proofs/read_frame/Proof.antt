@@ -21,6 +21,12 @@ read-key-requires c κs = search needs
 read-dump-requires : tie.Need-read-dump-requires
 read-dump-requires c κs = search needs
 
+read-move-requires : tie.Need-read-move-requires
+read-move-requires c κs = search needs
+
+read-move-requires-2 : tie.Need-read-move-requires-2
+read-move-requires-2 c κs = search needs
+
 returns-2 : tie.Need-returns-2
 unfolding framed
 returns-2 c =
@@ -55,11 +61,33 @@ returns-5 : tie.Need-returns-5
 unfolding framed
 returns-5 c =
     simp (
+      ← c .before .before .before .is-between .ensures,
+      not-false (c .before .before .before .is-between .result) (c .before .before .if1 .left),
+      c .before .match .keys4,
+      ← c .read-move .ensures,
+    )
+
+returns-6 : tie.Need-returns-6
+unfolding framed
+returns-6 c =
+    simp (
+      ← c .before .before .before .is-between .ensures,
+      not-false (c .before .before .before .is-between .result) (c .before .before .if1 .left),
+      c .before .match .keys5,
+      ← c .read-move2 .ensures,
+    )
+
+returns-7 : tie.Need-returns-7
+unfolding framed
+returns-7 c =
+    simp (
       ← c .before .before .is-between .ensures,
       not-false (c .before .before .is-between .result) (c .before .if1 .left),
       ne-eqb _ _ (c .match .rest .1),
       ne-eqb _ _ (c .match .rest .0 .1),
       ne-eqb _ _ (c .match .rest .0 .0 .1),
+      ne-eqb _ _ (c .match .rest .0 .0 .0 .1),
+      ne-eqb _ _ (c .match .rest .0 .0 .0 .0 .1),
     )
 
 pub read-frame-spec : {M : Type 1} → statement M
@@ -71,7 +99,11 @@ read-frame-spec =
     read-letter-requires
     read-key-requires
     read-dump-requires
+    read-move-requires
+    read-move-requires-2
     returns-2
     returns-3
     returns-4
-    returns-5)
+    returns-5
+    returns-6
+    returns-7)

@@ -5,8 +5,8 @@ use Rattle.hexadecimal.specs.Numbers.{fourOf}
 use Rattle.hexadecimal.proofs.Written.{written-then}
 use Rattle.answers.proofs.Lines.{ended}
 use borrow.Author.Needs.{needs}
-use Rattle.answers.proofs.answer_letter.Statement.{statement}
-use Rattle.answers.proofs.answer_letter.Tie as tie
+use Rattle.answers.proofs.answer_change.Statement.{statement}
+use Rattle.answers.proofs.answer_change.Tie as tie
 
 put-head-requires : tie.Need-put-head-requires
 put-head-requires c κs = search needs
@@ -29,6 +29,6 @@ returns c =
     let all = written-then _ _ _ _ _ (head .put-head .ensures) (state .put-state .ensures) refl in
     ended _ _ _ all (end .end-line .ensures) refl (omega arith)
 
-pub answer-letter-spec : {M : Type 1} → statement M
-answer-letter-spec =
+pub answer-change-spec : {M : Type 1} → statement M
+answer-change-spec =
     tie.close (tie.spec put-head-requires put-state-requires end-line-requires same-length returns)
