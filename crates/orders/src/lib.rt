@@ -2,6 +2,9 @@
 ghost use mathlib.Core.Path.{_≡_};
 ghost use Rattle.orders.specs.Orders.{firstMatch};
 
+// How many records an array of them has: a part of a logic's orders.
+pub const PART: usize = 16;
+
 // The kind of a declaration that is called. Nothing where it can't be called.
 pub enum Kind {
     Nothing,
@@ -42,7 +45,7 @@ pub fn find_match(orders: &[Order], trigger: u16, first: usize, count: usize) ->
 }
 
 // The same of an array that is lent here, for callers with plain parameters.
-pub fn find_match_in(orders: [Order; 512], trigger: u16, first: usize, count: usize) -> Found
+pub fn find_match_in(orders: [Order; PART], trigger: u16, first: usize, count: usize) -> Found
     ensures { λ r. ⌜ r ≡ firstMatch trigger orders first count ⌝ }
 {
     find_match(&orders, trigger, first, count)

@@ -22,8 +22,11 @@ use Rattle.tables.proofs.Lists.{part-length}
 use Rattle.validity.specs.Valid.{validTables}
 use Rattle.validity.specs.Inner.{ValidSystem}
 use Rattle.validity.proofs.Laws.{ValidRow, row-valid, fields-fit}
+use Rattle.protocol.specs.declared.Callee.{Callee}
+use Rattle.protocol.specs.declared.Callee.the-variants.{Nothing, Row}
 use Rattle.protocol.specs.Triggers.{actionBy, actionAt}
-use Rattle.protocol.specs.Inner.{tuned, tunedBy, CallableRow, Callable}
+use Rattle.protocol.specs.Inner.{callsOf, tuned, tunedBy, CallableRow, Callable, CallableFound}
+use Rattle.protocol.proofs.Pressable.{Within}
 
 -- a valid state of sixty places
 abbrev pub Whole : State → Type 0
@@ -38,8 +41,12 @@ module _ (t : Tables) (v : validTables t ≡ true) where
   callable-row (Retuning r from to) h = h
   callable-row (Logic c s from to) h = tt
 
-  pub callable : (k : ℕ) → k < rowCount t → Callable t k
+  callable : (k : ℕ) → k < rowCount t → Callable t k
   callable k h = record { fields = fields-fit t v k h; row = callable-row (rowAt t k) (row-valid t v k h) }
+
+  pub callable-found : (f : Callee) → Within t (callsOf f) → CallableFound t f
+  callable-found Nothing h = tt
+  callable-found (Row k) h = callable k (h .0)
 
   -- ---- the state after a call
 

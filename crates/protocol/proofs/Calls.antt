@@ -20,8 +20,8 @@ use Rattle.protocol.specs.declared.Desk.{Desk}
 use Rattle.protocol.specs.declared.Stepped.{Stepped}
 use Rattle.protocol.specs.declared.triggers.Press.{Press}
 use Rattle.protocol.specs.Triggers.{Sought, actionBy, actionAt, Struck, struck}
-use Rattle.protocol.specs.Steps.{withTuning, withActive, byAction, callOn, deskFrom, madeFrom, lastNumber, triggered}
-use Rattle.protocol.specs.Inner.{callsOf, struckBy, tuned, tunedBy, callLeaves, stepLeaves, CallableRow, Callable}
+use Rattle.protocol.specs.Steps.{withTuning, withActive, byAction, callOn, deskFrom, madeFrom, triggered}
+use Rattle.protocol.specs.Inner.{callsOf, struckBy, tuned, tunedBy, foundTuned, callsLeave, stepLeaves, CallableRow, Callable}
 
 -- the variants of a row that call nothing
 abbrev pub uncalled : List ℕ
@@ -45,35 +45,24 @@ pub row-callable : {t : Tables} {k : ℕ} → Callable t k → {r q : TableRow} 
 row-callable {t} h e f = subst (CallableRow t) (sym e ∙ f) (h .row)
 
 -- a call changes the desk's tuning alone
-pub call-leaves : (t : Tables) (house : ℕ) (d : Desk) (k : ℕ) {q : Reply} → q ≡ tunedBy t (d .tuning) k
-    → _≡_ {A = Stepped} (record { desk = withTuning (q .state) d; number = q .number }) (callLeaves (callOn t house d k))
-unfolding callOn
-call-leaves t house d k e = ap leaves e ∙ go (actionAt t k)
+pub found-leaves : (t : Tables) (house : ℕ) (d : Desk) (f : Callee) (unfound : ℕ) {q : Reply} → q ≡ foundTuned t (d .tuning) f unfound
+    → _≡_ {A = Stepped} (record { desk = withTuning (q .state) d; number = q .number }) (callsLeave t house d (callsOf f) unfound)
+unfolding deskFrom madeFrom callOn
+found-leaves t house d f unfound e = ap leaves e ∙ go f
   where
     leaves : Reply → Stepped
     leaves r = record { desk = withTuning (r .state) d; number = r .number }
 
-    go : (o : Option (Action cents)) → leaves (tuned (d .tuning) o) ≡ callLeaves (byAction house d o)
-    go none = refl
-    go (some c) = refl
+    acted : (o : Option (Action cents)) → let r = byAction house d o in leaves (tuned (d .tuning) o) ≡ record { desk = r .desk; number = r .number }
+    acted none = refl
+    acted (some c) = refl
 
--- ---- a step, by what is found: at most one call
+    go : (f : Callee) → leaves (foundTuned t (d .tuning) f unfound) ≡ callsLeave t house d (callsOf f) unfound
+    go Nothing = refl
+    go (Row k) = acted (actionAt t k)
 
-module _ (t : Tables) (house : ℕ) (d : Desk) (x : Sought) (unfound : ℕ) (p : Press) (e : struckBy p ≡ struck t (d .active) x) where
-  abbrev leaves : Struck → Stepped
-  leaves z =
-      let e = withActive (z .active) d in
-      record { desk = deskFrom t house e (z .calls); number = lastNumber unfound (madeFrom t house e (z .calls)) }
-
-  by-call : {f : Callee} → p .called ≡ f → leaves (record { active = p .active; calls = callsOf f }) ≡ stepLeaves (triggered t house d x unfound)
-  unfolding triggered
-  by-call h = ap (λ (f : Callee). leaves (record { active = p .active; calls = callsOf f })) (sym h) ∙ ap leaves e
-
-  pub step-none : p .called ≡ Nothing → _≡_ {A = Stepped} (record { desk = withActive (p .active) d; number = unfound }) (stepLeaves (triggered t house d x unfound))
-  unfolding deskFrom madeFrom
-  step-none h = by-call h
-
-  pub step-one : {k : ℕ} {r : Stepped} → p .called ≡ Row k → r ≡ callLeaves (callOn t house (withActive (p .active) d) k)
-      → r ≡ stepLeaves (triggered t house d x unfound)
-  unfolding deskFrom madeFrom
-  step-one h f = f ∙ by-call h
+-- a step, by what is found
+pub step-leaves : (t : Tables) (house : ℕ) (d : Desk) (x : Sought) (unfound : ℕ) (p : Press) → struckBy p ≡ struck t (d .active) x
+    → callsLeave t house (withActive (p .active) d) (callsOf (p .called)) unfound ≡ stepLeaves (triggered t house d x unfound)
+unfolding triggered
+step-leaves t house d x unfound p e = ap (λ (z : Struck). callsLeave t house (withActive (z .active) d) (z .calls) unfound) e

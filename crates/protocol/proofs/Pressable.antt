@@ -40,7 +40,6 @@ module _ (t : Tables) (v : validTables t ≡ true) where
       let w = valid-of t v in
       record {
         order = h .order;
-        most = omega (arith, h .within, w .room .orders);
         triggers = omega (arith, h .within, w .room .orders, w .sizes .triggers);
         calls = omega (arith, h .within, w .room .orders, w .sizes .calls);
       }

@@ -1,9 +1,9 @@
 -- Orders as records: how they are gathered, and what the search among them finds. Assumes nothing.
 use mathlib.Core.Path.{_≡_, refl, sym, ap, _∙_}
-use mathlib.Core.Bool.{Bool, true, false}
+use mathlib.Core.Bool.{Bool, true, false, cond}
 use mathlib.Core.List.{List, [], _∷_, _++_, zipWith}
-use mathlib.Core.Option.{some}
-use Prim.Native.Nat.{ℕ, suc, _+_, _-_, _*_, _≤_, _<_}
+use mathlib.Core.Option.{Option, some, none}
+use Prim.Native.Nat.{ℕ, zero, suc, _+_, _-_, _*_, _≤_, _<_}
 use native.Mathlib.Numerals.{add-one}
 use native.Mathlib.Omega.{arith}
 use types.Run.{OneOf, miss}
@@ -20,13 +20,13 @@ use Rattle.orders.specs.declared.Found.{Found as Match}
 use Rattle.orders.specs.declared.Found.the-variants as match
 use Rattle.orders.specs.Orders.{noOrder, orderAt, matchFrom, firstMatch}
 use Rattle.orders.proofs.Laws.{match-within}
-use Rattle.tables.specs.Layout.{orderWidth, triggersIn, callsIn, mostOrders, full}
+use Rattle.tables.specs.Layout.{orderWidth, triggersIn, callsIn, full}
 use Rattle.tables.proofs.Columns.{letter-at, call-at, columns-length}
 use Rattle.tables.proofs.Lists.{full-length, full-next}
 use Rattle.protocol.specs.declared.triggers.Called.{Called}
 use Rattle.protocol.specs.declared.triggers.Called.the-variants as called
 use Rattle.protocol.specs.Triggers.{firstOrder}
-use Rattle.protocol.specs.Inner.{isTrigger, kindAt, isLogicKind, byKind, calledIn, recordOf, recordsOf, gathered, OrderPart}
+use Rattle.protocol.specs.Inner.{isTrigger, kindAt, isLogicKind, byKind, calledIn, recordOf, recordsOf, partSize, gathered, OrderPart}
 
 -- ---- gathering: where the loop begins, one turn of it, and its end
 
@@ -43,9 +43,10 @@ records-most rows (c ∷ cs) (k ∷ ks) = let h = records-most rows cs ks in ome
 abbrev rest : List ℤ → List ℕ → List ℕ → ℕ → ℕ → List Order
 rest rows triggers calls to i = recordsOf rows (slice i to triggers) (slice i to calls)
 
-rest-fits : (rows : List ℤ) {triggers calls : List ℕ} {from to : ℕ} → OrderPart triggers calls from to → length (rest rows triggers calls to from) ≤ mostOrders
-rest-fits rows {triggers} {calls} {from} {to} p =
-    omega (arith, records-most rows (slice from to triggers) (slice from to calls), length-slice from to triggers (p .triggers), p .most)
+rest-fits : (rows : List ℤ) {triggers calls : List ℕ} {from to : ℕ} → OrderPart triggers calls from to → to ≤ from + partSize
+    → length (rest rows triggers calls to from) ≤ partSize
+rest-fits rows {triggers} {calls} {from} {to} p h =
+    omega (arith, records-most rows (slice from to triggers) (slice from to calls), length-slice from to triggers (p .triggers))
 
 -- what the loop keeps: with the records that are left stored, the array is the one that is asked for
 pub record Gathering (rows : List ℤ) (triggers calls : List ℕ) (from to : ℕ) (all : List Order) (i : ℕ) : Type 0 where
@@ -53,10 +54,10 @@ pub record Gathering (rows : List ℤ) (triggers calls : List ℕ) (from to : �
   pub left : sets all (i - from) (rest rows triggers calls to i) ≡ gathered rows triggers calls from to
 
 module _ {rows : List ℤ} {triggers calls : List ℕ} {from to : ℕ} (p : OrderPart triggers calls from to) where
-  pub gathering-starts : Gathering rows triggers calls from to (full noOrder mostOrders []) from
-  gathering-starts =
+  pub gathering-starts : to ≤ from + partSize → Gathering rows triggers calls from to (full noOrder partSize []) from
+  gathering-starts h =
       let n : from - from ≡ 0 = omega arith in
-      let e = full-next noOrder mostOrders [] (rest rows triggers calls to from) 0 refl (omega (arith, rest-fits rows p)) in
+      let e = full-next noOrder partSize [] (rest rows triggers calls to from) 0 refl (omega (arith, rest-fits rows p h)) in
       record { least = omega arith; left = rw n e }
 
   module _ {all : List Order} {i : ℕ} (g : Gathering rows triggers calls from to all i) where
@@ -124,7 +125,7 @@ module _ (rows : List ℤ) (trigger : ℕ) where
 
   -- the first record with the trigger calls what the first order with it calls
   called-first : (cs ks : List ℕ) → length cs ≡ length ks
-      → let xs = full noOrder mostOrders (recordsOf rows cs ks) in
+      → let xs = full noOrder partSize (recordsOf rows cs ks) in
       calledAt xs (firstMatch trigger xs 0 (length cs)) ≡ calledIn rows (firstOrder (isTrigger trigger) cs ks)
   unfolding firstMatch
   called-first cs ks e = called-from [] 0 cs ks _ refl e
@@ -140,7 +141,90 @@ module _ (rows : List ℤ) (trigger : ℕ) where
         ∙ ap (λ (k : ℕ). calledAt xs (firstMatch trigger xs 0 k)) (sym n)
         ∙ called-first (slice from to triggers) (slice from to calls) (n ∙ sym (length-slice from to calls (p .calls)))
 
-    pub found-gathered : {i : ℕ} → m ≡ match.At i → i < mostOrders
-    found-gathered h =
-        let n = full-length noOrder mostOrders (rest rows triggers calls to from) (rest-fits rows p) in
+    pub found-gathered : to ≤ from + partSize → {i : ℕ} → m ≡ match.At i → i < partSize
+    found-gathered l h =
+        let n = full-length noOrder partSize (rest rows triggers calls to from) (rest-fits rows p l) in
         omega (arith, match-within trigger all 0 (to - from) (f ∙ h), ap length e, n)
+
+-- ---- part by part
+
+slice-split : (a b c : ℕ) (l : List ℕ) → a ≤ b → b ≤ c → slice a c l ≡ slice a b l ++ slice b c l
+slice-split zero zero c l h k = refl
+slice-split zero (suc b) zero l h k = let z : ⊥ = omega arith in absurd z
+slice-split zero (suc b) (suc c) [] h k = refl
+slice-split zero (suc b) (suc c) (x ∷ l) h k = ap (λ (r : List ℕ). x ∷ r) (slice-split zero b c l (omega arith) (omega arith))
+slice-split (suc a) zero c l h k = let z : ⊥ = omega arith in absurd z
+slice-split (suc a) (suc b) zero l h k = let z : ⊥ = omega arith in absurd z
+slice-split (suc a) (suc b) (suc c) [] h k = refl
+slice-split (suc a) (suc b) (suc c) (x ∷ l) h k = slice-split a b c l (omega arith) (omega arith)
+
+-- the first of a list's orders, else the second's
+abbrev orElse : Option ℕ → Option ℕ → Option ℕ
+orElse none o = o
+orElse (some k) o = some k
+
+first-append : (p : ℕ → Bool) (cs ks ds ls : List ℕ) → length cs ≡ length ks
+    → firstOrder p (cs ++ ds) (ks ++ ls) ≡ orElse (firstOrder p cs ks) (firstOrder p ds ls)
+unfolding firstOrder
+first-append p [] [] ds ls e = refl
+first-append p [] (k ∷ ks) ds ls e = let z : ⊥ = omega arith in absurd z
+first-append p (c ∷ cs) [] ds ls e = let z : ⊥ = omega arith in absurd z
+first-append p (c ∷ cs) (k ∷ ks) ds ls e = go (p c) (first-append p cs ks ds ls (omega arith))
+  where
+    go : (b : Bool) → firstOrder p (cs ++ ds) (ks ++ ls) ≡ orElse (firstOrder p cs ks) (firstOrder p ds ls)
+        → elim b [ true ↦ some k | false ↦ firstOrder p (cs ++ ds) (ks ++ ls) ]
+        ≡ orElse (elim b [ true ↦ some k | false ↦ firstOrder p cs ks ]) (firstOrder p ds ls)
+    go true later = refl
+    go false later = later
+
+-- what is found from one place to another
+abbrev pub orderWithin : (ℕ → Bool) → List ℕ → List ℕ → ℕ → ℕ → Option ℕ
+orderWithin p triggers calls from to = firstOrder p (slice from to triggers) (slice from to calls)
+
+-- what the loop keeps: from the i-th order on the same is found as from the first on
+pub record Searching (p : ℕ → Bool) (triggers calls : List ℕ) (from to i : ℕ) : Type 0 where
+  pub part : OrderPart triggers calls i to
+  pub same : orderWithin p triggers calls i to ≡ orderWithin p triggers calls from to
+
+module _ (rows : List ℤ) {p : ℕ → Bool} {triggers calls : List ℕ} {from to i : ℕ} (s : Searching p triggers calls from to i) where
+  pub searching-ends : to ≤ i → called.Nothing ≡ calledIn rows (orderWithin p triggers calls from to)
+  unfolding firstOrder
+  searching-ends h =
+      ap (λ (l : List ℕ). calledIn rows (firstOrder p l (slice i to calls))) (sym (past triggers i to h)) ∙ ap (calledIn rows) (s .same)
+
+  -- the part that ends here
+  module _ {end : ℕ} (l : i ≤ end) (m : end ≤ to) where
+    abbrev here : Option ℕ
+    here = orderWithin p triggers calls i end
+
+    abbrev behind : Option ℕ
+    behind = orderWithin p triggers calls end to
+
+    parted : orderWithin p triggers calls i to ≡ orElse here behind
+    parted =
+        let size = length-slice i end triggers (omega (arith, s .part .triggers)) ∙ sym (length-slice i end calls (omega (arith, s .part .calls))) in
+        rw (slice-split i end to triggers l m, slice-split i end to calls l m) (first-append p _ _ _ _ size)
+
+    -- nothing is found in it
+    pub searching-on : called.Nothing ≡ calledIn rows here → Searching p triggers calls from to end
+    searching-on h =
+        record {
+          part = record { order = m; triggers = s .part .triggers; calls = s .part .calls };
+          same = go here h ∙ sym parted ∙ s .same;
+        }
+      where
+        other : (k : ℕ) (b : Bool) → called.Nothing ≡ cond b (called.Logic k) (called.Other k) → ⊥
+        other k true e = let z : _≡_ {A = ℕ} 0 1 = cc in omega arith
+        other k false e = let z : _≡_ {A = ℕ} 0 1 = cc in omega arith
+
+        go : (o : Option ℕ) → called.Nothing ≡ calledIn rows o → behind ≡ orElse o behind
+        go none e = refl
+        go (some k) e = absurd (other k (isLogicKind (kindAt rows k)) e)
+
+    -- something is found in it
+    pub searching-found : (f : Called) → (f ≡ called.Nothing → ⊥) → f ≡ calledIn rows here → f ≡ calledIn rows (orderWithin p triggers calls from to)
+    searching-found f n h = go here h ∙ ap (calledIn rows) (sym parted ∙ s .same)
+      where
+        go : (o : Option ℕ) → f ≡ calledIn rows o → f ≡ calledIn rows (orElse o behind)
+        go none e = absurd (n e)
+        go (some k) e = e

@@ -22,7 +22,7 @@ use Rattle.tables.specs.declared.Row.{Row as TableRow}
 use Rattle.tables.specs.declared.Row.the-variants.{Unused, Interval, Tone, System, Retuning, Logic, Harmony}
 use Rattle.integers.specs.Parts.{up}
 use Rattle.tables.specs.declared.Numbers.{Numbers}
-use Rattle.tables.specs.Layout.{Tables, logicForm, rowCount, mostOrders, readAt, rowOf, rowAt, full}
+use Rattle.tables.specs.Layout.{Tables, logicForm, rowCount, readAt, rowOf, rowAt, full}
 use Rattle.tables.specs.Values.{FieldsFit}
 use Rattle.validity.specs.Valid.{validTables}
 use Rattle.validity.specs.Inner.{ValidSystem, ValidRetuning}
@@ -43,7 +43,7 @@ use Rattle.protocol.specs.declared.triggers.Press.{Press}
 use Rattle.protocol.specs.declared.triggers.Called.{Called}
 use Rattle.protocol.specs.declared.triggers.Called.the-variants as called
 use Rattle.protocol.specs.Triggers.{Sought, answersTo, actionAt, Struck, firstLogic, elseOrder}
-use Rattle.protocol.specs.Steps.{Replied, Step}
+use Rattle.protocol.specs.Steps.{deskFrom, madeFrom, lastNumber, Step}
 use Rattle.protocol.specs.Answers.{activeRight, Outcome, unchanged, keyOutcome, dumpOutcome, badOutcome}
 
 -- ---- the code's values
@@ -123,9 +123,13 @@ recordOf rows trigger k = record { trigger = trigger; kind = kindAt rows k; numb
 abbrev pub recordsOf : List ℤ → List ℕ → List ℕ → List Order
 recordsOf rows triggers calls = zipWith (recordOf rows) triggers calls
 
+-- how many are gathered together
+abbrev pub partSize : ℕ
+partSize = 16
+
 -- those of the orders from one place to another, and zeros after them
 abbrev pub gathered : List ℤ → List ℕ → List ℕ → ℕ → ℕ → List Order
-gathered rows triggers calls from to = full noOrder mostOrders (recordsOf rows (slice from to triggers) (slice from to calls))
+gathered rows triggers calls from to = full noOrder partSize (recordsOf rows (slice from to triggers) (slice from to calls))
 
 -- the declarations that are called: at most one
 abbrev pub callsOf : Callee → List ℕ
@@ -144,19 +148,23 @@ tuned s (some c) = replied s c
 abbrev pub tunedBy : Tables → State → ℕ → Reply
 tunedBy t s k = tuned s (actionAt t k)
 
--- what a call and a step leave, as the code's struct has it
-abbrev pub callLeaves : Replied → Stepped
-callLeaves r = record { desk = r .desk; number = r .number }
+-- the same of what was found
+abbrev pub foundTuned : Tables → State → Callee → ℕ → Reply
+foundTuned t s Nothing unfound = record { state = s; number = unfound }
+foundTuned t s (Row k) unfound = tunedBy t s k
+
+-- what calls and a step leave, as the code's struct has it
+abbrev pub callsLeave : Tables → ℕ → Desk → List ℕ → ℕ → Stepped
+callsLeave t house d ks unfound = record { desk = deskFrom t house d ks; number = lastNumber unfound (madeFrom t house d ks) }
 
 abbrev pub stepLeaves : Step → Stepped
 stepLeaves s = record { desk = s .desk; number = s .number }
 
 -- ---- what is required of the tables
 
--- from one place to another of the orders, as many as there is room for
+-- from one place to another of the orders
 pub record OrderPart (cs ks : List ℕ) (from to : ℕ) : Type 0 where
   pub order : from ≤ to
-  pub most : to ≤ from + mostOrders
   pub triggers : to ≤ length cs
   pub calls : to ≤ length ks
 
@@ -188,6 +196,10 @@ CallableRow t (Harmony needed named) = Unit
 pub record Callable (t : Tables) (k : ℕ) : Type 0 where
   pub fields : FieldsFit (readAt (t .rows) k)
   pub row : CallableRow t (rowAt t k)
+
+abbrev pub CallableFound : Tables → Callee → Type 0
+CallableFound t Nothing = Unit
+CallableFound t (Row k) = Callable t k
 
 -- ---- of frames
 

@@ -6,6 +6,7 @@ use crate::Stepped;
 use crate::TRIGGERS;
 use orders::Kind;
 use orders::Order;
+use orders::PART;
 use status::DONE;
 use tables::ANCHOR_FORM;
 use tables::CHANGES_AT;
@@ -16,7 +17,6 @@ use tables::LOGIC_FORM;
 use tables::NUMBERS;
 use tables::Numbers;
 use tables::ORDER_WIDTH;
-use tables::ORDERS;
 use tables::ORDERS_AT;
 use tables::PERIOD_FORM;
 use tables::Row;
@@ -31,14 +31,15 @@ use tuning::State;
 ghost use mathlib.Core.Path.{_≡_};
 ghost use mathlib.Core.Bool.{true};
 ghost use mathlib.Core.List.{[], _∷_};
+ghost use Prim.Native.Nat.{_+_, _≤_, min};
 ghost use lib.Seq.{slice};
 ghost use Rattle.tuning.specs.State.{validState};
 ghost use Rattle.tables.specs.Layout.{tablesIn, triggersIn, callsIn, rowOf, asLogic};
 ghost use Rattle.tables.specs.Values.{Slices};
 ghost use Rattle.protocol.specs.Triggers.{itself, passes, firstLogic, firstOrder, startCalls, struck};
-ghost use Rattle.protocol.specs.Steps.{callOn, triggered};
+ghost use Rattle.protocol.specs.Steps.{triggered};
 ghost use Rattle.protocol.specs.Answers.{validDesk};
-ghost use Rattle.protocol.specs.Inner.{found, isTrigger, logicFor, logicTrigger, Indexed, kindAt, calledIn, calledBy, gathered, struckBy, tunedBy, callLeaves, stepLeaves, OrderPart, ActiveReadable, Callable};
+ghost use Rattle.protocol.specs.Inner.{found, isTrigger, logicFor, logicTrigger, Indexed, kindAt, calledIn, calledBy, partSize, gathered, callsOf, struckBy, tunedBy, foundTuned, callsLeave, stepLeaves, OrderPart, ActiveReadable, Callable, CallableFound};
 
 // What is no trigger.
 const NO_TRIGGER: u32 = 1024;
@@ -127,16 +128,17 @@ fn kind_of(rows: &[i32], k: usize) -> Kind
     }
 }
 
-// The orders from `from` to `to` as records, at the start of the array. The rest of it is zeros.
-fn gather_orders(rows: &[i32], orders: &[u16], from: usize, to: usize) -> [Order; ORDERS]
+// The orders from `from` to `to`, no more than a part, as records at the start of the array. The rest of it is zeros.
+fn gather_orders(rows: &[i32], orders: &[u16], from: usize, to: usize) -> [Order; PART]
     requires { ⌜ OrderPart (triggersIn (now orders)) (callsIn (now orders)) from to ⌝ }
+    requires { ⌜ to ≤ from + partSize ⌝ }
     ensures { λ r. ⌜ r ≡ gathered (now (rows .entry)) (triggersIn (now (orders .entry))) (callsIn (now (orders .entry))) from to ⌝ }
 {
     let mut all = [Order {
         trigger: 0,
         kind: Kind::Nothing,
         number: 0,
-    }; ORDERS];
+    }; PART];
     for i in from..to {
         let at = ORDER_WIDTH * i;
         let trigger = orders[at];
@@ -151,9 +153,10 @@ fn gather_orders(rows: &[i32], orders: &[u16], from: usize, to: usize) -> [Order
     all
 }
 
-// What the first order with this trigger calls, of those from `from` to `to`.
-fn find_order(rows: &[i32], orders: &[u16], from: usize, to: usize, trigger: u16) -> Called
+// What the first order with this trigger calls, of those from `from` to `to`, no more than a part.
+fn find_in_part(rows: &[i32], orders: &[u16], from: usize, to: usize, trigger: u16) -> Called
     requires { ⌜ OrderPart (triggersIn (now orders)) (callsIn (now orders)) from to ⌝ }
+    requires { ⌜ to ≤ from + partSize ⌝ }
     ensures { λ r. ⌜ r ≡ calledIn (now (rows .entry)) (firstOrder (isTrigger trigger) (slice from to (triggersIn (now (orders .entry)))) (slice from to (callsIn (now (orders .entry))))) ⌝ }
 {
     let all = gather_orders(rows, orders, from, to);
@@ -167,6 +170,34 @@ fn find_order(rows: &[i32], orders: &[u16], from: usize, to: usize, trigger: u16
         return Called::Logic(number);
     }
     Called::Other(number)
+}
+
+// Where the part of the orders that begins at `from` ends.
+fn part_end(from: usize, to: usize) -> usize
+    requires { ⌜ from ≤ to ⌝ }
+    ensures { λ r. ⌜ r ≡ min (from + partSize) to ⌝ }
+{
+    if to - from < PART {
+        return to;
+    }
+    from + PART
+}
+
+// What the first order with this trigger calls, of those from `from` to `to`, part by part.
+fn find_order(rows: &[i32], orders: &[u16], from: usize, to: usize, trigger: u16) -> Called
+    requires { ⌜ OrderPart (triggersIn (now orders)) (callsIn (now orders)) from to ⌝ }
+    ensures { λ r. ⌜ r ≡ calledIn (now (rows .entry)) (firstOrder (isTrigger trigger) (slice from to (triggersIn (now (orders .entry)))) (slice from to (callsIn (now (orders .entry))))) ⌝ }
+{
+    let mut i = from;
+    while i < to {
+        let end = part_end(i, to);
+        let called = find_in_part(rows, orders, i, end, trigger);
+        let Called::Nothing = called else {
+            return called;
+        };
+        i = end;
+    }
+    Called::Nothing
 }
 
 // `logic`, the first with this trigger, else what the active logic's first order with it calls.
@@ -273,15 +304,38 @@ fn call_declaration(numbers: &[i32], codes: &[u16], s: State, k: u32) -> Reply
     }
 }
 
-// The call of declaration k by a frame of this house.
-fn make_call(numbers: &[i32], codes: &[u16], desk: Desk, house: u8, k: u32) -> Stepped
+// The same of what was found; where that is nothing, the number is `unfound`.
+fn call_found(numbers: &[i32], codes: &[u16], s: State, called: Callee, unfound: u8) -> Reply
+    requires { ⌜ Slices (now numbers) (now codes) ⌝ }
+    requires { ⌜ validState s ≡ true ⌝ }
+    requires { ⌜ CallableFound (tablesIn (now numbers) (now codes)) called ⌝ }
+    ensures { λ r. ⌜ r ≡ foundTuned (tablesIn (now (numbers .entry)) (now (codes .entry))) s called unfound ⌝ }
+{
+    let Callee::Row(k) = called else {
+        return Reply {
+            state: s,
+            number: unfound,
+        };
+    };
+    call_declaration(numbers, codes, s, k)
+}
+
+// The call of what was found, by a frame of this house. (With one way out the compiler keeps the desk in its place.)
+fn make_call(
+    numbers: &[i32],
+    codes: &[u16],
+    desk: Desk,
+    house: u8,
+    called: Callee,
+    unfound: u8,
+) -> Stepped
     requires { ⌜ Slices (now numbers) (now codes) ⌝ }
     requires { ⌜ validState (desk .tuning) ≡ true ⌝ }
-    requires { ⌜ Callable (tablesIn (now numbers) (now codes)) k ⌝ }
-    ensures { λ r. ⌜ r ≡ callLeaves (callOn (tablesIn (now (numbers .entry)) (now (codes .entry))) house desk k) ⌝ }
+    requires { ⌜ CallableFound (tablesIn (now numbers) (now codes)) called ⌝ }
+    ensures { λ r. ⌜ r ≡ callsLeave (tablesIn (now (numbers .entry)) (now (codes .entry))) house desk (callsOf called) unfound ⌝ }
 {
     let s = desk.tuning;
-    let reply = call_declaration(numbers, codes, s, k);
+    let reply = call_found(numbers, codes, s, called, unfound);
     let tuning = reply.state;
     Stepped {
         desk: desk.with_tuning(tuning),
@@ -307,12 +361,12 @@ pub fn trigger(
     let found = find_press(numbers, codes, before, trigger, logic);
     let active = found.active;
     let called = found.called;
-    let next = desk.with_active(active);
-    let Callee::Row(k) = called else {
-        return Stepped {
-            desk: next,
-            number: unfound,
-        };
-    };
-    make_call(numbers, codes, next, house, k)
+    make_call(
+        numbers,
+        codes,
+        desk.with_active(active),
+        house,
+        called,
+        unfound,
+    )
 }

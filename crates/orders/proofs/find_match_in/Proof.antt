@@ -70,7 +70,7 @@ F = S.the-row
 
 -- how many records there are
 abbrev N : ℕ
-N = 512
+N = 16
 
 abbrev Table : RattleType
 Table = Array R N

@@ -15,25 +15,25 @@ abbrev μ-loop : tie.MeasureT-loop
 μ-loop rows orders from to all₀ i₀ all i = to - i
 
 loop-holds : tie.Need-loop-holds Inv-loop μ-loop
-loop-holds c = gathering-starts (c .before .pre)
+loop-holds c = gathering-starts (c .before .pre .0) (c .before .pre .1)
 
 mul-at : tie.Need-mul-at Inv-loop μ-loop
-mul-at c = omega (arith, codes-there (c .before .before .before .args .orders .now) (c .before .before .before .pre))
+mul-at c = omega (arith, codes-there (c .before .before .before .args .orders .now) (c .before .before .before .pre .0))
 
 mul-trigger : tie.Need-mul-trigger Inv-loop μ-loop
-mul-trigger c = omega (arith, codes-there (c .before .before .before .args .orders .now) (c .before .before .before .pre))
+mul-trigger c = omega (arith, codes-there (c .before .before .before .args .orders .now) (c .before .before .before .pre .0))
 
 shared-slice-read-trigger : tie.Need-shared-slice-read-trigger Inv-loop μ-loop
-shared-slice-read-trigger c = omega (arith, codes-there (c .before .before .before .before .args .orders .now) (c .before .before .before .before .pre))
+shared-slice-read-trigger c = omega (arith, codes-there (c .before .before .before .before .args .orders .now) (c .before .before .before .before .pre .0))
 
 add-number : tie.Need-add-number Inv-loop μ-loop
-add-number c = omega (arith, codes-there (c .before .before .before .before .args .orders .now) (c .before .before .before .before .pre))
+add-number c = omega (arith, codes-there (c .before .before .before .before .args .orders .now) (c .before .before .before .before .pre .0))
 
 mul-number : tie.Need-mul-number Inv-loop μ-loop
-mul-number c = omega (arith, codes-there (c .before .before .before .before .args .orders .now) (c .before .before .before .before .pre))
+mul-number c = omega (arith, codes-there (c .before .before .before .before .args .orders .now) (c .before .before .before .before .pre .0))
 
 shared-slice-read-number : tie.Need-shared-slice-read-number Inv-loop μ-loop
-shared-slice-read-number c = omega (arith, codes-there (c .before .before .before .before .before .args .orders .now) (c .before .before .before .before .before .pre))
+shared-slice-read-number c = omega (arith, codes-there (c .before .before .before .before .before .args .orders .now) (c .before .before .before .before .before .pre .0))
 
 cast-kind-of : tie.Need-cast-kind-of Inv-loop μ-loop
 cast-kind-of c = omega (arith, c .shared-slice-known3 .given (orderWidth * c .before .before .before .loop .i + 1))
@@ -48,7 +48,7 @@ mul-all : tie.Need-mul-all Inv-loop μ-loop
 mul-all c = search needs
 
 array-set-from-all : tie.Need-array-set-from-all Inv-loop μ-loop
-array-set-from-all c = omega (arith, c .before .before .before .before .before .before .pre .most)
+array-set-from-all c = omega (arith, c .before .before .before .before .before .before .pre .1)
 
 add-i : tie.Need-add-i Inv-loop μ-loop
 add-i c = search needs
@@ -57,10 +57,10 @@ loop-less : tie.Need-loop-less Inv-loop μ-loop
 loop-less c = search needs
 
 loop-again : tie.Need-loop-again Inv-loop μ-loop
-loop-again c = gathering-order (c .before .before .before .before .before .before .args .orders .now) (c .before .before .before .before .before .before .pre) (c .before .before .before .before .loop .inv) (c .before .before .before .loop-test .taken) (c .kind-of .ensures)
+loop-again c = gathering-order (c .before .before .before .before .before .before .args .orders .now) (c .before .before .before .before .before .before .pre .0) (c .before .before .before .before .loop .inv) (c .before .before .before .loop-test .taken) (c .kind-of .ensures)
 
 returns : tie.Need-returns Inv-loop μ-loop
-returns c = gathering-ends (c .before .before .before .pre) (c .before .loop .inv) (c .loop-test .left)
+returns c = gathering-ends (c .before .before .before .pre .0) (c .before .loop .inv) (c .loop-test .left)
 
 pub gather-orders-spec : {M : Type 1} → statement M
 gather-orders-spec =

@@ -7,14 +7,12 @@ use Rattle.tuning.proofs.Lists.{length-mapped}
 use Rattle.tables.specs.Layout.{Tables, tablesIn}
 use Rattle.tables.specs.Values.{Slices}
 use Rattle.validity.proofs.Laws.{slices-valid}
-use Rattle.protocol.specs.declared.Callee.{Callee}
 use Rattle.protocol.specs.declared.Desk.{Desk}
 use Rattle.protocol.specs.Triggers.{itself, Struck}
-use Rattle.protocol.specs.Steps.{callOn}
-use Rattle.protocol.specs.Inner.{callsOf, callLeaves}
+use Rattle.protocol.specs.Inner.{callsOf, callsLeave}
 use Rattle.protocol.proofs.Pressable.{Within, active-readable, struck-within}
-use Rattle.protocol.proofs.Callable.{callable}
-use Rattle.protocol.proofs.Calls.{step-none, step-one}
+use Rattle.protocol.proofs.Callable.{callable-found}
+use Rattle.protocol.proofs.Calls.{step-leaves}
 use Rattle.protocol.proofs.Ways.{tables-right}
 use Rattle.protocol.proofs.Stays.{Right, valid-right}
 use Rattle.protocol.proofs.triggers.trigger.Statement.{statement}
@@ -42,20 +40,6 @@ find-press-requires c κs =
 with-active-requires : tie.Need-with-active-requires
 with-active-requires c κs = search needs
 
-enum-known-called : tie.Need-enum-known-called
-enum-known-called c = search needs
-
-enum-told : tie.Need-enum-told
-enum-told c = search needs
-
-returns : tie.Need-returns
-returns c =
-    let p = c .before .before .before in
-    let a = p .before .before in
-    ap (λ (d : Desk). record { desk = d; number = a .args .unfound }) (c .before .before .with-active .ensures)
-    ∙ step-none (lent a) (a .args .house) (a .args .desk) (itself (a .args .trigger)) (a .args .unfound) (p .find-press .result) (p .find-press .ensures)
-    (c .enum-told .given .1)
-
 -- what is called is one of the rows
 within-here : (p : tie.After-find-press) → Within (lent (p .before .before)) (callsOf (p .find-press .result .called))
 within-here p =
@@ -65,34 +49,24 @@ within-here p =
 
 make-call-requires : tie.Need-make-call-requires
 make-call-requires c κs =
-    let p = c .before .before .before .before in
-    let a = p .before .before in
-    let k = subst (λ (f : Callee). Within (lent a) (callsOf f)) (c .before .called .given .1) (within-here p) .0 in (
+    let p = c .before in
+    let a = p .before .before in (
       whole a,
       (
-        ap (λ (d : Desk). validState (d .tuning)) (c .before .before .before .with-active .ensures) ∙ right a .tuning .0,
-        callable (lent a) (tables-right (lent a) (a .args .desk) (a .pre .0)) _ k,
+        ap (λ (d : Desk). validState (d .tuning)) (c .with-active .ensures) ∙ right a .tuning .0,
+        callable-found (lent a) (tables-right (lent a) (a .args .desk) (a .pre .0)) (p .find-press .result .called) (within-here p),
       ),
     )
 
-returns-2 : tie.Need-returns-2
-returns-2 c =
-    let w = c .before .before .before .before in
+returns : tie.Need-returns
+returns c =
+    let w = c .before in
     let p = w .before in
     let a = p .before .before in
-    let k = c .before .before .called .given .0 .0 in
-    step-one (lent a) (a .args .house) (a .args .desk) (itself (a .args .trigger)) (a .args .unfound) (p .find-press .result) (p .find-press .ensures)
-    (c .before .before .called .given .1)
-    (c .make-call .ensures ∙ ap (λ (d : Desk). callLeaves (callOn (lent a) (a .args .house) d k)) (w .with-active .ensures))
+    c .make-call .ensures
+    ∙ ap (λ (d : Desk). callsLeave (lent a) (a .args .house) d (callsOf (p .find-press .result .called)) (a .args .unfound)) (w .with-active .ensures)
+    ∙ step-leaves (lent a) (a .args .house) (a .args .desk) (itself (a .args .trigger)) (a .args .unfound) (p .find-press .result) (p .find-press .ensures)
 
 pub trigger-spec : {M : Type 1} → statement M
 trigger-spec =
-    tie.close
-    (tie.spec
-    find-press-requires
-    with-active-requires
-    enum-known-called
-    enum-told
-    returns
-    make-call-requires
-    returns-2)
+    tie.close (tie.spec find-press-requires with-active-requires make-call-requires returns)
