@@ -5,9 +5,9 @@ use mathlib.Core.Bool.{Bool, true, false, cond, _&&_}
 use mathlib.Core.List.{List, [], _∷_}
 use mathlib.Core.Option.{Option, some, none}
 use Prim.Native.Nat.{ℕ, zero, suc}
-use lib.Dec.{ltb}
+use lib.Dec.{ltb, eqb}
 use lib.ListN.{length}
-use Rattle.status.specs.Status.{bufferTooSmall, letterUnbound, tableDamaged}
+use Rattle.status.specs.Status.{done, bufferTooSmall, letterUnbound, tableDamaged}
 use Rattle.tuning.specs.Tuning.{Action}
 use Rattle.tuning.specs.Desk.{cents}
 use Rattle.tuning.specs.State.{places, held, coded, validState}
@@ -16,14 +16,16 @@ use Rattle.tuning.proofs.Held.{coded-held}
 use Rattle.tuning.proofs.Laws.{refused-keeps}
 use Rattle.tables.specs.Layout.{Tables, AsLogic, no-logic, a-logic, asLogic, rowAt}
 use Rattle.validity.specs.Valid.{validTables}
-use Rattle.frames.specs.Frames.{Frame, bad, letter, key, dump, frameOf}
+use Rattle.frames.specs.Frames.{Frame, bad, letter, key, dump, move, frameOf}
+use Rattle.frames.specs.declared.Way.{Way}
+use Rattle.keys.specs.declared.HeldKeys.{HeldKeys}
 use Rattle.answers.specs.Answer.{smallestBuffer}
 use Rattle.protocol.specs.declared.Desk.{Desk}
 use Rattle.protocol.specs.declared.Active.{Active}
 use Rattle.protocol.specs.declared.Active.the-variants as active
-use Rattle.protocol.specs.Triggers.{Sought, itself, actionAt, callsAs, called, struck}
-use Rattle.protocol.specs.Steps.{withActive, byAction, callOn, deskFrom, madeFrom, lastNumber, triggered}
-use Rattle.protocol.specs.Answers.{letterOutcome, keyOutcome, frameOutcome, activeRight, validDesk, unchanged, answerOf}
+use Rattle.protocol.specs.Triggers.{Sought, itself, matching, actionAt, callsAs, called, struck}
+use Rattle.protocol.specs.Steps.{withActive, withKeys, byAction, callOn, deskFrom, madeFrom, lastNumber, Step, triggered, chordOn, analysed, keyMoved, moveStep}
+use Rattle.protocol.specs.Answers.{letterOutcome, moveOutcome, keyOutcome, frameOutcome, activeRight, validDesk, unchanged, answerOf}
 use Rattle.protocol.specs.Kept.{CallKeeps, FrameKeeps}
 use Rattle.protocol.proofs.Presses.{named}
 
@@ -63,12 +65,25 @@ module _ (t : Tables) (d : Desk) (n : length (d .tuning .tones) ≡ places) (v :
     unfolding triggered struck
     step-kept x = called-kept (named t (d .active) x)
 
-  frame-kept : (f : Frame) → frameOutcome t d f .number ≢ 0 → frameOutcome t d f .desk .tuning ≡ d .tuning
-  unfolding frameOutcome letterOutcome keyOutcome
-  frame-kept bad h = refl
-  frame-kept (letter house c) h = step-kept house letterUnbound (itself c) h
-  frame-kept (key house k) h = refl
-  frame-kept (dump house) h = refl
+-- a key that goes down or up
+move-kept : (t : Tables) (d : Desk) → length (d .tuning .tones) ≡ places → validState (d .tuning) ≡ true → (way : Way) (house k : ℕ)
+    → moveStep t way house d k .number ≢ 0 → moveStep t way house d k .desk .tuning ≡ d .tuning
+unfolding moveStep
+move-kept t d n v way house k = let c = keyMoved way (d .keys) house k in go (eqb (c .number) done) (c .number) (c .held)
+  where
+    go : (b : Bool) (m : ℕ) (h : HeldKeys)
+        → (let s : Step = cond b (analysed t house (withKeys h d)) (record { desk = d; number = m; made = [] }) in s .number ≢ 0 → s .desk .tuning ≡ d .tuning)
+    go true m h = step-kept t (withKeys h d) n v house done (matching (chordOn (withKeys h d)))
+    go false m h e = refl
+
+frame-kept : (t : Tables) (d : Desk) → length (d .tuning .tones) ≡ places → validState (d .tuning) ≡ true → (f : Frame)
+    → frameOutcome t d f .number ≢ 0 → frameOutcome t d f .desk .tuning ≡ d .tuning
+unfolding frameOutcome letterOutcome moveOutcome keyOutcome
+frame-kept t d n v bad h = refl
+frame-kept t d n v (letter house c) h = step-kept t d n v house letterUnbound (itself c) h
+frame-kept t d n v (key house k) h = refl
+frame-kept t d n v (dump house) h = refl
+frame-kept t d n v (move way house k) h = move-kept t d n v way house k h
 
 pub frame-keeps : FrameKeeps
 unfolding FrameKeeps answerOf

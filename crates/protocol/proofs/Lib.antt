@@ -9,4 +9,5 @@ pub mod Calls
 pub mod Callable
 pub mod Ways
 pub mod Stays
+pub mod Audible
 pub mod Kept

@@ -9,7 +9,7 @@ use borrow.Author.Tests.{ltb-true}
 use lib.Dec.{ltb}
 use Rattle.tuning.proofs.Lists.{both}
 use Rattle.tables.specs.declared.Row.{Row as TableRow}
-use Rattle.tables.specs.declared.Row.the-variants.{Unused, Interval, Tone, System, Retuning, Logic}
+use Rattle.tables.specs.declared.Row.the-variants.{Unused, Interval, Tone, System, Retuning, Logic, Harmony}
 use Rattle.tables.specs.Layout.{Tables, rowCount, rowAt, asLogic}
 use Rattle.validity.specs.Valid.{isLogic, validTables}
 use Rattle.validity.proofs.Laws.{valid-of, ValidRow, row-valid, fields-fit, order-valid}
@@ -17,14 +17,9 @@ use Rattle.protocol.specs.declared.Active.{Active}
 use Rattle.protocol.specs.declared.Active.the-variants as active
 use Rattle.protocol.specs.Triggers.{Sought, answersTo, firstLogic, orderBy, orderOf, elseOrder, callsAs, called, struck}
 use Rattle.protocol.specs.Answers.{activeRight}
-use Rattle.protocol.specs.Inner.{OrdersThere, ActiveReadable}
+use Rattle.protocol.specs.Inner.{Within, OrdersThere, ActiveReadable}
 use Rattle.protocol.proofs.Searches.{logic-found, order-called}
 use Rattle.protocol.proofs.Presses.{named}
-
--- each of these is one of the rows
-abbrev pub Within : Tables → List ℕ → Type 0
-Within t [] = Unit
-Within t (k ∷ ks) = (k < rowCount t) × Within t ks
 
 module _ (t : Tables) (v : validTables t ≡ true) where
   active-within : (i : ℕ) → activeRight t (active.Logic i) ≡ true → i < rowCount t
@@ -36,6 +31,7 @@ module _ (t : Tables) (v : validTables t ≡ true) where
   orders-there (Tone p) h = tt
   orders-there (System a P from to) h = tt
   orders-there (Retuning r from to) h = tt
+  orders-there (Harmony needed named) h = tt
   orders-there (Logic c s from to) h =
       let w = valid-of t v in
       record {
@@ -57,6 +53,7 @@ module _ (t : Tables) (v : validTables t ≡ true) where
   order-within p (Tone f) h {k} e = absurd (Option·none-ne-some k e)
   order-within p (System a P from to) h {k} e = absurd (Option·none-ne-some k e)
   order-within p (Retuning r from to) h {k} e = absurd (Option·none-ne-some k e)
+  order-within p (Harmony needed named) h {k} e = absurd (Option·none-ne-some k e)
   order-within p (Logic c s from to) h {k} e =
       let o = order-called p (t .triggers) (t .calls) from to (orders-there (Logic c s from to) h .calls) e in
       subst (λ (x : ℕ). x < rowCount t) (o .is) (order-valid t v (o .index) (omega (arith, o .most, h .within)) .within)
@@ -79,6 +76,7 @@ module _ (t : Tables) (v : validTables t ≡ true) where
     calls-within k (Tone f) w l = (l, tt)
     calls-within k (System b P from to) w l = (l, tt)
     calls-within k (Retuning r from to) w l = (l, tt)
+    calls-within k (Harmony needed named) w l = (l, tt)
     calls-within k (Logic c zero from to) w l = (l, tt)
     calls-within k (Logic c (suc j) from to) w l =
         let z = w .start (omega arith) .within in

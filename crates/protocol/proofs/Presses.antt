@@ -12,7 +12,7 @@ use Rattle.integers.specs.Parts.{up}
 use Rattle.orders.specs.declared.Kind.{Kind}
 use Rattle.orders.specs.declared.Kind.the-variants as kind
 use Rattle.tables.specs.declared.Row.{Row as TableRow}
-use Rattle.tables.specs.declared.Row.the-variants.{Unused, Interval, Tone, System, Retuning, Logic}
+use Rattle.tables.specs.declared.Row.the-variants.{Unused, Interval, Tone, System, Retuning, Logic, Harmony}
 use Rattle.tables.specs.Layout.{Tables, rowCount, logicForm, readAt, rowOf, rowAt, asLogic}
 use Rattle.tables.proofs.Row as variants
 use Rattle.tables.proofs.Rows.{form-row}
@@ -23,7 +23,7 @@ use Rattle.protocol.specs.declared.Callee.the-variants.{Nothing, Row}
 use Rattle.protocol.specs.declared.triggers.Called.{Called}
 use Rattle.protocol.specs.declared.triggers.Called.the-variants as name
 use Rattle.protocol.specs.Triggers.{Sought, answersTo, passes, firstLogic, orderBy, orderOf, elseOrder, Struck, startCalls, callsAs, called, struck}
-use Rattle.protocol.specs.Inner.{found, kindOf, kindAt, isLogicKind, byKind, calledIn}
+use Rattle.protocol.specs.Inner.{found, kindOf, kindAt, isLogicKind, byKind, calledIn, struckAs}
 use Rattle.protocol.proofs.Forms.{logic-kind}
 
 -- ---- what the code's enum says
@@ -43,7 +43,7 @@ told o e h = back o ∙ ap optionOf (sym e ∙ h)
 
 -- the variants of a row that is no logic
 abbrev pub noLogic : List ℕ
-noLogic = 0 ∷ 1 ∷ 2 ∷ 3 ∷ 4 ∷ []
+noLogic = 0 ∷ 1 ∷ 2 ∷ 3 ∷ 4 ∷ 6 ∷ []
 
 module _ (t : Tables) (p : ℕ → Bool) where
   pub no-orders : (r : TableRow) → OneOf noLogic (tagOf variants.the-type r) → none ≡ orderBy t p r
@@ -53,6 +53,7 @@ module _ (t : Tables) (p : ℕ → Bool) where
   no-orders (System a P from to) h = refl
   no-orders (Retuning r from to) h = refl
   no-orders (Logic c s from to) h = absurd (miss noLogic 5 tt h)
+  no-orders (Harmony needed named) h = refl
 
   module _ (a : Active) {o : Option ℕ} (e : o ≡ none) where
     else-order : orderOf t p a ≡ elseOrder t a p o
@@ -76,12 +77,7 @@ logic-called p rows k h = ap (λ (x : Kind). byKind x k) (sym (go (rowOf (readAt
     go (System a P from to) h = absurd (false≢true h)
     go (Retuning r from to) h = absurd (false≢true h)
     go (Logic c s from to) h = refl
-
--- what is found, as the code names it
-abbrev pub struckAs : List ℤ → Active → Called → Struck
-struckAs rows a name.Nothing = record { active = a; calls = [] }
-struckAs rows a (name.Other k) = record { active = a; calls = k ∷ [] }
-struckAs rows a (name.Logic k) = record { active = active.Logic k; calls = startCalls k (up (readAt rows k .second)) }
+    go (Harmony needed named) h = absurd (false≢true h)
 
 calls-itself : (a : Active) (k : ℕ) (r : TableRow) → isLogicKind (kindOf r) ≡ false
     → _≡_ {A = Struck} (record { active = a; calls = k ∷ [] }) (callsAs a k (asLogic r))
@@ -91,6 +87,7 @@ calls-itself a k (Tone f) h = refl
 calls-itself a k (System b P from to) h = refl
 calls-itself a k (Retuning r from to) h = refl
 calls-itself a k (Logic c s from to) h = absurd (false≢true (sym h))
+calls-itself a k (Harmony needed named) h = refl
 
 struck-as : (t : Tables) (a : Active) (o : Option ℕ) → struckAs (t .rows) a (calledIn (t .rows) o) ≡ called t a o
 unfolding rowOf
@@ -109,6 +106,6 @@ module _ (t : Tables) (a : Active) (x : Sought) where
   abbrev pub named : Option ℕ
   named = let p = answersTo t x in elseOrder t a p (firstLogic (t .rows) p 0 (rowCount t))
 
-  pub struck-named : {f g : Called} → f ≡ calledIn (t .rows) named → f ≡ g → struckAs (t .rows) a g ≡ struck t a x
+  pub struck-named : {f : Called} → f ≡ calledIn (t .rows) named → struckAs (t .rows) a f ≡ struck t a x
   unfolding struck
-  struck-named e h = ap (struckAs (t .rows) a) (sym h ∙ e) ∙ struck-as t a named
+  struck-named e = ap (struckAs (t .rows) a) e ∙ struck-as t a named

@@ -21,7 +21,7 @@ use Rattle.orders.specs.declared.Found.the-variants as match
 use Rattle.orders.specs.Orders.{noOrder, orderAt, matchFrom, firstMatch}
 use Rattle.orders.proofs.Laws.{match-within}
 use Rattle.tables.specs.Layout.{orderWidth, triggersIn, callsIn, full}
-use Rattle.tables.proofs.Columns.{letter-at, call-at, columns-length}
+use Rattle.tables.proofs.Columns.{trigger-at, call-at, columns-length}
 use Rattle.tables.proofs.Lists.{full-length, full-next}
 use Rattle.protocol.specs.declared.triggers.Called.{Called}
 use Rattle.protocol.specs.declared.triggers.Called.the-variants as called
@@ -80,7 +80,7 @@ pub gathering-order : {rows : List ℤ} (orders : List ℕ) {from to : ℕ} → 
     → Gathering rows (triggersIn orders) (callsIn orders) from to
     (set all (i - from) (record { trigger = getD orders (orderWidth * i) 0; kind = kind; number = getD orders (orderWidth * i + 1) 0 })) (i + 1)
 gathering-order {rows} orders p {all} {i} g h e =
-    rw (letter-at orders i, call-at orders i) (gathering-next p g h (e ∙ ap (kindAt rows) (call-at orders i)))
+    rw (trigger-at orders i, call-at orders i) (gathering-next p g h (e ∙ ap (kindAt rows) (call-at orders i)))
 
 -- both codes of each order stand in the slice
 pub codes-there : (orders : List ℕ) {from to : ℕ} → OrderPart (triggersIn orders) (callsIn orders) from to → orderWidth * to ≤ length orders

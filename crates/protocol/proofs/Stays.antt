@@ -1,6 +1,6 @@
 -- A right desk over valid tables stays right, whatever the stream: so 23 is never given after the start. Assumes nothing.
 use mathlib.Core.Path.{_≡_, refl, sym, subst}
-use mathlib.Core.Bool.{true, _&&_}
+use mathlib.Core.Bool.{Bool, true, false, cond, _&&_}
 use mathlib.Core.List.{List, [], _∷_}
 use mathlib.Core.Option.{Option, some, none}
 use Prim.Native.Nat.{ℕ, _<_}
@@ -8,7 +8,10 @@ use native.Mathlib.Decide.{decLt}
 use native.Mathlib.Omega.{arith}
 use borrow.Author.Tests.{lt-ltb}
 use lib.ListN.{length}
-use Rattle.status.specs.Status.{letterUnbound}
+use lib.Dec.{eqb}
+use Rattle.status.specs.Status.{done, letterUnbound}
+use Rattle.frames.specs.declared.Way.{Way}
+use Rattle.keys.specs.declared.HeldKeys.{HeldKeys}
 use Rattle.tuning.specs.Tuning.{Action, start}
 use Rattle.tuning.specs.Desk.{cents}
 use Rattle.tuning.specs.State.{places, validState}
@@ -16,21 +19,21 @@ use Rattle.tuning.proofs.Lists.{both}
 use Rattle.tuning.proofs.Held.{length-coded}
 use Rattle.tuning.proofs.Laws.{start-valid, start-state-valid}
 use Rattle.tables.specs.declared.Row.{Row as TableRow}
-use Rattle.tables.specs.declared.Row.the-variants.{Unused, Interval, Tone, System, Retuning, Logic}
+use Rattle.tables.specs.declared.Row.the-variants.{Unused, Interval, Tone, System, Retuning, Logic, Harmony}
 use Rattle.tables.specs.Layout.{Tables, rowCount, rowAt, asLogic}
 use Rattle.validity.specs.Valid.{validTables}
-use Rattle.frames.specs.Frames.{Frame, bad, letter, key, dump, frameOf}
+use Rattle.frames.specs.Frames.{Frame, bad, letter, key, dump, frameOf, move}
 use Rattle.answers.specs.Answer.{smallestBuffer}
 use Rattle.protocol.specs.declared.Active.{Active}
 use Rattle.protocol.specs.declared.Active.the-variants as active
 use Rattle.protocol.specs.declared.Desk.{Desk}
-use Rattle.protocol.specs.Triggers.{Sought, itself, actionAt, callsAs, called, struck}
-use Rattle.protocol.specs.Steps.{withActive, byAction, callOn, deskFrom, triggered}
-use Rattle.protocol.specs.Answers.{startDesk, Outcome, letterOutcome, keyOutcome, frameOutcome, activeRight, validDesk, answerOf}
-use Rattle.protocol.specs.Inner.{tuned}
+use Rattle.protocol.specs.Triggers.{Sought, itself, actionAt, callsAs, called, struck, matching}
+use Rattle.protocol.specs.Steps.{withActive, withKeys, byAction, callOn, deskFrom, Step, triggered, chordOn, analysed, keyMoved, moveStep}
+use Rattle.protocol.specs.Answers.{startDesk, Outcome, letterOutcome, moveOutcome, keyOutcome, frameOutcome, activeRight, validDesk, answerOf}
+use Rattle.protocol.specs.Inner.{tuned, Within}
 use Rattle.protocol.specs.Streams.{Lent, deskAfter}
 use Rattle.protocol.proofs.Presses.{named}
-use Rattle.protocol.proofs.Pressable.{Within, named-within, struck-within}
+use Rattle.protocol.proofs.Pressable.{named-within, struck-within}
 use Rattle.protocol.proofs.Callable.{Whole, call-valid}
 use Rattle.protocol.proofs.Ways.{tables-right, too-small, taken}
 
@@ -55,6 +58,7 @@ module _ (t : Tables) (v : validTables t ≡ true) where
     called-right k (System b P from to) e l = h
     called-right k (Retuning r from to) e l = h
     called-right k (Logic c s from to) e l = rw (lt-ltb k (rowCount t) l, e)
+    called-right k (Harmony needed named) e l = h
 
     pub struck-right : activeRight t (struck t a x .active) ≡ true
     unfolding struck
@@ -84,13 +88,23 @@ module _ (t : Tables) (v : validTables t ≡ true) where
       desk-valid house (withActive (struck t (d .active) x .active) d) (struck t (d .active) x .calls) (struck-within t v (d .active) (r .active) x)
       (record { tuning = r .tuning; active = struck-right (d .active) (r .active) x })
 
+  pub move-right : (d : Desk) → Right d → (way : Way) (house k : ℕ) → Right (moveStep t way house d k .desk)
+  unfolding moveStep
+  move-right d r way house k = let c = keyMoved way (d .keys) house k in go (eqb (c .number) done) (c .number) (c .held)
+    where
+      go : (b : Bool) (m : ℕ) (h : HeldKeys)
+          → (let s : Step = cond b (analysed t house (withKeys h d)) (record { desk = d; number = m; made = [] }) in Right (s .desk))
+      go true m h = step-right (withKeys h d) (record { tuning = r .tuning; active = r .active }) house (matching (chordOn (withKeys h d))) done
+      go false m h = r
+
   module _ (d : Desk) (r : Right d) where
     frame-right : (f : Frame) → Right (frameOutcome t d f .desk)
-    unfolding frameOutcome letterOutcome keyOutcome
+    unfolding frameOutcome letterOutcome moveOutcome keyOutcome
     frame-right bad = r
     frame-right (letter house c) = step-right d r house (itself c) letterUnbound
     frame-right (key house k) = r
     frame-right (dump house) = r
+    frame-right (move way house k) = move-right d r way house k
 
     pub answer-right : (frame : List ℕ) (room : ℕ) → Right (answerOf t d frame room .desk)
     answer-right frame room =

@@ -3,6 +3,7 @@ use mathlib.Core.Path.{_≡_, refl, sym, ap, _∙_, subst}
 use mathlib.Core.Bool.{Bool, true, false, _&&_}
 use mathlib.Core.List.{List, [], _∷_}
 use Prim.Native.Nat.{ℕ, _≤_, _<_}
+use native.Mathlib.Omega.{arith}
 use borrow.Author.Tests.{lt-ltb, le-ltb, leb-true}
 use types.Run.{OneOf, miss}
 use denote.Enum.Declared.{tagOf}
@@ -14,19 +15,22 @@ use Rattle.tuning.proofs.Lists.{both}
 use Rattle.tuning.proofs.Held.{heard-tone}
 use Rattle.tables.specs.Layout.{Tables}
 use Rattle.validity.specs.Valid.{validTables}
-use Rattle.frames.specs.Frames.{Frame, bad, letter, key, dump, frameOf, inside, isHouse, isKey, lastKey, decodedAs}
+use Rattle.frames.specs.Frames.{Frame, bad, letter, key, dump, move, frameOf, inside, isHouse, isKey, lastKey, decodedAs}
+use Rattle.frames.specs.declared.Way.{Way}
+use Rattle.cents.specs.declared.KeyNumber.{KeyNumber}
 use Rattle.frames.specs.declared.Decoded.{Decoded}
-use Rattle.frames.specs.declared.Decoded.the-variants.{Bad, Letter, Key, Dump}
+use Rattle.frames.specs.declared.Decoded.the-variants.{Bad, Letter, Key, Dump, Move}
 use Rattle.hexadecimal.specs.Lines.{lineOf}
 use Rattle.frames.proofs.Decoded as variants
-use Rattle.frames.proofs.Decoding.{letter-decoded}
-use Rattle.answers.specs.Answer.{letterBytes, keyBytes, smallestBuffer}
+use Rattle.frames.proofs.Decoding.{letter-decoded, move-decoded}
+use Rattle.frames.proofs.Ranges.{move-ranges}
+use Rattle.answers.specs.Answer.{letterBytes, moveBytes, keyBytes, smallestBuffer}
 use Rattle.protocol.specs.declared.Desk.{Desk}
 use Rattle.protocol.specs.declared.Answered.{Answered}
 use Rattle.protocol.specs.declared.Told.{Told}
 use Rattle.protocol.specs.declared.Stepped.{Stepped}
-use Rattle.protocol.specs.Steps.{letterStep}
-use Rattle.protocol.specs.Answers.{Outcome, letterOutcome, soundAt, keyNumber, keyOutcome, frameOutcome}
+use Rattle.protocol.specs.Steps.{letterStep, moveStep}
+use Rattle.protocol.specs.Answers.{Outcome, letterOutcome, moveOutcome, soundAt, keyNumber, keyOutcome, frameOutcome}
 use Rattle.protocol.specs.Answers.{activeRight, validDesk, unchanged, answerOf, Gives}
 use Rattle.protocol.specs.Inner.{stepLeaves, Ready, KeyInside, toldOutcome, Tells}
 
@@ -90,13 +94,19 @@ key-inside f e h = subst KeyInside (sym e) (go f h)
     go (letter house c) h = tt
     go (key house k) h = leb-true k lastKey (both (isHouse house) (isKey k) h .1)
     go (dump house) h = tt
+    go (move way house k) h = let r = move-ranges way house k h in record { first = r .0; last = r .1; high = omega (arith, r .2) }
 
 pub on-letter : (t : Tables) (d : Desk) (f : Frame) {r : Decoded} → r ≡ decodedAs f → (house c : ℕ) → r ≡ Letter house c
     → letterOutcome t d house c ≡ frameOutcome t d f
 unfolding frameOutcome
 on-letter t d f e house c h = ap (frameOutcome t d) (sym (letter-decoded f (sym e ∙ h)))
 
--- ---- what a frame is told that is no letter
+pub on-move : (t : Tables) (d : Desk) (f : Frame) {r : Decoded} → r ≡ decodedAs f → (way : Way) (house : ℕ) (k : KeyNumber) → r ≡ Move way house k
+    → moveOutcome t d way house (k .0) ≡ frameOutcome t d f
+unfolding frameOutcome
+on-move t d f e way house k h = ap (frameOutcome t d) (sym (move-decoded f (sym e ∙ h)))
+
+-- ---- what a frame is told that changes nothing
 
 pub outcome-tells : {o q : Outcome} {r : Told} {before after : List ℕ} → o ≡ q → Tells o r before after → Tells q r before after
 outcome-tells {r = r} {before = before} {after = after} e h = subst (λ (x : Outcome). Tells x r before after) e h
@@ -104,26 +114,27 @@ outcome-tells {r = r} {before = before} {after = after} e h = subst (λ (x : Out
 pub tells : (d : Desk) {f g : Decoded} {r : Told} {before after : List ℕ} → f ≡ g → Tells (toldOutcome d g) r before after → Tells (toldOutcome d f) r before after
 tells d e h = outcome-tells (ap (toldOutcome d) (sym e)) h
 
--- the variants of a frame that is no letter
-abbrev pub noLetter : List ℕ
-noLetter = 0 ∷ 2 ∷ 3 ∷ []
+-- the variants of a frame that changes nothing
+abbrev pub noChange : List ℕ
+noChange = 0 ∷ 2 ∷ 3 ∷ []
 
 -- what is told is what the frame does
 abbrev pub toldBy : Desk → Told → Answered
 toldBy d r = record { desk = d; number = r .number; length = r .length }
 
 pub told-gives : (t : Tables) (d : Desk) (f : Frame) {q : Decoded} {r : Told} {before after : List ℕ} → q ≡ decodedAs f
-    → OneOf noLetter (tagOf variants.the-type q) → Tells (toldOutcome d q) r before after → Gives (frameOutcome t d f) (toldBy d r) before after
+    → OneOf noChange (tagOf variants.the-type q) → Tells (toldOutcome d q) r before after → Gives (frameOutcome t d f) (toldBy d r) before after
 unfolding frameOutcome keyOutcome
 told-gives t d f {q} {r} {before} {after} e h g =
-    go f (subst (λ (x : Decoded). OneOf noLetter (tagOf variants.the-type x)) e h) (subst (λ (x : Decoded). Tells (toldOutcome d x) r before after) e g)
+    go f (subst (λ (x : Decoded). OneOf noChange (tagOf variants.the-type x)) e h) (subst (λ (x : Decoded). Tells (toldOutcome d x) r before after) e g)
   where
-    go : (f : Frame) → OneOf noLetter (tagOf variants.the-type (decodedAs f)) → Tells (toldOutcome d (decodedAs f)) r before after
+    go : (f : Frame) → OneOf noChange (tagOf variants.the-type (decodedAs f)) → Tells (toldOutcome d (decodedAs f)) r before after
         → Gives (frameOutcome t d f) (toldBy d r) before after
     go bad h g = record { desk = refl; number = g .number; size = g .size; buffer = g .buffer }
-    go (letter house c) h g = absurd (miss noLetter 1 tt h)
+    go (letter house c) h g = absurd (miss noChange 1 tt h)
     go (key house k) h g = record { desk = refl; number = g .number; size = g .size; buffer = g .buffer }
     go (dump house) h g = record { desk = refl; number = g .number; size = g .size; buffer = g .buffer }
+    go (move way house k) h g = absurd (miss noChange 4 tt h)
 
 -- ---- a letter
 
@@ -141,6 +152,22 @@ module _ (t : Tables) (d : Desk) (house c : ℕ) where
   pub letter-gives : {r : Stepped} → r ≡ stepLeaves (letterStep t house d c) → outcome r ≡ letterOutcome t d house c
   unfolding letterOutcome
   letter-gives e = ap outcome e
+
+-- ---- a key that goes down or up
+
+module _ (t : Tables) (d : Desk) (way : Way) (house k : ℕ) where
+  abbrev pub moved : Stepped → Outcome
+  moved r =
+      record {
+        desk = r .desk;
+        number = r .number;
+        made = moveStep t way house d k .made;
+        line = lineOf (moveBytes way house k (r .number) (held (r .desk .tuning)));
+      }
+
+  pub move-gives : {r : Stepped} → r ≡ stepLeaves (moveStep t way house d k) → moved r ≡ moveOutcome t d way house k
+  unfolding moveOutcome
+  move-gives e = ap moved e
 
 -- ---- a key
 

@@ -1,10 +1,10 @@
 -- What the contracts of private functions cite: no part of the rules.
 use mathlib.Core.Path.{_≡_}
-use mathlib.Core.Bool.{Bool, true, false, cond}
+use mathlib.Core.Bool.{Bool, true, false, cond, _&&_}
 use mathlib.Core.List.{List, [], _∷_, zipWith}
 use mathlib.Core.Option.{Option, some, none}
-use Prim.Native.Nat.{ℕ, zero, suc, _+_, _≤_, _<_}
-use lib.Dec.{eqb}
+use Prim.Native.Nat.{ℕ, zero, suc, _+_, _-_, _^_, _≤_, _<_}
+use lib.Dec.{eqb, leb}
 use lib.IntN.{ℤ}
 use lib.ListN.{length, getD}
 use lib.Seq.{slice}
@@ -22,7 +22,7 @@ use Rattle.tables.specs.declared.Row.{Row as TableRow}
 use Rattle.tables.specs.declared.Row.the-variants.{Unused, Interval, Tone, System, Retuning, Logic, Harmony}
 use Rattle.integers.specs.Parts.{up}
 use Rattle.tables.specs.declared.Numbers.{Numbers}
-use Rattle.tables.specs.Layout.{Tables, logicForm, rowCount, readAt, rowOf, rowAt, full}
+use Rattle.tables.specs.Layout.{Tables, logicForm, rowCount, readAt, rowOf, rowAt, full, AsLogic, no-logic, a-logic, asLogic, AsHarmony, no-harmony, a-harmony, asHarmony, harmonyBase}
 use Rattle.tables.specs.Values.{FieldsFit}
 use Rattle.validity.specs.Valid.{validTables}
 use Rattle.validity.specs.Inner.{ValidSystem, ValidRetuning}
@@ -42,8 +42,12 @@ use Rattle.protocol.specs.declared.Stepped.{Stepped}
 use Rattle.protocol.specs.declared.triggers.Press.{Press}
 use Rattle.protocol.specs.declared.triggers.Called.{Called}
 use Rattle.protocol.specs.declared.triggers.Called.the-variants as called
-use Rattle.protocol.specs.Triggers.{Sought, answersTo, actionAt, Struck, firstLogic, elseOrder}
-use Rattle.protocol.specs.Steps.{deskFrom, madeFrom, lastNumber, Step}
+use Rattle.protocol.specs.declared.chords.Code.{Code}
+use Rattle.protocol.specs.declared.chords.Code.the-variants as code
+use Rattle.protocol.specs.declared.Chord.{Chord}
+use Rattle.limits.specs.Limits.{mostPositions}
+use Rattle.protocol.specs.Triggers.{Sought, answersTo, actionAt, Struck, firstLogic, elseOrder, matchesAs, startCalls}
+use Rattle.protocol.specs.Steps.{deskFrom, madeFrom, lastNumber, Step, withActive}
 use Rattle.protocol.specs.Answers.{activeRight, Outcome, unchanged, keyOutcome, dumpOutcome, badOutcome}
 
 -- ---- the code's values
@@ -140,6 +144,15 @@ callsOf (Row k) = k ∷ []
 abbrev pub struckBy : Press → Struck
 struckBy p = record { active = p .active; calls = callsOf (p .called) }
 
+-- what comes of what is found, as the code's enum names it
+abbrev pub struckAs : List ℤ → Active → Called → Struck
+struckAs rows a called.Nothing = record { active = a; calls = [] }
+struckAs rows a (called.Other k) = record { active = a; calls = k ∷ [] }
+struckAs rows a (called.Logic k) = record { active = active.Logic k; calls = startCalls k (up (readAt rows k .second)) }
+
+abbrev pub struckIn : Tables → Desk → Called → Struck
+struckIn t d f = struckAs (t .rows) (d .active) f
+
 -- what a call does to the tuning
 abbrev pub tuned : State → Option (Action cents) → Reply
 tuned s none = record { state = s; number = done }
@@ -156,6 +169,9 @@ foundTuned t s (Row k) unfound = tunedBy t s k
 -- what calls and a step leave, as the code's struct has it
 abbrev pub callsLeave : Tables → ℕ → Desk → List ℕ → ℕ → Stepped
 callsLeave t house d ks unfound = record { desk = deskFrom t house d ks; number = lastNumber unfound (madeFrom t house d ks) }
+
+abbrev pub struckLeaves : Tables → ℕ → Desk → Struck → ℕ → Stepped
+struckLeaves t house d z unfound = callsLeave t house (withActive (z .active) d) (z .calls) unfound
 
 abbrev pub stepLeaves : Step → Stepped
 stepLeaves s = record { desk = s .desk; number = s .number }
@@ -200,6 +216,50 @@ pub record Callable (t : Tables) (k : ℕ) : Type 0 where
 abbrev pub CallableFound : Tables → Callee → Type 0
 CallableFound t Nothing = Unit
 CallableFound t (Row k) = Callable t k
+
+-- each of these is one of the rows
+abbrev pub Within : Tables → List ℕ → Type 0
+Within t [] = Unit
+Within t (k ∷ ks) = (k < rowCount t) × Within t ks
+
+-- ---- of chords
+
+-- whether a trigger is a harmony that a chord matches
+abbrev pub soundsIn : List ℤ → Chord → ℕ → Bool
+soundsIn rows x code = leb harmonyBase code && matchesAs x (asHarmony (rowOf (readAt rows (code - harmonyBase))))
+
+-- the first of some triggers that is one
+unfoldable pub firstOf : (ℕ → Bool) → List ℕ → Option ℕ
+firstOf p [] = none
+firstOf p (c ∷ cs) = elim (p c) [ true ↦ some c | false ↦ firstOf p cs ]
+
+abbrev pub codeOf : Option ℕ → Code
+codeOf none = code.Nothing
+codeOf (some c) = code.Trigger c
+
+-- a chord's positions and width are those of a state
+pub record ChordFits (x : Chord) : Type 0 where
+  pub positions : x .positions < 2 ^ mostPositions
+  pub width : x .width ≤ mostPositions
+
+-- the sets of a harmony are of key numbers to 59
+abbrev pub SetsFit : AsHarmony → Type 0
+SetsFit no-harmony = Unit
+SetsFit (a-harmony n m) = (n < 2 ^ mostPositions) × (m < 2 ^ mostPositions)
+
+-- the row of a trigger that is a harmony can be read
+pub record Audible (rows : List ℤ) (code : ℕ) : Type 0 where
+  pub fields : harmonyBase ≤ code → FieldsFit (readAt rows (code - harmonyBase))
+  pub sets : harmonyBase ≤ code → SetsFit (asHarmony (rowOf (readAt rows (code - harmonyBase))))
+
+abbrev pub AudibleLogic : List ℤ → AsLogic → Type 0
+AudibleLogic rows no-logic = Unit
+AudibleLogic rows (a-logic c s from to) = Audible rows c
+
+-- the rows can be read, and the triggers of those that are logics
+pub record AudibleRows (rows : List ℤ) (count : ℕ) : Type 0 where
+  pub fields : (i : ℕ) → i < count → FieldsFit (readAt rows i)
+  pub triggers : (i : ℕ) → i < count → AudibleLogic rows (asLogic (rowOf (readAt rows i)))
 
 -- ---- of frames
 

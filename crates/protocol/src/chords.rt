@@ -5,12 +5,12 @@ use crate::Chord;
 use crate::Desk;
 use crate::Stepped;
 use crate::triggers;
+use crate::triggers::Called;
 use harmonies::Harmony;
 use status::DONE;
 use tables::CODES;
 use tables::Counts;
 use tables::HARMONY_BASE;
-use tables::LOGIC_FORM;
 use tables::ORDER_WIDTH;
 use tables::ORDERS_AT;
 use tables::Row;
@@ -19,20 +19,17 @@ use tables::TONES_AT;
 use tables::decode;
 ghost use mathlib.Core.Path.{_≡_};
 ghost use mathlib.Core.Bool.{true};
-ghost use Prim.Native.Nat.{_≤_, _<_};
+ghost use Prim.Native.Nat.{ℕ, _<_};
+ghost use lib.ListN.{getD};
 ghost use lib.Seq.{slice};
-ghost use Rattle.tables.specs.Layout.{tablesIn, triggersIn, callsIn};
 ghost use Rattle.tuning.specs.State.{validState};
-ghost use Rattle.protocol.specs.Triggers.{itself, matching, firstLogic};
+ghost use Rattle.tables.specs.Layout.{tablesIn, triggersIn, callsIn, rowOf, readAt, asLogic};
+ghost use Rattle.tables.specs.Values.{FieldsFit};
+ghost use Rattle.validity.specs.Valid.{validTables};
+ghost use Rattle.protocol.specs.Triggers.{matching, passes, firstLogic, firstOrder};
 ghost use Rattle.protocol.specs.Steps.{chordOn, analysed};
-ghost use Rattle.protocol.specs.Answers.{validDesk, activeRight};
-ghost use Rattle.protocol.specs.Inner.{found, soundsIn, soundingAs, firstSounding, HeardBy, ChordFits, ValidSlices, SoundRows, SoundOrders, stepLeaves, OrderPart};
-
-// A trigger that is heard, and the first logic with it, if there is one.
-pub enum Heard {
-    Nothing,
-    Trigger(u16, Callee),
-}
+ghost use Rattle.protocol.specs.Answers.{activeRight, validDesk};
+ghost use Rattle.protocol.specs.Inner.{found, calledIn, calledBy, soundsIn, firstOf, codeOf, stepLeaves, ChordFits, Audible, AudibleLogic, AudibleRows, OrderPart};
 
 // A trigger's code, where there is one.
 enum Code {
@@ -48,8 +45,124 @@ fn chord_of(desk: Desk) -> Chord
     let s = desk.tuning;
     let held = desk.keys;
     let width = s.width;
-    Chord {
-        positions: harmonies::project(held, s.anchor, width),
-        width,
+    let positions = harmonies::project(held, s.anchor, width);
+    Chord { positions, width }
+}
+
+// Whether a trigger is a harmony that the chord matches.
+fn is_sounding(rows: &[i32], trigger: u16, chord: Chord) -> bool
+    requires { ⌜ Audible (now rows) trigger ⌝ }
+    requires { ⌜ ChordFits chord ⌝ }
+    ensures { λ r. ⌜ r ≡ soundsIn (now (rows .entry)) chord trigger ⌝ }
+{
+    if trigger < HARMONY_BASE {
+        return false;
     }
+    let k = trigger - HARMONY_BASE;
+    let Row::Harmony { needed, named } = decode::row_at(rows, k as usize) else {
+        return false;
+    };
+    let harmony = Harmony { needed, named };
+    harmonies::matches_chord(harmony, chord.positions, chord.width)
+}
+
+// Whether row i is a logic whose trigger the chord matches.
+fn is_sounding_logic(rows: &[i32], i: usize, chord: Chord) -> bool
+    requires { ⌜ FieldsFit (readAt (now rows) i) ⌝ }
+    requires { ⌜ AudibleLogic (now rows) (asLogic (rowOf (readAt (now rows) i))) ⌝ }
+    requires { ⌜ ChordFits chord ⌝ }
+    ensures { λ r. ⌜ r ≡ passes (soundsIn (now (rows .entry)) chord) (asLogic (rowOf (readAt (now (rows .entry)) i))) ⌝ }
+{
+    let Row::Logic {
+        trigger,
+        start: _,
+        from: _,
+        to: _,
+    } = decode::row_at(rows, i)
+    else {
+        return false;
+    };
+    is_sounding(rows, trigger, chord)
+}
+
+// The first of the rows that is a logic whose trigger the chord matches.
+fn find_logic(rows: &[i32], count: u32, chord: Chord) -> Callee
+    requires { ⌜ AudibleRows (now rows) count ⌝ }
+    requires { ⌜ ChordFits chord ⌝ }
+    ensures { λ r. ⌜ r ≡ found (firstLogic (now (rows .entry)) (soundsIn (now (rows .entry)) chord) 0 count) ⌝ }
+{
+    for i in 0..count {
+        if is_sounding_logic(rows, i as usize, chord) {
+            return Callee::Row(i);
+        }
+    }
+    Callee::Nothing
+}
+
+// The trigger of the first order, of those from `from` to `to`, that the chord matches.
+fn find_sounding(rows: &[i32], orders: &[u16], from: usize, to: usize, chord: Chord) -> Code
+    requires { ⌜ OrderPart (triggersIn (now orders)) (callsIn (now orders)) from to ⌝ }
+    requires { ⌜ ((i : ℕ) → i < to → Audible (now rows) (getD (triggersIn (now orders)) i 0)) ⌝ }
+    requires { ⌜ ChordFits chord ⌝ }
+    ensures { λ r. ⌜ r ≡ codeOf (firstOf (soundsIn (now (rows .entry)) chord) (slice from to (triggersIn (now (orders .entry))))) ⌝ }
+{
+    for i in from..to {
+        let trigger = orders[ORDER_WIDTH * i];
+        if is_sounding(rows, trigger, chord) {
+            return Code::Trigger(trigger);
+        }
+    }
+    Code::Nothing
+}
+
+// What the first order that the chord matches calls, of those from `from` to `to`.
+fn find_order(rows: &[i32], orders: &[u16], from: usize, to: usize, chord: Chord) -> Called
+    requires { ⌜ OrderPart (triggersIn (now orders)) (callsIn (now orders)) from to ⌝ }
+    requires { ⌜ ((i : ℕ) → i < to → Audible (now rows) (getD (triggersIn (now orders)) i 0)) ⌝ }
+    requires { ⌜ ChordFits chord ⌝ }
+    ensures { λ r. ⌜ r ≡ calledIn (now (rows .entry)) (firstOrder (soundsIn (now (rows .entry)) chord) (slice from to (triggersIn (now (orders .entry)))) (slice from to (callsIn (now (orders .entry))))) ⌝ }
+{
+    let Code::Trigger(code) = find_sounding(rows, orders, from, to, chord) else {
+        return Called::Nothing;
+    };
+    triggers::find_order(rows, orders, from, to, code)
+}
+
+// What the chord calls: a logic, else by an order of the active logic.
+fn find_called(numbers: &[i32], codes: &[u16], active: Active, chord: Chord) -> Called
+    requires { ⌜ validTables (tablesIn (now numbers) (now codes)) ≡ true ⌝ }
+    requires { ⌜ activeRight (tablesIn (now numbers) (now codes)) active ≡ true ⌝ }
+    requires { ⌜ ChordFits chord ⌝ }
+    ensures { λ r. ⌜ r ≡ calledBy (tablesIn (now (numbers .entry)) (now (codes .entry))) active (matching chord) ⌝ }
+{
+    let used = Counts::read(&codes[0..SOUNDING_AT]);
+    let rows = &numbers[0..TONES_AT];
+    if let Callee::Row(i) = find_logic(rows, used.rows, chord) {
+        return Called::Logic(i);
+    }
+    let Active::Logic(i) = active else {
+        return Called::Nothing;
+    };
+    let Row::Logic {
+        trigger: _,
+        start: _,
+        from,
+        to,
+    } = decode::row_at(rows, i as usize)
+    else {
+        return Called::Nothing;
+    };
+    let orders = &codes[ORDERS_AT..CODES];
+    find_order(rows, orders, from as usize, to as usize, chord)
+}
+
+// What the held keys come to, from a frame of this house: their chord is looked for among the triggers.
+pub fn analyse(numbers: &[i32], codes: &[u16], desk: Desk, house: u8) -> Stepped
+    requires { ⌜ validDesk (tablesIn (now numbers) (now codes)) desk ≡ true ⌝ }
+    ensures { λ r. ⌜ r ≡ stepLeaves (analysed (tablesIn (now (numbers .entry)) (now (codes .entry))) house desk) ⌝ }
+{
+    let active = desk.active;
+    let chord = chord_of(desk);
+    let found = find_called(numbers, codes, active, chord);
+    triggers::strike(numbers, codes, desk, house, found, DONE)
 }

@@ -36,23 +36,23 @@ ghost use lib.Seq.{slice};
 ghost use Rattle.tuning.specs.State.{validState};
 ghost use Rattle.tables.specs.Layout.{tablesIn, triggersIn, callsIn, rowOf, asLogic};
 ghost use Rattle.tables.specs.Values.{Slices};
-ghost use Rattle.protocol.specs.Triggers.{itself, passes, firstLogic, firstOrder, startCalls, struck};
+ghost use Rattle.protocol.specs.Triggers.{itself, passes, firstLogic, firstOrder, startCalls};
 ghost use Rattle.protocol.specs.Steps.{triggered};
 ghost use Rattle.protocol.specs.Answers.{validDesk};
-ghost use Rattle.protocol.specs.Inner.{found, isTrigger, logicFor, logicTrigger, Indexed, kindAt, calledIn, calledBy, partSize, gathered, callsOf, struckBy, tunedBy, foundTuned, callsLeave, stepLeaves, OrderPart, ActiveReadable, Callable, CallableFound};
+ghost use Rattle.protocol.specs.Inner.{found, isTrigger, logicFor, logicTrigger, Indexed, kindAt, calledIn, calledBy, partSize, gathered, callsOf, struckBy, tunedBy, foundTuned, callsLeave, stepLeaves, OrderPart, ActiveReadable, Callable, CallableFound, struckAs, struckIn, struckLeaves, Within};
 
 // What is no trigger.
 const NO_TRIGGER: u32 = 1024;
 
-// What a trigger names: nothing, a logic, or a declaration that is called itself.
-enum Called {
+// What is found: nothing, a logic, or a declaration that is called itself.
+pub enum Called {
     Nothing,
     Logic(u32),
     Other(u32),
 }
 
-// What a trigger comes to: the logic that is active then, and the declaration that is called.
-pub struct Press {
+// What comes of it: the logic that is active then, and the declaration that is called.
+struct Press {
     pub active: Active,
     pub called: Callee,
 }
@@ -184,7 +184,7 @@ fn part_end(from: usize, to: usize) -> usize
 }
 
 // What the first order with this trigger calls, of those from `from` to `to`, part by part.
-fn find_order(rows: &[i32], orders: &[u16], from: usize, to: usize, trigger: u16) -> Called
+pub fn find_order(rows: &[i32], orders: &[u16], from: usize, to: usize, trigger: u16) -> Called
     requires { ⌜ OrderPart (triggersIn (now orders)) (callsIn (now orders)) from to ⌝ }
     ensures { λ r. ⌜ r ≡ calledIn (now (rows .entry)) (firstOrder (isTrigger trigger) (slice from to (triggersIn (now (orders .entry)))) (slice from to (callsIn (now (orders .entry))))) ⌝ }
 {
@@ -243,14 +243,11 @@ fn find_start(k: u32, start: u32) -> u32
     start - 1
 }
 
-// What a trigger comes to. A called logic becomes active, and its start is called.
-fn find_press(numbers: &[i32], codes: &[u16], active: Active, trigger: u16, logic: Callee) -> Press
-    requires { ⌜ Slices (now numbers) (now codes) ⌝ }
-    requires { ⌜ logic ≡ logicFor (tablesIn (now numbers) (now codes)) (itself trigger) ⌝ }
-    requires { ⌜ ActiveReadable (tablesIn (now numbers) (now codes)) active ⌝ }
-    ensures { λ r. ⌜ struckBy r ≡ struck (tablesIn (now (numbers .entry)) (now (codes .entry))) active (itself trigger) ⌝ }
+// What comes of what is found. A called logic becomes active, and its start is called.
+fn press_found(rows: &[i32], active: Active, called: Called) -> Press
+    ensures { λ r. ⌜ struckBy r ≡ struckAs (now (rows .entry)) active called ⌝ }
 {
-    match find_called(numbers, codes, active, trigger, logic) {
+    match called {
         Called::Nothing => Press {
             active,
             called: Callee::Nothing,
@@ -260,7 +257,7 @@ fn find_press(numbers: &[i32], codes: &[u16], active: Active, trigger: u16, logi
             called: Callee::Row(k),
         },
         Called::Logic(k) => {
-            let n = decode::numbers_at(&numbers[0..TONES_AT], k as usize);
+            let n = decode::numbers_at(rows, k as usize);
             let start = decode::natural(n.second);
             Press {
                 active: Active::Logic(k),
@@ -343,6 +340,33 @@ fn make_call(
     }
 }
 
+// What is found is called, by a frame of this house; where that is nothing, the number is `unfound`.
+pub fn strike(
+    numbers: &[i32],
+    codes: &[u16],
+    desk: Desk,
+    house: u8,
+    found: Called,
+    unfound: u8,
+) -> Stepped
+    requires { ⌜ validDesk (tablesIn (now numbers) (now codes)) desk ≡ true ⌝ }
+    requires { ⌜ Within (tablesIn (now numbers) (now codes)) (struckIn (tablesIn (now numbers) (now codes)) desk found .calls) ⌝ }
+    ensures { λ r. ⌜ r ≡ struckLeaves (tablesIn (now (numbers .entry)) (now (codes .entry))) house desk (struckIn (tablesIn (now (numbers .entry)) (now (codes .entry))) desk found) unfound ⌝ }
+{
+    let before = desk.active;
+    let pressed = press_found(&numbers[0..TONES_AT], before, found);
+    let active = pressed.active;
+    let called = pressed.called;
+    make_call(
+        numbers,
+        codes,
+        desk.with_active(active),
+        house,
+        called,
+        unfound,
+    )
+}
+
 // What a trigger does, from a frame of this house. `logic` is the first logic with it; the number is `unfound` where nothing has it.
 pub fn trigger(
     numbers: &[i32],
@@ -357,16 +381,7 @@ pub fn trigger(
     requires { ⌜ logic ≡ logicFor (tablesIn (now numbers) (now codes)) (itself trigger) ⌝ }
     ensures { λ r. ⌜ r ≡ stepLeaves (triggered (tablesIn (now (numbers .entry)) (now (codes .entry))) house desk (itself trigger) unfound) ⌝ }
 {
-    let before = desk.active;
-    let found = find_press(numbers, codes, before, trigger, logic);
-    let active = found.active;
-    let called = found.called;
-    make_call(
-        numbers,
-        codes,
-        desk.with_active(active),
-        house,
-        called,
-        unfound,
-    )
+    let active = desk.active;
+    let found = find_called(numbers, codes, active, trigger, logic);
+    strike(numbers, codes, desk, house, found, unfound)
 }

@@ -34,6 +34,9 @@ enum-known-frame-2 c = search needs
 answer-dump-requires : tie.Need-answer-dump-requires
 answer-dump-requires c κs = search needs
 
+enum-told-3 : tie.Need-enum-told-3
+enum-told-3 c = search needs
+
 same-length : tie.Need-same-length
 same-length c = search needs
 
@@ -58,6 +61,9 @@ same-length-3 c = search needs
 returns-4 : tie.Need-returns-4
 returns-4 c = let r = c .before .before .answer-dump .ensures in tells _ (c .before .before .before .before .before .frame2 .given .1) (record { number = refl; size = r .0; buffer = r .1 })
 
+returns-5 : tie.Need-returns-5
+returns-5 c = tells _ (c .enum-told3 .given .1) (record { number = refl; size = refl; buffer = refl })
+
 pub tell-spec : {M : Type 1} → statement M
 tell-spec =
     tie.close
@@ -71,10 +77,12 @@ tell-spec =
     answer-key-requires
     enum-known-frame-2
     answer-dump-requires
+    enum-told-3
     same-length
     returns
     returns-2
     same-length-2
     returns-3
     same-length-3
-    returns-4)
+    returns-4
+    returns-5)

@@ -3,6 +3,7 @@ use mathlib.Core.Path.{ap}
 use borrow.Author.Needs.{needs}
 use Rattle.tuning.specs.declared.State.{State}
 use Rattle.protocol.specs.declared.Active.the-variants.{Nothing}
+use Rattle.keys.specs.Keys.{noKeys}
 use Rattle.protocol.specs.declared.Desk.{Desk}
 use Rattle.protocol.proofs.Desk.start.Statement.{statement}
 use Rattle.protocol.proofs.Desk.start.Tie as tie
@@ -10,9 +11,9 @@ use Rattle.protocol.proofs.Desk.start.Tie as tie
 start-requires : tie.Need-start-requires
 start-requires c κs = search needs
 
--- no logic active, at any tuning
+-- no logic active and no key held, at any tuning
 abbrev with-tuning : State → Desk
-with-tuning s = record { tuning = s; active = Nothing }
+with-tuning s = record { tuning = s; active = Nothing; keys = noKeys }
 
 returns : tie.Need-returns
 returns c = ap with-tuning (c .start .ensures)
