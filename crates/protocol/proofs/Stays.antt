@@ -1,5 +1,5 @@
 -- A right desk over valid tables stays right, whatever the stream: so 23 is never given after the start. Assumes nothing.
-use mathlib.Core.Path.{_≡_, refl, sym, subst}
+use mathlib.Core.Path.{_≡_, refl, subst}
 use mathlib.Core.Bool.{true, _&&_}
 use mathlib.Core.List.{List, [], _∷_}
 use mathlib.Core.Option.{Option, some, none}
@@ -22,7 +22,6 @@ use Rattle.validity.specs.Valid.{validTables}
 use Rattle.frames.specs.Frames.{Frame, bad, letter, key, dump, frameOf}
 use Rattle.answers.specs.Answer.{smallestBuffer}
 use Rattle.protocol.specs.declared.Active.{Active}
-use Rattle.protocol.specs.declared.Active.the-variants as active
 use Rattle.protocol.specs.declared.Desk.{Desk}
 use Rattle.protocol.specs.Triggers.{Sought, itself, actionAt, callsAs, called, struck}
 use Rattle.protocol.specs.Steps.{withActive, byAction, callOn, deskFrom, triggered}

@@ -16,7 +16,7 @@ use Rattle.tables.specs.Layout.{Tables}
 use Rattle.validity.specs.Valid.{validTables}
 use Rattle.frames.specs.Frames.{Frame, bad, letter, key, dump, frameOf, inside, isHouse, isKey, lastKey, decodedAs}
 use Rattle.frames.specs.declared.Decoded.{Decoded}
-use Rattle.frames.specs.declared.Decoded.the-variants.{Bad, Letter, Key, Dump}
+use Rattle.frames.specs.declared.Decoded.the-variants.{Letter}
 use Rattle.hexadecimal.specs.Lines.{lineOf}
 use Rattle.frames.proofs.Decoded as variants
 use Rattle.frames.proofs.Decoding.{letter-decoded}

@@ -52,9 +52,9 @@ enum Called {
 }
 
 // What a trigger comes to: the logic that is active then, and the declaration that is called.
-pub struct Press {
-    pub active: Active,
-    pub called: Callee,
+struct Press {
+    active: Active,
+    called: Callee,
 }
 
 // Whether a row is a logic with this trigger.
