@@ -25,7 +25,6 @@ use Rattle.validity.specs.Valid.{validTables}
 use Rattle.frames.specs.Frames.{Frame, bad, letter, key, dump, frameOf, move}
 use Rattle.answers.specs.Answer.{smallestBuffer}
 use Rattle.protocol.specs.declared.Active.{Active}
-use Rattle.protocol.specs.declared.Active.the-variants as active
 use Rattle.protocol.specs.declared.Desk.{Desk}
 use Rattle.protocol.specs.Triggers.{Sought, itself, actionAt, callsAs, called, struck, matching}
 use Rattle.protocol.specs.Steps.{withActive, withKeys, byAction, callOn, deskFrom, Step, triggered, chordOn, analysed, keyMoved, moveStep}

@@ -1,7 +1,7 @@
 -- What a frame does: the desk after it, the number, the calls that were made, and the answer's line. Document 01, "Frames", and "Numbers returned".
 use mathlib.Core.Path.{_≡_}
 use mathlib.Core.Bool.{Bool, true, cond, _&&_}
-use mathlib.Core.List.{List, [], _∷_}
+use mathlib.Core.List.{List, []}
 use Prim.Native.Nat.{ℕ}
 use lib.Dec.{ltb}
 use lib.IntN.{ℤ}

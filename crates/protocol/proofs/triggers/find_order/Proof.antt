@@ -1,6 +1,6 @@
 -- `protocol::triggers::find_order` meets its contract. The loop's invariant: from the present order on the same is found as from the first on.
 -- Assumes nothing.
-use mathlib.Core.Path.{_≡_, refl, sym, ap, _∙_}
+use mathlib.Core.Path.{_≡_, refl, sym, _∙_}
 use mathlib.Core.List.{List, [], _∷_}
 use Prim.Native.Nat.{ℕ, _-_, _≤_, _<_}
 use native.Mathlib.Omega.{arith}
@@ -10,7 +10,7 @@ use denote.Enum.Declared.{tagOf}
 use Rattle.tables.specs.Layout.{triggersIn, callsIn}
 use Rattle.protocol.specs.declared.triggers.Called.{Called}
 use Rattle.protocol.specs.declared.triggers.Called.the-variants.{Nothing, Logic, Other}
-use Rattle.protocol.specs.Inner.{isTrigger, partSize}
+use Rattle.protocol.specs.Inner.{isTrigger}
 use Rattle.protocol.proofs.Records.{Searching, searching-ends, searching-on, searching-found}
 use Rattle.protocol.proofs.triggers.Called as names
 use Rattle.protocol.proofs.triggers.find_order.Statement.{statement}
