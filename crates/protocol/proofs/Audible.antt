@@ -20,6 +20,7 @@ use Rattle.tables.specs.Values.{FieldsFit}
 use Rattle.validity.specs.Valid.{isCapital, validTables}
 use Rattle.validity.proofs.Laws.{valid-of, ValidRow, ValidTrigger, of-letter, of-harmony, row-valid, fields-fit, order-trigger}
 use Rattle.protocol.specs.Triggers.{firstOrder}
+use Rattle.protocol.proofs.Records.{past}
 use Rattle.protocol.specs.Inner.{isTrigger, firstOf, SetsFit, Audible, AudibleLogic, AudibleRows}
 
 -- ---- what can be read
@@ -69,8 +70,8 @@ none-passes p [] ks e = refl
 none-passes p (c ∷ cs) [] e = refl
 none-passes p (c ∷ cs) (k ∷ ks) e = go (p c) (none-passes p cs ks) e
   where
-    go : (b : Bool) → (firstOf p cs ≡ none → none ≡ firstOrder p cs ks) → elim b [ true ↦ some c | false ↦ firstOf p cs ] ≡ none
-        → none ≡ elim b [ true ↦ some k | false ↦ firstOrder p cs ks ]
+    go : (b : Bool) → (firstOf p cs ≡ none → none ≡ firstOrder p cs ks) → _≡_ {A = Option ℕ} (elim b [ true ↦ some c | false ↦ firstOf p cs ]) none
+        → _≡_ {A = Option ℕ} none (elim b [ true ↦ some k | false ↦ firstOrder p cs ks ])
     go true later q = absurd (Option·none-ne-some c (sym q))
     go false later q = later q
 
@@ -99,7 +100,9 @@ same-order p (x ∷ cs) (k ∷ ks) {c} e = go (p x) refl (same-order p cs ks) e
 
     go : (b : Bool) → p x ≡ b → (firstOf p cs ≡ some c → firstOrder (isTrigger c) cs ks ≡ firstOrder p cs ks)
         → elim b [ true ↦ some x | false ↦ firstOf p cs ] ≡ some c
-        → elim (isTrigger c x) [ true ↦ some k | false ↦ firstOrder (isTrigger c) cs ks ] ≡ elim b [ true ↦ some k | false ↦ firstOrder p cs ks ]
+        → _≡_ {A = Option ℕ}
+        (elim (isTrigger c x) [ true ↦ some k | false ↦ firstOrder (isTrigger c) cs ks ])
+        (elim b [ true ↦ some k | false ↦ firstOrder p cs ks ])
     go true h later q = rw (eq-eqb x c (Option·some-injective x c q))
     go false h later q = rw (ne-eqb x c (apart h)) (later q)
 
@@ -108,9 +111,13 @@ same-order p (x ∷ cs) (k ∷ ks) {c} e = go (p x) refl (same-order p cs ks) e
 module _ (p : ℕ → Bool) (triggers : List ℕ) (i n : ℕ) where
   pub sounds-here : {b : Bool} → i < n → n ≤ length triggers → b ≡ p (getD triggers i 0) → b ≡ true → some (getD triggers i 0) ≡ firstOf p (slice i n triggers)
   unfolding firstOf
-  sounds-here h k e f = rw (slice-cons i n triggers 0 h k, ← e, f)
+  sounds-here h k e f = rw (slice-cons i n triggers 0 h k, firstOf, ← e, f)
 
   pub sounds-on : {b : Bool} → i < n → n ≤ length triggers → b ≡ p (getD triggers i 0) → b ≡ false
       → firstOf p (slice (i + 1) n triggers) ≡ firstOf p (slice i n triggers)
   unfolding firstOf
-  sounds-on h k e f = rw (slice-cons i n triggers 0 h k, ← e, f, add-one i)
+  sounds-on h k e f = rw (slice-cons i n triggers 0 h k, firstOf, ← e, f, add-one i)
+
+  pub sounds-none : n ≤ i → none ≡ firstOf p (slice i n triggers)
+  unfolding firstOf
+  sounds-none h = rw (past triggers i n h)

@@ -74,7 +74,7 @@ move-kept t d n v way house k = let c = keyMoved way (d .keys) house k in go (eq
     go : (b : Bool) (m : ℕ) (h : HeldKeys)
         → (let s : Step = cond b (analysed t house (withKeys h d)) (record { desk = d; number = m; made = [] }) in s .number ≢ 0 → s .desk .tuning ≡ d .tuning)
     go true m h = step-kept t (withKeys h d) n v house done (matching (chordOn (withKeys h d)))
-    go false m h e = refl
+    go false m h = λ e. refl
 
 frame-kept : (t : Tables) (d : Desk) → length (d .tuning .tones) ≡ places → validState (d .tuning) ≡ true → (f : Frame)
     → frameOutcome t d f .number ≢ 0 → frameOutcome t d f .desk .tuning ≡ d .tuning

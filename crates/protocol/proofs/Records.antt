@@ -30,7 +30,7 @@ use Rattle.protocol.specs.Inner.{isTrigger, kindAt, isLogicKind, byKind,
 
 -- ---- gathering: where the loop begins, one turn of it, and its end
 
-past : {A : Type 0} (l : List A) (i n : ℕ) → n ≤ i → slice i n l ≡ []
+pub past : {A : Type 0} (l : List A) (i n : ℕ) → n ≤ i → slice i n l ≡ []
 past l i n h = let m : length (take n l) ≤ i = simp length-take (omega arith) in drop-of-length-le (take n l) m
 
 records-most : (rows : List ℤ) (cs ks : List ℕ) → length (recordsOf rows cs ks) ≤ length cs

@@ -34,8 +34,8 @@ trigger-requires c κs =
     let a = c .before .before in
     (ready-valid (lent a) (a .args .desk) (a .pre .0), a .pre .1)
 
-answer-letter-requires : tie.Need-answer-letter-requires
-answer-letter-requires c κs =
+answer-change-requires : tie.Need-answer-change-requires
+answer-change-requires c κs =
     let step = c .before .before .before in
     let a = step .before .before .before in
     (a .pre .0 .room, ap (λ (r : Stepped). validState (r .desk .tuning)) (step .trigger .ensures) ∙ right a .tuning .0)
@@ -48,7 +48,7 @@ returns c =
     let written = c .before .before in
     let step = written .before .before .before .before in
     let a = step .before .before .before in
-    let r = written .answer-letter .ensures in
+    let r = written .answer-change .ensures in
     let e = step .trigger .ensures in (
       gives (letter-gives (lent a) (a .args .desk) (a .args .house) (a .args .letter) e) (record { desk = refl; number = refl; size = r .0; buffer = r .1 }),
       ap (λ (q : Stepped). validDesk (lent a) (q .desk)) e ∙ right-valid (lent a) (a .pre .0 .tables) _ (right a),
@@ -56,4 +56,4 @@ returns c =
 
 pub answer-letter-spec : {M : Type 1} → statement M
 answer-letter-spec =
-    tie.close (tie.spec trigger-requires answer-letter-requires same-length returns)
+    tie.close (tie.spec trigger-requires answer-change-requires same-length returns)

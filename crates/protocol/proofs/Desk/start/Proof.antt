@@ -1,5 +1,6 @@
 -- `protocol::Desk::start` meets its contract. Assumes nothing.
-use mathlib.Core.Path.{ap}
+use mathlib.Core.Path.{ap, _∙_}
+use Rattle.keys.specs.declared.HeldKeys.{HeldKeys}
 use borrow.Author.Needs.{needs}
 use Rattle.tuning.specs.declared.State.{State}
 use Rattle.protocol.specs.declared.Active.the-variants.{Nothing}
@@ -15,8 +16,11 @@ start-requires c κs = search needs
 abbrev with-tuning : State → Desk
 with-tuning s = record { tuning = s; active = Nothing; keys = noKeys }
 
+none-requires : tie.Need-none-requires
+none-requires c κs = search needs
+
 returns : tie.Need-returns
-returns c = ap with-tuning (c .start .ensures)
+returns c = ap (λ (h : HeldKeys). record { tuning = c .before .start .result; active = Nothing; keys = h }) (c .none .ensures) ∙ ap with-tuning (c .before .start .ensures)
 
 pub start-spec : {M : Type 1} → statement M
-start-spec = tie.close (tie.spec start-requires returns)
+start-spec = tie.close (tie.spec start-requires none-requires returns)

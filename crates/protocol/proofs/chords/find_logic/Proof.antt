@@ -1,46 +1,58 @@
+-- `protocol::chords::find_logic` meets its contract. The loop's invariant: what is found from the present row on is what is found from the first.
+-- Assumes nothing.
+use mathlib.Core.Path.{_≡_, ap, _∙_}
+use Prim.Native.Nat.{_-_}
+use native.Mathlib.Nat.{sub-zero}
+use Rattle.protocol.specs.Triggers.{firstLogic}
+use Rattle.protocol.specs.Inner.{found, soundsIn}
+use Rattle.protocol.proofs.Searches.{logic-here, logic-on, logic-none}
+use borrow.Author.Needs.{needs}
 use Rattle.protocol.proofs.chords.find_logic.Statement.{statement}
 use Rattle.protocol.proofs.chords.find_logic.Tie as tie
-use Rattle.protocol.proofs.chords.find_logic.Reads as reads
-use Rattle.protocol.proofs.chords.find_logic.Lts as lts
-use Rattle.protocol.proofs.chords.is_sounding_logic.Reads as is-sounding-logic-reads
 
 abbrev Inv-loop : tie.InvT-loop
-Inv-loop rows count chord i₀ i = ?
+Inv-loop rows count chord i₀ i = firstLogic rows (soundsIn rows chord) i (count - i) ≡ firstLogic rows (soundsIn rows chord) 0 count
 
 abbrev μ-loop : tie.MeasureT-loop
-μ-loop rows count chord i₀ i = ?
+μ-loop rows count chord i₀ i = count - i
 
--- src/chords.rt:94:5
 loop-holds : tie.Need-loop-holds Inv-loop μ-loop
-loop-holds c = ?
+loop-holds c = ap (firstLogic (c .args .rows .now) (soundsIn (c .args .rows .now) (c .args .chord)) 0) (sub-zero (c .args .count))
 
--- src/chords.rt:95:36
 cast-is-sounding-logic : tie.Need-cast-is-sounding-logic Inv-loop μ-loop
-cast-is-sounding-logic c = ?
+cast-is-sounding-logic c = search needs
 
--- src/chords.rt:95:12
 is-sounding-logic-requires : tie.Need-is-sounding-logic-requires Inv-loop μ-loop
-is-sounding-logic-requires c κs = ?
+is-sounding-logic-requires c κs =
+    let a = c .before .before in
+    let i = c .before .loop .i in
+    (a .pre .0 .fields i (c .loop-test .taken), (a .pre .0 .triggers i (c .loop-test .taken), a .pre .1))
 
--- src/chords.rt:96:13
 returns : tie.Need-returns Inv-loop μ-loop
-returns c = ?
+returns c =
+    let turn = c .before .before in
+    let l = turn .before in
+    let a = l .before .args in
+    ap found (logic-here (a .rows .now) (soundsIn (a .rows .now) (a .chord)) (l .loop .i) (a .count) (turn .loop-test .taken) (c .before .is-sounding-logic .ensures) (c .if1 .taken) ∙ l .loop .inv)
 
--- src/chords.rt:94:9
 add-i : tie.Need-add-i Inv-loop μ-loop
-add-i c = ?
+add-i c = search needs
 
--- src/chords.rt:94:5
 loop-less : tie.Need-loop-less Inv-loop μ-loop
-loop-less c = ?
+loop-less c = search needs
 
--- src/chords.rt:94:5
 loop-again : tie.Need-loop-again Inv-loop μ-loop
-loop-again c = ?
+loop-again c =
+    let turn = c .before .before in
+    let l = turn .before in
+    let a = l .before .args in
+    logic-on (a .rows .now) (soundsIn (a .rows .now) (a .chord)) (l .loop .i) (a .count) (turn .loop-test .taken) (c .before .is-sounding-logic .ensures) (c .if1 .left) ∙ l .loop .inv
 
--- src/chords.rt:89:1
 returns-2 : tie.Need-returns-2 Inv-loop μ-loop
-returns-2 c = ?
+returns-2 c =
+    let l = c .before in
+    let a = l .before .args in
+    ap found (logic-none (a .rows .now) (soundsIn (a .rows .now) (a .chord)) (l .loop .i) (a .count) (c .loop-test .left) ∙ l .loop .inv)
 
 pub find-logic-spec : {M : Type 1} → statement M
 find-logic-spec =

@@ -37,13 +37,17 @@ find-start-requires : tie.Need-find-start-requires
 find-start-requires c κs = search needs
 
 returns : tie.Need-returns
-returns c = ?
+returns c = rw (c .enum-told .given .1)
 
 returns-2 : tie.Need-returns-2
-returns-2 c = ?
+returns-2 c = rw (c .before .called .given .1)
 
 returns-3 : tie.Need-returns-3
-returns-3 c = ?
+returns-3 c = let f : SFits w32 (c .before .before .before .numbers-at .result .second) = search needs in
+    let k = c .before .before .before .before .before .called2 .given .0 .0 in
+    let start = simp toZ-ofZ at (c .before .natural .ensures) ∙ ap (λ (n : Numbers). up (n .second)) (c .before .before .before .numbers-at .ensures) in
+    rw (c .before .before .before .before .before .called2 .given .1)
+    (ap (λ (l : List ℕ). record { active = active.Logic k; calls = l }) (c .find-start .ensures ∙ ap (startCalls k) start))
 
 pub press-found-spec : {M : Type 1} → statement M
 press-found-spec =
