@@ -1,6 +1,6 @@
 -- The tables of case S: its rows, tones and orders, read back from the tables.
 use mathlib.Core.Path.{_≡_, refl}
-use mathlib.Core.List.{List, [], _∷_}
+use mathlib.Core.List.{[], _∷_}
 use lib.Count.{leadingZeros}
 use lib.IntN.{pos}
 use lib.ListN.{take}

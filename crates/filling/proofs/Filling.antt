@@ -16,7 +16,7 @@ use Rattle.tables.proofs.Stored.{full-none, rows-next}
 use Rattle.program.specs.Program.{Declaration, Placed, Program}
 use Rattle.program.specs.Meaning.{nothing, declarationAt}
 use Rattle.filling.specs.Tables.{tonesOf, changesOf, ordersOf, Filled, filledFrom, laidOut}
-use Rattle.filling.specs.Inner.{letterOf, callOf, rowAfter, Lists, listed, counted, Added, blank}
+use Rattle.filling.specs.Inner.{triggerOf, callOf, rowAfter, Lists, listed, counted, Added, blank}
 use Rattle.filling.proofs.Totals.{Within}
 
 -- ---- a list stored after those that a table has
@@ -38,7 +38,7 @@ laidLists f = record {
   tones = full (pos 0) mostTones (map pitchOf (f .tones));
   kinds = full 0 mostChanges (map changeCode (f .changes));
   changes = full (pos 0) mostChanges (map changeNumber (f .changes));
-  triggers = full 0 mostOrders (map letterOf (f .orders));
+  triggers = full 0 mostOrders (map triggerOf (f .orders));
   calls = full 0 mostOrders (map callOf (f .orders));
 }
 
@@ -73,7 +73,7 @@ lists-more value used d f t c o x y z =
     (many-stored pitchOf (pos 0) mostTones (f .tones) (tonesOf value d) (used .tones) t x)
     (many-stored changeCode 0 mostChanges (f .changes) (changesOf value d) (used .changes) c y)
     (many-stored changeNumber (pos 0) mostChanges (f .changes) (changesOf value d) (used .changes) c y)
-    (many-stored letterOf 0 mostOrders (f .orders) (ordersOf d) (used .orders) o z)
+    (many-stored triggerOf 0 mostOrders (f .orders) (ordersOf d) (used .orders) o z)
     (many-stored callOf 0 mostOrders (f .orders) (ordersOf d) (used .orders) o z)
 
 joined-more : (value : ℕ → ℤ) (used : Counts) (x : Placed) (ds : Program) (f : Filled)

@@ -1,5 +1,5 @@
 -- The declarations of a program that keeps document 01's limits can be written, with the values of the program. Assumes nothing.
-use mathlib.Core.Path.{_≡_, refl, sym, _∙_, ap}
+use mathlib.Core.Path.{_≡_, refl}
 use mathlib.Core.List.{List, [], _∷_, map}
 use mathlib.Core.Option.{Option, some, none}
 use Prim.Native.Nat.{ℕ, suc, _+_, _≤_, _<_, _^_}
@@ -11,15 +11,13 @@ use Rattle.tuning.specs.declared.Amount.{Amount}
 use Rattle.tuning.specs.declared.Amount.the-variants.{Kept, Absolute, Relative}
 use Rattle.values.specs.Values.{Term}
 use Rattle.values.specs.Rows.{rows}
-use Rattle.tables.specs.declared.Row.the-variants as row
 use Rattle.tables.specs.Layout.{amountNumber}
-use Rattle.program.specs.Program.{Declaration, ratio, root, sequence, frequency, from, system, anchor, width, freshPeriod, onwardPeriod, tones, logic, Placed, Program, Position, mute, kept, named, Order}
+use Rattle.program.specs.Program.{Declaration, ratio, root, sequence, frequency, from, system, anchor, width, freshPeriod, onwardPeriod, tones, logic, harmony, Placed, Program, Position, mute, kept, named, Trigger, byLetter, byHarmony, Order}
 use Rattle.program.specs.Allowed as allowed
-use Rattle.program.specs.Allowed.{Each, Terms, AnchorAmount, WidthAmount, FitStart, Fits}
-use Rattle.filling.specs.Tables.{sumOf, toneOf, tonesOf, changeOf, changesOf, ordersOf, rowOf, filledFrom}
+use Rattle.program.specs.Allowed.{Each, Terms, AnchorAmount, WidthAmount, FitStart, FitTrigger, Fits}
+use Rattle.filling.specs.Tables.{sumOf, toneOf, tonesOf, changeOf, changesOf, ordersOf, triggerCode, rowOf, filledFrom}
 use Rattle.filling.specs.Inner.{Valued, calledBy, FitValue, FitTerm, Summable, FitSystemPosition, FitPosition, FitOrder, FitParts}
 use Rattle.filling.proofs.Each.{each-map}
-use Rattle.filling.proofs.Forms.{start-any}
 
 -- ---- what is required of a declaration
 
@@ -62,8 +60,12 @@ module _ {p : Program} {values : List ℤ} (v : Valued p values) (few : length p
   start-fit none h = omega arith
   start-fit (some k) h = omega (arith, h .within)
 
+  trigger-fit : (x : Trigger) → FitTrigger p x → triggerCode x < 2 ^ 16
+  trigger-fit (byLetter c) h = omega (arith, h .most)
+  trigger-fit (byHarmony k) h = omega (arith, h .within)
+
   order-fit : (o : Order) → allowed.FitOrder p o → FitOrder o
-  order-fit o h = record { letter = omega (arith, h .letter .most); calls = omega (arith, h .calls .within) }
+  order-fit o h = record { trigger = trigger-fit (o .trigger) (h .trigger); calls = omega (arith, h .calls .within) }
 
   pub fit-parts : (d : Declaration) → Fits p d → FitParts values d
   fit-parts (ratio a b) h = tt
@@ -77,7 +79,8 @@ module _ {p : Program} {values : List ℤ} (v : Valued p values) (few : length p
   fit-parts (freshPeriod ts) h = terms-fit h
   fit-parts (onwardPeriod ts) h = terms-fit h
   fit-parts (tones l) h = each-map position-fit l (h .each)
-  fit-parts (logic c s os) h = record { letter = omega (arith, h .letter .most); start = start-fit s (h .start); orders = each-map order-fit os (h .orders) }
+  fit-parts (logic x s os) h = record { trigger = trigger-fit x (h .trigger); start = start-fit s (h .start); orders = each-map order-fit os (h .orders) }
+  fit-parts (harmony ks) h = h .each
 
 -- ---- two values that are the same for the declarations of the program
 
@@ -113,6 +116,7 @@ module _ (p : Program) (v w : ℕ → ℤ) (agree : (k : ℕ) → k < length p �
   tones-same (onwardPeriod ts) h = refl
   tones-same (tones l) h = refl
   tones-same (logic c s os) h = refl
+  tones-same (harmony ks) h = refl
 
   changes-same : (d : Declaration) → Fits p d → changesOf v d ≡ changesOf w d
   changes-same (ratio a b) h = refl
@@ -127,6 +131,7 @@ module _ (p : Program) (v w : ℕ → ℤ) (agree : (k : ℕ) → k < length p �
   changes-same (onwardPeriod ts) h = refl
   changes-same (tones l) h = all-same l (h .each)
   changes-same (logic c s os) h = refl
+  changes-same (harmony ks) h = refl
 
   row-same : (i t c o : ℕ) (d : Declaration) → i < length p → Fits p d → rowOf v i t c o d ≡ rowOf w i t c o d
   row-same i t c o (ratio a b) k h = rw (agree i k)
@@ -140,8 +145,8 @@ module _ (p : Program) (v w : ℕ → ℤ) (agree : (k : ℕ) → k < length p �
   row-same i t c o (freshPeriod ts) k h = rw (sum-same ts (h .each))
   row-same i t c o (onwardPeriod ts) k h = rw (sum-same ts (h .each))
   row-same i t c o (tones l) k h = refl
-  row-same i t c o (logic letter s os) k h =
-      ap (λ (n : ℕ). row.Logic letter n o (o + length os)) (sym (start-any v s) ∙ start-any w s)
+  row-same i t c o (logic x s os) k h = refl
+  row-same i t c o (harmony ks) k h = refl
 
   pub filled-same : (i t c o : ℕ) (ds : Program) → i + length ds ≤ length p → Each (λ (d : Placed). Fits p (d .is)) ds → filledFrom v i t c o ds ≡ filledFrom w i t c o ds
   unfolding filledFrom

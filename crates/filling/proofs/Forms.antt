@@ -6,7 +6,6 @@ use mathlib.Core.Option.{Option, some, none}
 use Prim.Native.Nat.{ℕ, _+_, _≤_, _<_}
 use types.Run.{OneOf, miss}
 use lib.IntN.{ℤ}
-use lib.ListN.{length}
 use Rattle.grammar.specs.declared.Item.{Item}
 use Rattle.grammar.specs.declared.Item.the-variants as item
 use Rattle.grammar.specs.Items.{itemAt}
@@ -18,11 +17,12 @@ use Rattle.tables.specs.Layout.{soundingOf, pitchOf, changeCode, changeNumber}
 use Rattle.tables.specs.declared.Counts.{Counts}
 use Rattle.tables.specs.declared.Row.{Row}
 use Rattle.tables.specs.declared.Row.the-variants as row
-use Rattle.program.specs.Program.{Declaration, declarationOf, periodBy, periodOf, termThen, freshPeriod, onwardPeriod, termsOf, system, tones, logic, Position, Order, grouped}
+use Rattle.program.specs.Program.{Declaration, declarationOf, periodBy, periodOf, termThen, freshPeriod, onwardPeriod, termsOf, system, tones, logic, harmony, Position, Trigger, Order, asListed, grouped, startOf, ordersOf, keysOf}
+use Rattle.harmonies.specs.Harmonies.{HarmonyKey}
 use Rattle.valuation.specs.Inner.{itemsBetween}
-use Rattle.filling.specs.Tables.{tonesOf, changesOf, startCode, rowOf}
-use Rattle.filling.specs.Inner.{valueIn, letterOf, callOf, calledBy, begins, Summable, FitParts, Stored, rowAfter, plainRow, Lists, listed, Rowed}
-use Rattle.filling.proofs.Inside.{tag, Inside, add, subtract, muted, kept, tone, letter, start, order, outside, no-begin}
+use Rattle.filling.specs.Tables.{tonesOf, changesOf, rowOf}
+use Rattle.filling.specs.Inner.{valueIn, triggerOf, callOf, asTrigger, begins, Summable, FitParts, Stored, rowAfter, plainRow, Lists, listed, Rowed}
+use Rattle.filling.proofs.Inside.{tag, Inside, add, subtract, muted, kept, tone, letter, start, order, trigger, key, starred, outside, no-begin, some-or-none, some-same}
 use Rattle.valuation.proofs.Between.{between-none}
 use Rattle.filling.proofs.Items.{item-next}
 
@@ -36,7 +36,7 @@ pub record Plain (values : List ℤ) (used : Counts) (i : Item) (rest : List Ite
 
 -- no tone, no anchor and no width: the row is an interval's
 abbrev pub intervals : List ℕ
-intervals = 0 ∷ 1 ∷ 2 ∷ 3 ∷ 4 ∷ 7 ∷ 8 ∷ 9 ∷ 10 ∷ 21 ∷ 22 ∷ 23 ∷ 24 ∷ 25 ∷ []
+intervals = 0 ∷ 1 ∷ 2 ∷ 3 ∷ 4 ∷ 7 ∷ 8 ∷ 9 ∷ 10 ∷ 21 ∷ 22 ∷ 23 ∷ 24 ∷ 25 ∷ 26 ∷ 27 ∷ 28 ∷ []
 
 pub as-interval : (z : ℤ) (i : Item) → OneOf intervals (tag i) → row.Interval (record { 0 = z }) ≡ plainRow z (declarationOf (i ∷ []))
 as-interval z (item.Declared a b) h = refl
@@ -65,10 +65,13 @@ as-interval z item.Onward h = refl
 as-interval z (item.Letter a) h = refl
 as-interval z (item.Start a) h = refl
 as-interval z (item.Order a) h = refl
+as-interval z (item.Trigger a) h = refl
+as-interval z (item.Key a) h = refl
+as-interval z (item.StarredKey a) h = refl
 
 -- `[ ]` and no `@`: the period is a new one
 abbrev pub noOnward : List ℕ
-noOnward = 0 ∷ 1 ∷ 2 ∷ 3 ∷ 4 ∷ 5 ∷ 6 ∷ 7 ∷ 8 ∷ 9 ∷ 10 ∷ 11 ∷ 12 ∷ 13 ∷ 14 ∷ 15 ∷ 16 ∷ 17 ∷ 18 ∷ 19 ∷ 20 ∷ 21 ∷ 23 ∷ 24 ∷ 25 ∷ []
+noOnward = 0 ∷ 1 ∷ 2 ∷ 3 ∷ 4 ∷ 5 ∷ 6 ∷ 7 ∷ 8 ∷ 9 ∷ 10 ∷ 11 ∷ 12 ∷ 13 ∷ 14 ∷ 15 ∷ 16 ∷ 17 ∷ 18 ∷ 19 ∷ 20 ∷ 21 ∷ 23 ∷ 24 ∷ 25 ∷ 26 ∷ 27 ∷ 28 ∷ []
 
 pub as-fresh : (i : Item) → OneOf noOnward (tag i) → (rest : List Item) → periodOf (i ∷ rest) ≡ freshPeriod (termsOf (i ∷ rest))
 as-fresh (item.Declared a b) h rest = refl
@@ -97,38 +100,45 @@ as-fresh item.Onward h rest = absurd (miss noOnward 22 tt h)
 as-fresh (item.Letter a) h rest = refl
 as-fresh (item.Start a) h rest = refl
 as-fresh (item.Order a) h rest = refl
+as-fresh (item.Trigger a) h rest = refl
+as-fresh (item.Key a) h rest = refl
+as-fresh (item.StarredKey a) h rest = refl
 
--- no list and no sum
+-- no list and no sum, where it is no position and no trigger
 abbrev pub plains : List ℕ
-plains = 0 ∷ 1 ∷ 2 ∷ 3 ∷ 4 ∷ 5 ∷ 6 ∷ 8 ∷ 9 ∷ 10 ∷ 11 ∷ 12 ∷ 13 ∷ 14 ∷ 15 ∷ 16 ∷ 17 ∷ 18 ∷ 19 ∷ 20 ∷ 24 ∷ 25 ∷ []
+plains = 0 ∷ 1 ∷ 2 ∷ 3 ∷ 4 ∷ 5 ∷ 6 ∷ 8 ∷ 9 ∷ 10 ∷ 11 ∷ 12 ∷ 13 ∷ 14 ∷ 15 ∷ 16 ∷ 17 ∷ 18 ∷ 19 ∷ 20 ∷ 23 ∷ 24 ∷ 25 ∷ 26 ∷ []
 
-pub as-plain : (values : List ℤ) (used : Counts) (i : Item) → OneOf plains (tag i) → begins (part i) ≡ false → (rest : List Item) → Plain values used i rest
-as-plain values used (item.Declared a b) h e rest = record { row = refl; lists = λ l. refl; fit = λ f. f }
-as-plain values used (item.Ratio a b) h e rest = record { row = refl; lists = λ l. refl; fit = λ f. f }
-as-plain values used (item.Root a b) h e rest = record { row = refl; lists = λ l. refl; fit = λ f. f }
-as-plain values used (item.Add a b) h e rest = record { row = refl; lists = λ l. refl; fit = λ f. f }
-as-plain values used (item.Subtract a b) h e rest = record { row = refl; lists = λ l. refl; fit = λ f. f }
-as-plain values used (item.Frequency a) h e rest = record { row = refl; lists = λ l. refl; fit = λ f. f }
-as-plain values used (item.Base a) h e rest = record { row = refl; lists = λ l. refl; fit = λ f. f }
-as-plain values used (item.AnchorKey a) h e rest = absurd (miss plains 7 tt h)
-as-plain values used item.MutedPosition h e rest = absurd (clash refl e)
-as-plain values used item.KeptPosition h e rest = absurd (clash refl e)
-as-plain values used (item.TonePosition a) h e rest = absurd (clash refl e)
-as-plain values used item.AnchorKept h e rest = record { row = refl; lists = λ l. refl; fit = λ f. f }
-as-plain values used (item.AnchorTo a) h e rest = record { row = refl; lists = λ l. refl; fit = λ f. f }
-as-plain values used (item.AnchorUp a) h e rest = record { row = refl; lists = λ l. refl; fit = λ f. f }
-as-plain values used (item.AnchorDown a) h e rest = record { row = refl; lists = λ l. refl; fit = λ f. f }
-as-plain values used item.WidthKept h e rest = record { row = refl; lists = λ l. refl; fit = λ f. f }
-as-plain values used (item.WidthTo a) h e rest = record { row = refl; lists = λ l. refl; fit = λ f. f }
-as-plain values used (item.WidthUp a) h e rest = record { row = refl; lists = λ l. refl; fit = λ f. f }
-as-plain values used (item.WidthDown a) h e rest = record { row = refl; lists = λ l. refl; fit = λ f. f }
-as-plain values used (item.WidthTimes a) h e rest = record { row = refl; lists = λ l. refl; fit = λ f. f }
-as-plain values used (item.WidthOver a) h e rest = record { row = refl; lists = λ l. refl; fit = λ f. f }
-as-plain values used item.Period h e rest = absurd (miss plains 21 tt h)
-as-plain values used item.Onward h e rest = absurd (miss plains 22 tt h)
-as-plain values used (item.Letter a) h e rest = absurd (miss plains 23 tt h)
-as-plain values used (item.Start a) h e rest = record { row = refl; lists = λ l. refl; fit = λ f. f }
-as-plain values used (item.Order a) h e rest = record { row = refl; lists = λ l. refl; fit = λ f. f }
+pub as-plain : (values : List ℤ) (used : Counts) (i : Item) → OneOf plains (tag i) → begins (part i) ≡ false → asTrigger (asListed (part i)) ≡ none → (rest : List Item)
+    → Plain values used i rest
+as-plain values used (item.Declared a b) h e n rest = record { row = refl; lists = λ l. refl; fit = λ f. f }
+as-plain values used (item.Ratio a b) h e n rest = record { row = refl; lists = λ l. refl; fit = λ f. f }
+as-plain values used (item.Root a b) h e n rest = record { row = refl; lists = λ l. refl; fit = λ f. f }
+as-plain values used (item.Add a b) h e n rest = record { row = refl; lists = λ l. refl; fit = λ f. f }
+as-plain values used (item.Subtract a b) h e n rest = record { row = refl; lists = λ l. refl; fit = λ f. f }
+as-plain values used (item.Frequency a) h e n rest = record { row = refl; lists = λ l. refl; fit = λ f. f }
+as-plain values used (item.Base a) h e n rest = record { row = refl; lists = λ l. refl; fit = λ f. f }
+as-plain values used (item.AnchorKey a) h e n rest = absurd (miss plains 7 tt h)
+as-plain values used item.MutedPosition h e n rest = absurd (clash refl e)
+as-plain values used item.KeptPosition h e n rest = absurd (clash refl e)
+as-plain values used (item.TonePosition a) h e n rest = absurd (clash refl e)
+as-plain values used item.AnchorKept h e n rest = record { row = refl; lists = λ l. refl; fit = λ f. f }
+as-plain values used (item.AnchorTo a) h e n rest = record { row = refl; lists = λ l. refl; fit = λ f. f }
+as-plain values used (item.AnchorUp a) h e n rest = record { row = refl; lists = λ l. refl; fit = λ f. f }
+as-plain values used (item.AnchorDown a) h e n rest = record { row = refl; lists = λ l. refl; fit = λ f. f }
+as-plain values used item.WidthKept h e n rest = record { row = refl; lists = λ l. refl; fit = λ f. f }
+as-plain values used (item.WidthTo a) h e n rest = record { row = refl; lists = λ l. refl; fit = λ f. f }
+as-plain values used (item.WidthUp a) h e n rest = record { row = refl; lists = λ l. refl; fit = λ f. f }
+as-plain values used (item.WidthDown a) h e n rest = record { row = refl; lists = λ l. refl; fit = λ f. f }
+as-plain values used (item.WidthTimes a) h e n rest = record { row = refl; lists = λ l. refl; fit = λ f. f }
+as-plain values used (item.WidthOver a) h e n rest = record { row = refl; lists = λ l. refl; fit = λ f. f }
+as-plain values used item.Period h e n rest = absurd (miss plains 21 tt h)
+as-plain values used item.Onward h e n rest = absurd (miss plains 22 tt h)
+as-plain values used (item.Letter a) h e n rest = absurd (some-or-none n)
+as-plain values used (item.Start a) h e n rest = record { row = refl; lists = λ l. refl; fit = λ f. f }
+as-plain values used (item.Order a) h e n rest = record { row = refl; lists = λ l. refl; fit = λ f. f }
+as-plain values used (item.Trigger a) h e n rest = absurd (some-or-none n)
+as-plain values used (item.Key a) h e n rest = absurd (miss plains 27 tt h)
+as-plain values used (item.StarredKey a) h e n rest = absurd (miss plains 28 tt h)
 
 -- ---- positions
 
@@ -141,7 +151,37 @@ as-tones tone e rest = refl
 as-tones start e rest = absurd (clash e refl)
 as-tones letter e rest = absurd (clash e refl)
 as-tones order e rest = absurd (clash e refl)
-as-tones (outside o) e rest = absurd (clash e (no-begin o))
+as-tones trigger e rest = absurd (clash e refl)
+as-tones key e rest = absurd (clash e refl)
+as-tones starred e rest = absurd (clash e refl)
+as-tones {i} (outside o) e rest = absurd (clash e (no-begin i o))
+
+-- ---- triggers
+
+pub as-logic : {i : Item} → Inside i → {x : Trigger} → asTrigger (asListed (part i)) ≡ some x → (rest : List Item)
+    → declarationOf (i ∷ rest) ≡ logic x (startOf rest) (ordersOf rest)
+as-logic add e rest = absurd (some-or-none (sym e))
+as-logic subtract e rest = absurd (some-or-none (sym e))
+as-logic muted e rest = absurd (some-or-none (sym e))
+as-logic kept e rest = absurd (some-or-none (sym e))
+as-logic tone e rest = absurd (some-or-none (sym e))
+as-logic letter e rest = ap (λ (y : Trigger). logic y (startOf rest) (ordersOf rest)) (some-same e)
+as-logic start e rest = absurd (some-or-none (sym e))
+as-logic order e rest = absurd (some-or-none (sym e))
+as-logic trigger e rest = ap (λ (y : Trigger). logic y (startOf rest) (ordersOf rest)) (some-same e)
+as-logic key e rest = absurd (some-or-none (sym e))
+as-logic starred e rest = absurd (some-or-none (sym e))
+as-logic (outside o) e rest = absurd (some-or-none (sym e ∙ ap asTrigger o))
+
+-- ---- keys
+
+pub plain-first : (v : ℕ) (rest : List Item) → declarationOf (item.Key v ∷ rest) ≡ harmony (keysOf (item.Key v ∷ rest))
+unfolding keysOf
+plain-first v rest = refl
+
+pub starred-first : (v : ℕ) (rest : List Item) → declarationOf (item.StarredKey v ∷ rest) ≡ harmony (keysOf (item.StarredKey v ∷ rest))
+unfolding keysOf
+starred-first v rest = refl
 
 -- ---- periods: a new one, or onto the old one, by the first item after `[ ]`
 
@@ -187,11 +227,6 @@ module _ (l : List ℕ) (i to : ℕ) where
 
 -- ---- the row with what belongs to it, stored in two of the tables
 
--- no value matters for a start
-pub start-any : (value : ℕ → ℤ) (s : Option ℕ) → calledBy s ≡ startCode s
-start-any value none = refl
-start-any value (some k) = refl
-
 module _ {value : ℕ → ℤ} {used : Counts} {r : Row} {l : Lists} where
   -- what is shown of a declaration holds of an equal one
   pub rowed-as : {d e : Declaration} {after : Lists} → d ≡ e → Rowed value used e l r after → Rowed value used d l r after
@@ -207,13 +242,13 @@ module _ {value : ℕ → ℤ} {used : Counts} {r : Row} {l : Lists} where
       → Rowed value used (tones ps) l r (record { sounding = l .sounding; tones = l .tones; kinds = k; changes = c; triggers = l .triggers; calls = l .calls })
   tones-rowed e h = record { row = e; lists = rw (h .first, h .second) }
 
-  pub logic-rowed : {c : ℕ} {s : Option ℕ} {os : List Order} {x y : List ℕ} → r ≡ row.Logic c (calledBy s) (used .orders) (used .orders + length os)
-      → Stored letterOf callOf os (used .orders) (l .triggers) (l .calls) x y
+  pub logic-rowed : {c : Trigger} {s : Option ℕ} {os : List Order} {x y : List ℕ} → r ≡ rowAfter value used (logic c s os)
+      → Stored triggerOf callOf os (used .orders) (l .triggers) (l .calls) x y
       → Rowed value used (logic c s os) l r (record { sounding = l .sounding; tones = l .tones; kinds = l .kinds; changes = l .changes; triggers = x; calls = y })
-  logic-rowed {c} {s} {os} e h = record {
-    row = e ∙ ap (λ (n : ℕ). row.Logic c n (used .orders) (used .orders + length os)) (start-any value s);
-    lists = rw (h .first, h .second);
-  }
+  logic-rowed e h = record { row = e; lists = rw (h .first, h .second) }
+
+  pub harmony-rowed : {ks : List HarmonyKey} → r ≡ rowAfter value used (harmony ks) → Rowed value used (harmony ks) l r l
+  harmony-rowed e = record { row = e; lists = refl }
 
   pub period-rowed : {is : List Item} → PeriodForm is → r ≡ rowOf value 0 0 0 0 (periodOf is) → Rowed value used (periodOf is) l r l
   period-rowed (fresh q) e = record { row = e ∙ rw q; lists = rw q }

@@ -12,7 +12,7 @@ use Rattle.values.proofs.Cases.{clash}
 use Rattle.program.specs.Program.{Grouped, termThen, groupThen, grouped}
 use Rattle.valuation.specs.Inner.{itemsBetween}
 use Rattle.filling.specs.Inner.{begins, positionBy, positionAt}
-use Rattle.filling.proofs.Inside.{Inside, add, subtract, muted, kept, tone, letter, start, order, outside, inside, no-begin}
+use Rattle.filling.proofs.Inside.{Inside, add, subtract, muted, kept, tone, letter, start, order, trigger, key, starred, outside, inside, no-begin}
 use Rattle.filling.proofs.Items.{termsFrom, terms-end, terms-next, groups-end, groups-next}
 
 before-none : {i : Item} → Inside i → (g : Grouped) → begins (part i) ≡ true → groupThen (part i) g .before ≡ []
@@ -24,7 +24,10 @@ before-none tone g e = refl
 before-none letter g e = absurd (clash e refl)
 before-none start g e = absurd (clash e refl)
 before-none order g e = absurd (clash e refl)
-before-none (outside o) g e = absurd (clash e (no-begin o))
+before-none trigger g e = absurd (clash e refl)
+before-none key g e = absurd (clash e refl)
+before-none starred g e = absurd (clash e refl)
+before-none {i} (outside o) g e = absurd (clash e (no-begin i o))
 
 before-first : {i : Item} → Inside i → (g : Grouped) → begins (part i) ≡ false → groupThen (part i) g .before ≡ termThen (part i) [] ++ g .before
 before-first add g e = refl
@@ -35,8 +38,10 @@ before-first tone g e = absurd (clash refl e)
 before-first letter g e = refl
 before-first start g e = refl
 before-first order g e = refl
-before-first (outside o) g e =
-    ap (λ (h : Grouped). h .before) (o .group g) ∙ ap (λ (ts : List Term). ts ++ g .before) (sym (o .term []))
+before-first trigger g e = refl
+before-first key g e = refl
+before-first starred g e = refl
+before-first (outside o) g e = rw o
 
 abbrev beforeIn : List ℕ → ℕ → ℕ → List Term
 beforeIn l i to = grouped (itemsBetween l i to) .before

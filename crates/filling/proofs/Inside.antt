@@ -4,6 +4,7 @@ use mathlib.Core.Bool.{false}
 use mathlib.Core.List.{List, [], _∷_}
 use mathlib.Core.Option.{Option, some, none}
 use Prim.Native.Nat.{ℕ}
+use native.Mathlib.Omega.{arith}
 use lib.Dec.{ltb}
 use lib.ListN.{length}
 use types.Run.{OneOf, miss}
@@ -13,16 +14,19 @@ use Rattle.grammar.specs.declared.Item.the-variants as item
 use Rattle.grammar.proofs.Item as variants
 use Rattle.names.specs.Parts.{part}
 use Rattle.values.specs.Values.{Term}
-use Rattle.program.specs.Program.{Grouped, Order, Ordered, termThen, systemPositionThen, groupThen, triggeredBy, orderThen, startThen}
-use Rattle.filling.specs.Inner.{begins, positionBy, orderBy}
+use Rattle.program.specs.Program.{Trigger, byLetter, byHarmony, Order, Ordered, AsListed, unlisted, asListed, withTerm, termThen, withSystemPosition, systemPositionThen, withGroup, triggeredBy, withOrder, orderThen, withStart, startThen, withKey, keyThen}
+use Rattle.filling.specs.Inner.{begins, positionBy, asTrigger}
+
+-- something is not nothing, and one thing
+pub some-or-none : {A : Type 0} {x : A} → some x ≡ none → ⊥
+some-or-none e = let z : _≡_ {A = ℕ} 0 1 = cc in omega arith
+
+pub some-same : {A : Type 0} {x y : A} → some x ≡ some y → x ≡ y
+some-same e = cc
 
 -- an item that gives nothing to any list
-pub record Outside (i : Item) : Type 0 where
-  pub term : (ts : List Term) → termThen (part i) ts ≡ ts
-  pub place : (l : List (Option ℕ)) → systemPositionThen (part i) l ≡ l
-  pub group : (g : Grouped) → groupThen (part i) g ≡ g
-  pub order : (g : Ordered) → orderThen (part i) g ≡ record { call = none; orders = g .orders }
-  pub start : (s : Option ℕ) → startThen (part i) s ≡ s
+abbrev pub Outside : Item → Type 0
+Outside i = asListed (part i) ≡ unlisted
 
 -- the others, one by one
 pub data Inside : Item → Type 0 where
@@ -34,35 +38,41 @@ pub data Inside : Item → Type 0 where
   letter : {c : ℕ} → Inside (item.Letter c)
   start : {n : ℕ} → Inside (item.Start n)
   order : {n : ℕ} → Inside (item.Order n)
+  trigger : {n : ℕ} → Inside (item.Trigger n)
+  key : {n : ℕ} → Inside (item.Key n)
+  starred : {n : ℕ} → Inside (item.StarredKey n)
   outside : {i : Item} → Outside i → Inside i
 
 pub inside : (i : Item) → Inside i
-inside (item.Declared a b) = outside (record { term = λ ts. refl; place = λ l. refl; group = λ g. refl; order = λ g. refl; start = λ s. refl })
-inside (item.Ratio a b) = outside (record { term = λ ts. refl; place = λ l. refl; group = λ g. refl; order = λ g. refl; start = λ s. refl })
-inside (item.Root a b) = outside (record { term = λ ts. refl; place = λ l. refl; group = λ g. refl; order = λ g. refl; start = λ s. refl })
+inside (item.Declared a b) = outside refl
+inside (item.Ratio a b) = outside refl
+inside (item.Root a b) = outside refl
 inside (item.Add a b) = add
 inside (item.Subtract a b) = subtract
-inside (item.Frequency a) = outside (record { term = λ ts. refl; place = λ l. refl; group = λ g. refl; order = λ g. refl; start = λ s. refl })
-inside (item.Base a) = outside (record { term = λ ts. refl; place = λ l. refl; group = λ g. refl; order = λ g. refl; start = λ s. refl })
-inside (item.AnchorKey a) = outside (record { term = λ ts. refl; place = λ l. refl; group = λ g. refl; order = λ g. refl; start = λ s. refl })
+inside (item.Frequency a) = outside refl
+inside (item.Base a) = outside refl
+inside (item.AnchorKey a) = outside refl
 inside item.MutedPosition = muted
 inside item.KeptPosition = kept
 inside (item.TonePosition a) = tone
-inside item.AnchorKept = outside (record { term = λ ts. refl; place = λ l. refl; group = λ g. refl; order = λ g. refl; start = λ s. refl })
-inside (item.AnchorTo a) = outside (record { term = λ ts. refl; place = λ l. refl; group = λ g. refl; order = λ g. refl; start = λ s. refl })
-inside (item.AnchorUp a) = outside (record { term = λ ts. refl; place = λ l. refl; group = λ g. refl; order = λ g. refl; start = λ s. refl })
-inside (item.AnchorDown a) = outside (record { term = λ ts. refl; place = λ l. refl; group = λ g. refl; order = λ g. refl; start = λ s. refl })
-inside item.WidthKept = outside (record { term = λ ts. refl; place = λ l. refl; group = λ g. refl; order = λ g. refl; start = λ s. refl })
-inside (item.WidthTo a) = outside (record { term = λ ts. refl; place = λ l. refl; group = λ g. refl; order = λ g. refl; start = λ s. refl })
-inside (item.WidthUp a) = outside (record { term = λ ts. refl; place = λ l. refl; group = λ g. refl; order = λ g. refl; start = λ s. refl })
-inside (item.WidthDown a) = outside (record { term = λ ts. refl; place = λ l. refl; group = λ g. refl; order = λ g. refl; start = λ s. refl })
-inside (item.WidthTimes a) = outside (record { term = λ ts. refl; place = λ l. refl; group = λ g. refl; order = λ g. refl; start = λ s. refl })
-inside (item.WidthOver a) = outside (record { term = λ ts. refl; place = λ l. refl; group = λ g. refl; order = λ g. refl; start = λ s. refl })
-inside item.Period = outside (record { term = λ ts. refl; place = λ l. refl; group = λ g. refl; order = λ g. refl; start = λ s. refl })
-inside item.Onward = outside (record { term = λ ts. refl; place = λ l. refl; group = λ g. refl; order = λ g. refl; start = λ s. refl })
+inside item.AnchorKept = outside refl
+inside (item.AnchorTo a) = outside refl
+inside (item.AnchorUp a) = outside refl
+inside (item.AnchorDown a) = outside refl
+inside item.WidthKept = outside refl
+inside (item.WidthTo a) = outside refl
+inside (item.WidthUp a) = outside refl
+inside (item.WidthDown a) = outside refl
+inside (item.WidthTimes a) = outside refl
+inside (item.WidthOver a) = outside refl
+inside item.Period = outside refl
+inside item.Onward = outside refl
 inside (item.Letter a) = letter
 inside (item.Start a) = start
 inside (item.Order a) = order
+inside (item.Trigger a) = trigger
+inside (item.Key a) = key
+inside (item.StarredKey a) = starred
 
 -- ---- an item that is not one of some variants: where a match falls through
 
@@ -71,7 +81,7 @@ tag i = tagOf variants.the-type i
 
 -- the variants but those of terms
 abbrev pub noTerms : List ℕ
-noTerms = 0 ∷ 1 ∷ 2 ∷ 5 ∷ 6 ∷ 7 ∷ 8 ∷ 9 ∷ 10 ∷ 11 ∷ 12 ∷ 13 ∷ 14 ∷ 15 ∷ 16 ∷ 17 ∷ 18 ∷ 19 ∷ 20 ∷ 21 ∷ 22 ∷ 23 ∷ 24 ∷ 25 ∷ []
+noTerms = 0 ∷ 1 ∷ 2 ∷ 5 ∷ 6 ∷ 7 ∷ 8 ∷ 9 ∷ 10 ∷ 11 ∷ 12 ∷ 13 ∷ 14 ∷ 15 ∷ 16 ∷ 17 ∷ 18 ∷ 19 ∷ 20 ∷ 21 ∷ 22 ∷ 23 ∷ 24 ∷ 25 ∷ 26 ∷ 27 ∷ 28 ∷ []
 
 pub no-term : {i : Item} → Inside i → OneOf noTerms (tag i) → termThen (part i) [] ≡ []
 no-term add h = absurd (miss noTerms 3 tt h)
@@ -82,11 +92,14 @@ no-term tone h = refl
 no-term letter h = refl
 no-term start h = refl
 no-term order h = refl
-no-term (outside o) h = o .term []
+no-term trigger h = refl
+no-term key h = refl
+no-term starred h = refl
+no-term (outside o) h = ap (λ (q : AsListed). withTerm q []) o
 
 -- but those of a tone system's positions
 abbrev pub noPlaces : List ℕ
-noPlaces = 0 ∷ 1 ∷ 2 ∷ 3 ∷ 4 ∷ 5 ∷ 6 ∷ 7 ∷ 9 ∷ 11 ∷ 12 ∷ 13 ∷ 14 ∷ 15 ∷ 16 ∷ 17 ∷ 18 ∷ 19 ∷ 20 ∷ 21 ∷ 22 ∷ 23 ∷ 24 ∷ 25 ∷ []
+noPlaces = 0 ∷ 1 ∷ 2 ∷ 3 ∷ 4 ∷ 5 ∷ 6 ∷ 7 ∷ 9 ∷ 11 ∷ 12 ∷ 13 ∷ 14 ∷ 15 ∷ 16 ∷ 17 ∷ 18 ∷ 19 ∷ 20 ∷ 21 ∷ 22 ∷ 23 ∷ 24 ∷ 25 ∷ 26 ∷ 27 ∷ 28 ∷ []
 
 pub no-place : {i : Item} → Inside i → OneOf noPlaces (tag i) → systemPositionThen (part i) [] ≡ []
 no-place add h = refl
@@ -97,11 +110,14 @@ no-place tone h = absurd (miss noPlaces 10 tt h)
 no-place letter h = refl
 no-place start h = refl
 no-place order h = refl
-no-place (outside o) h = o .place []
+no-place trigger h = refl
+no-place key h = refl
+no-place starred h = refl
+no-place (outside o) h = ap (λ (q : AsListed). withSystemPosition q []) o
 
 -- but those with which positions of a tones retuning begin
 abbrev pub noPositions : List ℕ
-noPositions = 0 ∷ 1 ∷ 2 ∷ 3 ∷ 4 ∷ 5 ∷ 6 ∷ 7 ∷ 11 ∷ 12 ∷ 13 ∷ 14 ∷ 15 ∷ 16 ∷ 17 ∷ 18 ∷ 19 ∷ 20 ∷ 21 ∷ 22 ∷ 23 ∷ 24 ∷ 25 ∷ []
+noPositions = 0 ∷ 1 ∷ 2 ∷ 3 ∷ 4 ∷ 5 ∷ 6 ∷ 7 ∷ 11 ∷ 12 ∷ 13 ∷ 14 ∷ 15 ∷ 16 ∷ 17 ∷ 18 ∷ 19 ∷ 20 ∷ 21 ∷ 22 ∷ 23 ∷ 24 ∷ 25 ∷ 26 ∷ 27 ∷ 28 ∷ []
 
 pub no-position : {i : Item} → Inside i → OneOf noPositions (tag i) → (ts : List Term) → positionBy (part i) ts ≡ []
 no-position add h ts = refl
@@ -112,31 +128,37 @@ no-position tone h ts = absurd (miss noPositions 10 tt h)
 no-position letter h ts = refl
 no-position start h ts = refl
 no-position order h ts = refl
-no-position (outside o) h ts = ap (λ (g : Grouped). g .positions) (o .group (record { before = ts; positions = [] }))
+no-position trigger h ts = refl
+no-position key h ts = refl
+no-position starred h ts = refl
+no-position (outside o) h ts = ap (λ (q : AsListed). withGroup q (record { before = ts; positions = [] }) .positions) o
 
--- but a letter, with which an order begins
-abbrev pub noLetters : List ℕ
-noLetters = 0 ∷ 1 ∷ 2 ∷ 3 ∷ 4 ∷ 5 ∷ 6 ∷ 7 ∷ 8 ∷ 9 ∷ 10 ∷ 11 ∷ 12 ∷ 13 ∷ 14 ∷ 15 ∷ 16 ∷ 17 ∷ 18 ∷ 19 ∷ 20 ∷ 21 ∷ 22 ∷ 24 ∷ 25 ∷ []
+-- but a trigger
+abbrev pub noTriggers : List ℕ
+noTriggers = 0 ∷ 1 ∷ 2 ∷ 3 ∷ 4 ∷ 5 ∷ 6 ∷ 7 ∷ 8 ∷ 9 ∷ 10 ∷ 11 ∷ 12 ∷ 13 ∷ 14 ∷ 15 ∷ 16 ∷ 17 ∷ 18 ∷ 19 ∷ 20 ∷ 21 ∷ 22 ∷ 24 ∷ 25 ∷ 27 ∷ 28 ∷ []
 
-pub no-order : {i : Item} → Inside i → OneOf noLetters (tag i) → (called : Option ℕ) → orderBy (part i) called ≡ []
-no-order add h called = refl
-no-order subtract h called = refl
-no-order muted h called = refl
-no-order kept h called = refl
-no-order tone h called = refl
-no-order letter h called = absurd (miss noLetters 23 tt h)
-no-order start h called = refl
-no-order order h called = refl
-no-order (outside o) h called = ap (λ (g : Ordered). g .orders) (o .order (record { call = called; orders = [] }))
+pub no-trigger : {i : Item} → Inside i → OneOf noTriggers (tag i) → asTrigger (asListed (part i)) ≡ none
+no-trigger add h = refl
+no-trigger subtract h = refl
+no-trigger muted h = refl
+no-trigger kept h = refl
+no-trigger tone h = refl
+no-trigger letter h = absurd (miss noTriggers 23 tt h)
+no-trigger start h = refl
+no-trigger order h = refl
+no-trigger trigger h = absurd (miss noTriggers 26 tt h)
+no-trigger key h = refl
+no-trigger starred h = refl
+no-trigger (outside o) h = ap asTrigger o
 
 -- but what an order calls
 abbrev pub noCalls : List ℕ
-noCalls = 0 ∷ 1 ∷ 2 ∷ 3 ∷ 4 ∷ 5 ∷ 6 ∷ 7 ∷ 8 ∷ 9 ∷ 10 ∷ 11 ∷ 12 ∷ 13 ∷ 14 ∷ 15 ∷ 16 ∷ 17 ∷ 18 ∷ 19 ∷ 20 ∷ 21 ∷ 22 ∷ 23 ∷ 24 ∷ []
+noCalls = 0 ∷ 1 ∷ 2 ∷ 3 ∷ 4 ∷ 5 ∷ 6 ∷ 7 ∷ 8 ∷ 9 ∷ 10 ∷ 11 ∷ 12 ∷ 13 ∷ 14 ∷ 15 ∷ 16 ∷ 17 ∷ 18 ∷ 19 ∷ 20 ∷ 21 ∷ 22 ∷ 23 ∷ 24 ∷ 26 ∷ 27 ∷ 28 ∷ []
 
--- before a letter no call waits
-letter-call : (c : ℕ) (called : Option ℕ) (l : List Order) → triggeredBy c called l .call ≡ none
-letter-call c none l = refl
-letter-call c (some n) l = refl
+-- before a trigger no call waits
+trigger-call : (x : Trigger) (called : Option ℕ) (l : List Order) → triggeredBy x called l .call ≡ none
+trigger-call x none l = refl
+trigger-call x (some n) l = refl
 
 pub no-call : {i : Item} → Inside i → OneOf noCalls (tag i) → (g : Ordered) → orderThen (part i) g .call ≡ none
 no-call add h g = refl
@@ -144,14 +166,17 @@ no-call subtract h g = refl
 no-call muted h g = refl
 no-call kept h g = refl
 no-call tone h g = refl
-no-call (letter {c}) h g = letter-call c (g .call) (g .orders)
+no-call (letter {c}) h g = trigger-call (byLetter c) (g .call) (g .orders)
 no-call start h g = refl
 no-call order h g = absurd (miss noCalls 25 tt h)
-no-call (outside o) h g = ap (λ (h : Ordered). h .call) (o .order g)
+no-call (trigger {n}) h g = trigger-call (byHarmony n) (g .call) (g .orders)
+no-call key h g = refl
+no-call starred h g = refl
+no-call (outside o) h g = ap (λ (q : AsListed). withOrder q g .call) o
 
 -- but a start
 abbrev pub noStarts : List ℕ
-noStarts = 0 ∷ 1 ∷ 2 ∷ 3 ∷ 4 ∷ 5 ∷ 6 ∷ 7 ∷ 8 ∷ 9 ∷ 10 ∷ 11 ∷ 12 ∷ 13 ∷ 14 ∷ 15 ∷ 16 ∷ 17 ∷ 18 ∷ 19 ∷ 20 ∷ 21 ∷ 22 ∷ 23 ∷ 25 ∷ []
+noStarts = 0 ∷ 1 ∷ 2 ∷ 3 ∷ 4 ∷ 5 ∷ 6 ∷ 7 ∷ 8 ∷ 9 ∷ 10 ∷ 11 ∷ 12 ∷ 13 ∷ 14 ∷ 15 ∷ 16 ∷ 17 ∷ 18 ∷ 19 ∷ 20 ∷ 21 ∷ 22 ∷ 23 ∷ 25 ∷ 26 ∷ 27 ∷ 28 ∷ []
 
 pub no-start : {i : Item} → Inside i → OneOf noStarts (tag i) → (s : Option ℕ) → startThen (part i) s ≡ s
 no-start add h s = refl
@@ -162,9 +187,30 @@ no-start tone h s = refl
 no-start letter h s = refl
 no-start start h s = absurd (miss noStarts 24 tt h)
 no-start order h s = refl
-no-start (outside o) h s = o .start s
+no-start trigger h s = refl
+no-start key h s = refl
+no-start starred h s = refl
+no-start (outside o) h s = ap (λ (q : AsListed). withStart q s) o
+
+-- but a key of a harmony
+abbrev pub noKeys : List ℕ
+noKeys = 0 ∷ 1 ∷ 2 ∷ 3 ∷ 4 ∷ 5 ∷ 6 ∷ 7 ∷ 8 ∷ 9 ∷ 10 ∷ 11 ∷ 12 ∷ 13 ∷ 14 ∷ 15 ∷ 16 ∷ 17 ∷ 18 ∷ 19 ∷ 20 ∷ 21 ∷ 22 ∷ 23 ∷ 24 ∷ 25 ∷ 26 ∷ []
+
+pub no-key : {i : Item} → Inside i → OneOf noKeys (tag i) → keyThen (part i) [] ≡ []
+no-key add h = refl
+no-key subtract h = refl
+no-key muted h = refl
+no-key kept h = refl
+no-key tone h = refl
+no-key letter h = refl
+no-key start h = refl
+no-key order h = refl
+no-key trigger h = refl
+no-key key h = absurd (miss noKeys 27 tt h)
+no-key starred h = absurd (miss noKeys 28 tt h)
+no-key (outside o) h = ap (λ (q : AsListed). withKey q []) o
 
 -- ---- one that is none of them begins no position
 
-pub no-begin : {i : Item} → Outside i → begins (part i) ≡ false
-no-begin o = ap (λ (g : Grouped). ltb 0 (length (g .positions))) (o .group (record { before = []; positions = [] }))
+pub no-begin : (i : Item) → Outside i → begins (part i) ≡ false
+no-begin i o = ap (λ (q : AsListed). ltb 0 (length (withGroup q (record { before = []; positions = [] }) .positions))) o

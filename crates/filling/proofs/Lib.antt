@@ -1,4 +1,5 @@
 pub mod CaseS
+pub mod Chords
 pub mod Each
 pub mod Entries
 pub mod Filling
@@ -7,6 +8,7 @@ pub mod Forms
 pub mod Groups
 pub mod Inside
 pub mod Items
+pub mod Naming
 pub mod Orders
 pub mod Terms
 pub mod Totals

@@ -2,21 +2,20 @@
 use mathlib.Core.Path.{_≡_, refl, sym, _∙_, ap, subst}
 use mathlib.Core.List.{List}
 use mathlib.Core.Option.{Option}
-use Prim.Native.Nat.{ℕ, _+_, _*_}
+use Prim.Native.Nat.{ℕ, _*_}
 use lib.IntN.{ℤ, pos}
 use lib.ListN.{length, length-replicate}
 use lib.Seq.{sets}
 use Rattle.tables.specs.declared.Counts.{Counts}
 use Rattle.tables.specs.declared.Row.{Row}
-use Rattle.tables.specs.declared.Row.the-variants as row
 use Rattle.tables.specs.Layout.{Tables, section, tablesIn, triggersIn, callsIn, rowWidth, mostRows, orderWidth, mostTones, mostChanges, mostOrders, countsSize, tonesAt, changesAt, soundingAt, kindsAt, ordersAt, numbersOf, written, soundingOf, pitchOf, changeCode, changeNumber}
 use Rattle.tables.specs.Values.{Slices}
 use Rattle.tables.proofs.Sizes.{Sizes, sizes-is, slices-sizes, slices-of, section-last}
 use Rattle.tables.proofs.Sections.{spliced, rows-back, tones-back, changes-back, orders-back, orders-length}
 use Rattle.values.specs.Values.{Term}
-use Rattle.program.specs.Program.{Declaration, Order, Position, system, tones, logic}
+use Rattle.program.specs.Program.{Declaration, Trigger, Order, Position, system, tones, logic}
 use Rattle.filling.specs.Tables.{tonesOf, changesOf}
-use Rattle.filling.specs.Inner.{blank, letterOf, callOf, calledBy, Stored, rowAfter, countedBy, RowedIn, AddedIn}
+use Rattle.filling.specs.Inner.{blank, triggerOf, callOf, Stored, rowAfter, countedBy, RowedIn, AddedIn}
 use Rattle.filling.proofs.Entries.{counted-same}
 use Rattle.filling.proofs.Forms.{rowed-as, system-rowed, tones-rowed, logic-rowed}
 
@@ -67,15 +66,15 @@ module _ {value : ℕ → ℤ} {used : Counts} {r : Row} where
         subst (λ (u : Tables). RowedIn value used (tones ps) t r u) (sym (changes-back s ks zs (k ∙ sizes .kinds) (z ∙ ap length last ∙ sizes .changes)))
         (record { rowed = tones-rowed e whole; rows = refl })
 
-    pub logic-in : {c : ℕ} {o : Option ℕ} {os : List Order} (part : List ℕ) → length part ≡ length (section ordersAt (orderWidth * mostOrders) codes)
-        → r ≡ row.Logic c (calledBy o) (used .orders) (used .orders + length os)
-        → Stored letterOf callOf os (used .orders) (triggersIn (section ordersAt (orderWidth * mostOrders) codes)) (callsIn (section ordersAt (orderWidth * mostOrders) codes)) (triggersIn part) (callsIn part)
+    pub logic-in : {c : Trigger} {o : Option ℕ} {os : List Order} (part : List ℕ) → length part ≡ length (section ordersAt (orderWidth * mostOrders) codes)
+        → r ≡ rowAfter value used (logic c o os)
+        → Stored triggerOf callOf os (used .orders) (triggersIn (section ordersAt (orderWidth * mostOrders) codes)) (callsIn (section ordersAt (orderWidth * mostOrders) codes)) (triggersIn part) (callsIn part)
         → RowedIn value used (logic c o os) (tablesIn numbers codes) r (tablesIn numbers (spliced ordersAt (orderWidth * mostOrders) part codes))
     unfolding tablesIn
     logic-in {c} {o} {os} part k e h =
         let t = tablesIn numbers codes in
         let last = section-last ordersAt (orderWidth * mostOrders) codes (s .all-codes) in
-        let whole = subst (λ (l : List ℕ). Stored letterOf callOf os (used .orders) (triggersIn l) (callsIn l) (triggersIn part) (callsIn part)) last h in
+        let whole = subst (λ (l : List ℕ). Stored triggerOf callOf os (used .orders) (triggersIn l) (callsIn l) (triggersIn part) (callsIn part)) last h in
         subst (λ (u : Tables). RowedIn value used (logic c o os) t r u)
         (sym (orders-back s part (k ∙ orders-length s)))
         (record { rowed = logic-rowed e whole; rows = refl })

@@ -12,7 +12,7 @@ use Rattle.grammar.specs.declared.Kind.the-variants.{System, Retuning}
 use Rattle.grammar.specs.Moves.{kindNumber}
 use Rattle.grammar.specs.Reading.{mostPositions}
 use Rattle.tables.specs.Layout.{mostRows, mostTones, mostChanges, mostOrders}
-use Rattle.program.specs.Program.{Declaration, ratio, root, sequence, frequency, from, system, anchor, width, freshPeriod, onwardPeriod, tones, logic, Placed, Program}
+use Rattle.program.specs.Program.{Declaration, ratio, root, sequence, frequency, from, system, anchor, width, freshPeriod, onwardPeriod, tones, logic, harmony, Placed, Program}
 use Rattle.program.specs.Allowed.{kindOf, Each, Fits, ifKind, countOf, orderCount, ordersIn, Allowed}
 use Rattle.program.proofs.AcceptedText.{few-declarations}
 use Rattle.filling.specs.Tables.{toneOf, tonesOf, changeOf, changesOf, ordersOf, Filled, filledFrom}
@@ -42,6 +42,7 @@ module _ (value : ℕ → ℤ) (p : Program) where
   share (onwardPeriod ts) h = record { of-tones = omega arith; of-changes = omega arith; of-orders = refl }
   share (tones l) h = record { of-tones = omega arith; of-changes = rw (length-map l (changeOf value)) (omega (arith, h .positions .few)); of-orders = refl }
   share (logic c s os) h = record { of-tones = omega arith; of-changes = omega arith; of-orders = refl }
+  share (harmony ks) h = record { of-tones = omega arith; of-changes = omega arith; of-orders = refl }
 
 -- ---- all of them
 

@@ -21,17 +21,24 @@ use Rattle.tables.specs.declared.Counts.{Counts}
 use Rattle.tables.specs.declared.Row.{Row}
 use Rattle.tables.specs.declared.Row.the-variants as row
 use Rattle.tables.specs.Layout.{Tables, mostRows, rowWidth, mostTones, mostChanges, mostOrders, countsSize, numbersOf, written, amountNumber, soundingOf, pitchOf, changeCode, changeNumber}
-use Rattle.program.specs.Program.{Declaration, ratio, root, sequence, frequency, from, system, anchor, width, freshPeriod, onwardPeriod, tones, logic, Program, Position, mute, kept, named, Order, groupThen, grouped, orderThen, ordered}
+use Rattle.program.specs.Program.{Declaration, ratio, root, sequence, frequency, from, system, anchor, width, freshPeriod, onwardPeriod, tones, logic, harmony, Program, Position, mute, kept, named, Trigger, byLetter, byHarmony, Order}
+use Rattle.program.specs.Program.{AsListed, unlisted, a-term, muted-position, kept-position, tone-position, a-start, a-trigger, a-call, a-key, groupThen, grouped, orderThen, ordered}
 use Rattle.program.specs.Meaning.{valueOf}
 use Rattle.program.specs.Allowed.{Each}
+use Rattle.limits.specs.Limits.{mostHarmonyKey}
+use Rattle.harmonies.specs.Harmonies.{HarmonyKey}
 use Rattle.valuation.specs.Inner.{itemsBetween}
 use Rattle.filling.specs.declared.lists.ToneHere.{ToneHere}
 use Rattle.filling.specs.declared.lists.ToneHere.the-variants as toneHere
 use Rattle.filling.specs.declared.lists.ChangeHere.{ChangeHere}
 use Rattle.filling.specs.declared.lists.ChangeHere.the-variants as changeHere
+use Rattle.filling.specs.declared.triggers.Trigger.{Trigger as TriggerRead}
+use Rattle.filling.specs.declared.triggers.Trigger.the-variants as triggerRead
+use Rattle.filling.specs.declared.triggers.TriggerHere.{TriggerHere}
+use Rattle.filling.specs.declared.triggers.TriggerHere.the-variants as triggerHere
 use Rattle.filling.specs.declared.lists.OrderHere.{OrderHere}
 use Rattle.filling.specs.declared.lists.OrderHere.the-variants as orderHere
-use Rattle.filling.specs.Tables.{tonesOf, changesOf, ordersOf, startCode, rowOf}
+use Rattle.filling.specs.Tables.{tonesOf, changesOf, ordersOf, startCode, triggerCode, rowOf}
 
 -- a slice has the value of each declaration
 pub record Valued (p : Program) (values : List ℤ) : Type 0 where
@@ -68,6 +75,18 @@ begins q = ltb 0 (length (positionBy q []))
 abbrev pub positionAt : List ℕ → ℕ → ℕ → List Position
 positionAt items i to = positionBy (part (itemAt items i)) (grouped (itemsBetween items (i + 1) to) .before)
 
+-- the trigger that a part is, if it is one
+abbrev pub asTrigger : AsListed → Option Trigger
+asTrigger (a-trigger x) = some x
+asTrigger unlisted = none
+asTrigger (a-term t) = none
+asTrigger muted-position = none
+asTrigger kept-position = none
+asTrigger (tone-position n) = none
+asTrigger (a-start n) = none
+asTrigger (a-call n) = none
+asTrigger (a-key k) = none
+
 -- the order that begins with a part and calls this, if one does
 abbrev pub orderBy : Part → Option ℕ → List Order
 orderBy q called = orderThen q (record { call = called; orders = [] }) .orders
@@ -84,13 +103,22 @@ abbrev pub changesHere : ChangeHere → List ToneChange
 changesHere changeHere.Nothing = []
 changesHere (changeHere.Change x) = x ∷ []
 
+-- a trigger as the code holds it
+abbrev pub triggerBy : TriggerRead → Trigger
+triggerBy (triggerRead.Letter c) = byLetter c
+triggerBy (triggerRead.Harmony k) = byHarmony k
+
+abbrev pub triggersHere : TriggerHere → Option Trigger
+triggersHere triggerHere.Nothing = none
+triggersHere (triggerHere.Trigger x) = some (triggerBy x)
+
 abbrev pub ordersHere : OrderHere → List Order
 ordersHere orderHere.Nothing = []
-ordersHere (orderHere.Order c n) = record { letter = c; calls = n } ∷ []
+ordersHere (orderHere.Order x n) = record { trigger = triggerBy x; calls = n } ∷ []
 
--- an order's letter and what it calls
-abbrev pub letterOf : Order → ℕ
-letterOf x = x .letter
+-- the code of an order's trigger, and what the order calls
+abbrev pub triggerOf : Order → ℕ
+triggerOf x = triggerCode (x .trigger)
 
 abbrev pub callOf : Order → ℕ
 callOf x = x .calls
@@ -123,13 +151,16 @@ FitPosition values (kept ts) = Summable values ts
 FitPosition values (named k ts) = FitValue values k × Summable values ts
 
 pub record FitOrder (o : Order) : Type 0 where
-  pub letter : o .letter < 2 ^ 8
+  pub trigger : triggerOf o < 2 ^ 16
   pub calls : o .calls < 2 ^ 16
 
-pub record FitLogic (c : ℕ) (s : Option ℕ) (os : List Order) : Type 0 where
-  pub letter : c < 2 ^ 8
+pub record FitLogic (x : Trigger) (s : Option ℕ) (os : List Order) : Type 0 where
+  pub trigger : triggerCode x < 2 ^ 16
   pub start : calledBy s < 2 ^ 31
   pub orders : Each FitOrder os
+
+abbrev pub FitKey : HarmonyKey → Type 0
+FitKey k = k .key ≤ mostHarmonyKey
 
 abbrev pub FitParts : List ℤ → Declaration → Type 0
 FitParts values (ratio p q) = Unit
@@ -143,7 +174,8 @@ FitParts values (width m) = amountNumber m < 2 ^ 16
 FitParts values (freshPeriod ts) = Summable values ts
 FitParts values (onwardPeriod ts) = Summable values ts
 FitParts values (tones l) = Each (FitPosition values) l
-FitParts values (logic c s os) = FitLogic c s os
+FitParts values (logic x s os) = FitLogic x s os
+FitParts values (harmony ks) = Each FitKey ks
 
 -- a declaration can be written after so many rows, tones, changes and orders
 pub record Writable (values : List ℤ) (used : Counts) (d : Declaration) : Type 0 where
@@ -183,7 +215,8 @@ plainRow z (width m) = row.Retuning (Width m) 0 0
 plainRow z (freshPeriod ts) = row.Interval (record { 0 = z })
 plainRow z (onwardPeriod ts) = row.Interval (record { 0 = z })
 plainRow z (tones l) = row.Interval (record { 0 = z })
-plainRow z (logic c s os) = row.Interval (record { 0 = z })
+plainRow z (logic x s os) = row.Interval (record { 0 = z })
+plainRow z (harmony ks) = row.Interval (record { 0 = z })
 
 -- the tables of tones, changes and orders
 pub record Lists : Type 0 where
@@ -201,7 +234,7 @@ listed value used d l = record {
   tones = sets (l .tones) (used .tones) (map pitchOf (tonesOf value d));
   kinds = sets (l .kinds) (used .changes) (map changeCode (changesOf value d));
   changes = sets (l .changes) (used .changes) (map changeNumber (changesOf value d));
-  triggers = sets (l .triggers) (used .orders) (map letterOf (ordersOf d));
+  triggers = sets (l .triggers) (used .orders) (map triggerOf (ordersOf d));
   calls = sets (l .calls) (used .orders) (map callOf (ordersOf d));
 }
 
@@ -224,7 +257,8 @@ countedBy used (row.Retuning (Anchor x) m n) = oneMore used (used .tones) (used 
 countedBy used (row.Retuning (Width x) m n) = oneMore used (used .tones) (used .changes) (used .orders)
 countedBy used (row.Retuning (Period x) m n) = oneMore used (used .tones) (used .changes) (used .orders)
 countedBy used (row.Retuning Tones m n) = oneMore used (used .tones) n (used .orders)
-countedBy used (row.Logic c s m n) = oneMore used (used .tones) (used .changes) n
+countedBy used (row.Logic x s m n) = oneMore used (used .tones) (used .changes) n
+countedBy used (row.Harmony y z) = oneMore used (used .tones) (used .changes) (used .orders)
 
 -- as the declaration says
 abbrev pub counted : (ℕ → ℤ) → Counts → Declaration → Counts

@@ -14,10 +14,11 @@ use Rattle.tuning.specs.declared.Retuning.the-variants.{Anchor, Width, Period, 
 use Rattle.tuning.specs.Capped.{capped}
 use Rattle.tables.specs.declared.Row.{Row}
 use Rattle.tables.specs.declared.Row.the-variants as row
-use Rattle.tables.specs.Layout.{mostRows, rowWidth, mostTones, mostChanges, mostOrders, writtenAll, full, soundingOf, pitchOf, changeCode, changeNumber}
+use Rattle.tables.specs.Layout.{mostRows, rowWidth, mostTones, mostChanges, mostOrders, harmonyBase, writtenAll, full, soundingOf, pitchOf, changeCode, changeNumber}
 use Rattle.tables.specs.Layout as layout
-use Rattle.program.specs.Program.{Declaration, ratio, root, sequence, frequency, from, system, anchor, width, freshPeriod, onwardPeriod, tones, logic, Program, Position, mute, kept, named, Order}
+use Rattle.program.specs.Program.{Declaration, ratio, root, sequence, frequency, from, system, anchor, width, freshPeriod, onwardPeriod, tones, logic, harmony, Program, Position, mute, kept, named, Trigger, byLetter, byHarmony, Order}
 use Rattle.program.specs.Meaning.{valueOf}
+use Rattle.harmonies.specs.Harmonies.{harmonyOf}
 
 -- "Sequences add factor times measure"
 abbrev pub sumOf : (ℕ → ℤ) → List Term → ℤ
@@ -28,6 +29,11 @@ sumOf value (t ∷ ts) = value (t .of) *ℤ weight t +ℤ sumOf value ts
 abbrev pub startCode : Option ℕ → ℕ
 startCode none = 0
 startCode (some k) = suc k
+
+-- a trigger's code in the tables: a letter's capital, or 256 and the number of the harmony's declaration
+abbrev pub triggerCode : Trigger → ℕ
+triggerCode (byLetter c) = c
+triggerCode (byHarmony k) = harmonyBase + k
 
 module _ (value : ℕ → ℤ) where
   -- a table holds a sum capped: no answer changes by that (`CallsOfText` of the crate exact)
@@ -52,6 +58,7 @@ module _ (value : ℕ → ℤ) where
   tonesOf (onwardPeriod ts) = []
   tonesOf (tones l) = []
   tonesOf (logic c s os) = []
+  tonesOf (harmony ks) = []
 
   -- the changes of a tones retuning
   abbrev pub changeOf : Position → ToneChange
@@ -72,6 +79,7 @@ module _ (value : ℕ → ℤ) where
   changesOf (onwardPeriod ts) = []
   changesOf (tones l) = map changeOf l
   changesOf (logic c s os) = []
+  changesOf (harmony ks) = []
 
   -- the row of declaration i, before which so many tones, changes and orders stand
   abbrev pub rowOf : ℕ → ℕ → ℕ → ℕ → Declaration → Row
@@ -86,7 +94,8 @@ module _ (value : ℕ → ℤ) where
   rowOf i t c o (freshPeriod ts) = row.Retuning (Period (Fresh (record { 0 = sum ts }))) 0 0
   rowOf i t c o (onwardPeriod ts) = row.Retuning (Period (Onward (record { 0 = sum ts }))) 0 0
   rowOf i t c o (tones l) = row.Retuning Tones c (c + length l)
-  rowOf i t c o (logic letter s os) = row.Logic letter (startCode s) o (o + length os)
+  rowOf i t c o (logic x s os) = row.Logic (triggerCode x) (startCode s) o (o + length os)
+  rowOf i t c o (harmony ks) = let y = harmonyOf ks in row.Harmony (y .needed) (y .named)
 
 abbrev pub ordersOf : Declaration → List Order
 ordersOf (ratio p q) = []
@@ -101,6 +110,7 @@ ordersOf (freshPeriod ts) = []
 ordersOf (onwardPeriod ts) = []
 ordersOf (tones l) = []
 ordersOf (logic c s os) = os
+ordersOf (harmony ks) = []
 
 -- ---- the lists of all declarations
 
@@ -127,7 +137,7 @@ laidOut f = record {
   tones = full (pos 0) mostTones (map pitchOf (f .tones));
   kinds = full 0 mostChanges (map changeCode (f .changes));
   changes = full (pos 0) mostChanges (map changeNumber (f .changes));
-  triggers = full 0 mostOrders (map (λ (x : Order). x .letter) (f .orders));
+  triggers = full 0 mostOrders (map (λ (x : Order). triggerCode (x .trigger)) (f .orders));
   calls = full 0 mostOrders (map (λ (x : Order). x .calls) (f .orders));
   counts = length (f .rows) ∷ length (f .tones) ∷ length (f .changes) ∷ length (f .orders) ∷ [];
 }

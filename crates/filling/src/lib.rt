@@ -1,8 +1,10 @@
 // The tables of a program, written row by row from the items of its text.
+mod harmony;
 mod lists;
 mod readers;
 mod rows;
 mod sums;
+mod triggers;
 
 use rows::write_declaration;
 use tables::Counts;

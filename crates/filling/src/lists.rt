@@ -2,6 +2,10 @@
 use crate::readers::pitch_at;
 use crate::sums::Sum;
 use crate::sums::sum_terms;
+use crate::triggers::Trigger;
+use crate::triggers::TriggerHere;
+use crate::triggers::code_of;
+use crate::triggers::read_trigger;
 use grammar::Item;
 use grammar::items;
 use tables::encode;
@@ -17,7 +21,7 @@ ghost use Rattle.program.specs.Program.{systemPositionThen, systemPositionsOf, 
 ghost use Rattle.program.specs.Allowed.{Each};
 ghost use Rattle.valuation.specs.Inner.{itemsBetween};
 ghost use Rattle.filling.specs.Tables.{sumOf, toneOf, changeOf};
-ghost use Rattle.filling.specs.Inner.{valueIn, begins, positionAt, orderAt, letterOf, callOf, calledBy, tonesHere, changesHere, ordersHere, Summable, FitSystemPosition, FitPosition, FitOrder, Appended};
+ghost use Rattle.filling.specs.Inner.{valueIn, begins, positionAt, orderAt, triggerOf, callOf, calledBy, tonesHere, changesHere, ordersHere, Summable, FitSystemPosition, FitPosition, FitOrder, Appended};
 
 // A tone of a tone system, where an item is one of its positions.
 enum ToneHere {
@@ -34,7 +38,7 @@ enum ChangeHere {
 // An order of a logic, where one begins: its trigger, and what it calls.
 enum OrderHere {
     Nothing,
-    Order(u32, u32),
+    Order(Trigger, u32),
 }
 
 fn read_tone(item: Item, values: &[i64]) -> ToneHere
@@ -156,7 +160,7 @@ fn read_order(items: &[u32], i: usize, to: usize) -> OrderHere
     requires { ⌜ i < to ⌝ }
     ensures { λ r. ⌜ ordersHere r ≡ orderAt (now (items .entry)) i to ⌝ }
 {
-    let Item::Letter(letter) = items::item_at(items, i) else {
+    let TriggerHere::Trigger(trigger) = read_trigger(items::item_at(items, i)) else {
         return OrderHere::Nothing;
     };
     if to <= i + 1 {
@@ -165,21 +169,21 @@ fn read_order(items: &[u32], i: usize, to: usize) -> OrderHere
     let Item::Order(called) = items::item_at(items, i + 1) else {
         return OrderHere::Nothing;
     };
-    OrderHere::Order(letter, called)
+    OrderHere::Order(trigger, called)
 }
 
 // Writes the orders of a logic. Answers how many orders there are then.
 pub fn write_orders(items: &[u32], from: usize, to: usize, orders: &mut [u16], at: usize) -> usize
     requires { ⌜ Each FitOrder (ordersOf (itemsBetween (now items) from to)) ⌝ }
     requires { ⌜ at + length (ordersOf (itemsBetween (now items) from to)) ≤ mostOrders ⌝ }
-    ensures { λ r. ⌜ Appended letterOf callOf (ordersOf (itemsBetween (now (items .entry)) from to)) at (triggersIn (now (orders .entry))) (callsIn (now (orders .entry))) r (triggersIn (now (orders .exit))) (callsIn (now (orders .exit))) ⌝ }
+    ensures { λ r. ⌜ Appended triggerOf callOf (ordersOf (itemsBetween (now (items .entry)) from to)) at (triggersIn (now (orders .entry))) (callsIn (now (orders .entry))) r (triggersIn (now (orders .exit))) (callsIn (now (orders .exit))) ⌝ }
 {
     let mut count = at;
     for i in from..to {
-        let OrderHere::Order(letter, called) = read_order(items, i, to) else {
+        let OrderHere::Order(trigger, called) = read_order(items, i, to) else {
             continue;
         };
-        encode::store_order(orders, count, letter as u8, called as u16);
+        encode::store_order(orders, count, code_of(trigger), called as u16);
         count += 1;
     }
     count

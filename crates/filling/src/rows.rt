@@ -1,8 +1,13 @@
 // The row of a declaration, by the item that it begins with, and what belongs to the row.
+use crate::harmony::read_harmony;
 use crate::lists;
 use crate::readers::interval_at;
 use crate::readers::pitch_at;
 use crate::sums::sum_terms;
+use crate::triggers::Trigger;
+use crate::triggers::TriggerHere;
+use crate::triggers::code_of;
+use crate::triggers::read_trigger;
 use cents::KeyNumber;
 use grammar::Item;
 use grammar::items;
@@ -25,11 +30,13 @@ ghost use mathlib.Core.List.{[], _∷_};
 ghost use Prim.Native.Nat.{_+_, _≤_, _<_};
 ghost use lib.ListN.{length};
 ghost use Rattle.tables.specs.Layout.{tablesIn, triggersIn, callsIn, mostRows, mostOrders, soundingOf, pitchOf, changeCode, changeNumber};
-ghost use Rattle.program.specs.Program.{declarationOf, periodOf, tones, grouped, startOf, ordersOf};
+ghost use Rattle.program.specs.Program.{declarationOf, periodOf, tones, grouped, startOf, ordersOf, keysOf};
+ghost use Rattle.harmonies.specs.Harmonies.{harmonyOf};
 ghost use Rattle.valuation.specs.Inner.{itemsBetween};
 ghost use Rattle.tables.specs.Values.{Slices};
-ghost use Rattle.filling.specs.Tables.{tonesOf, changesOf, rowOf};
-ghost use Rattle.filling.specs.Inner.{valueIn, letterOf, callOf, calledBy, FitValue, FitLogic, FitParts, Writable, Stored, rowAfter, plainRow, RowedIn, AddedIn, countedBy};
+ghost use Rattle.program.specs.Allowed.{Each};
+ghost use Rattle.filling.specs.Tables.{tonesOf, changesOf, triggerCode, rowOf};
+ghost use Rattle.filling.specs.Inner.{valueIn, triggerBy, triggerOf, callOf, calledBy, FitValue, FitLogic, FitKey, FitParts, Writable, Stored, rowAfter, plainRow, RowedIn, AddedIn, countedBy};
 
 fn make_anchor(amount: Amount) -> Row
     ensures { λ r. ⌜ r ≡ Row.Retuning (Retuning.Anchor amount) 0 0 ⌝ }
@@ -161,26 +168,38 @@ fn write_tones(
     }
 }
 
-// Writes the orders of a logic, whose items after its letter stand there. Answers its row.
+// Writes the orders of a logic, whose items after its trigger stand there. Answers its row.
 fn write_logic(
     items: &[u32],
     from: usize,
     to: usize,
-    letter: u32,
+    trigger: Trigger,
     used: Counts,
     orders: &mut [u16],
 ) -> Row
-    requires { ⌜ FitLogic letter (startOf (itemsBetween (now items) from to)) (ordersOf (itemsBetween (now items) from to)) ⌝ }
+    requires { ⌜ FitLogic (triggerBy trigger) (startOf (itemsBetween (now items) from to)) (ordersOf (itemsBetween (now items) from to)) ⌝ }
     requires { ⌜ used .orders + length (ordersOf (itemsBetween (now items) from to)) ≤ mostOrders ⌝ }
-    ensures { λ r. ⌜ r ≡ Row.Logic letter (calledBy (startOf (itemsBetween (now (items .entry)) from to))) (used .orders) (used .orders + length (ordersOf (itemsBetween (now (items .entry)) from to))) ⌝ }
-    ensures { λ _. ⌜ Stored letterOf callOf (ordersOf (itemsBetween (now (items .entry)) from to)) (used .orders) (triggersIn (now (orders .entry))) (callsIn (now (orders .entry))) (triggersIn (now (orders .exit))) (callsIn (now (orders .exit))) ⌝ }
+    ensures { λ r. ⌜ r ≡ Row.Logic (triggerCode (triggerBy trigger)) (calledBy (startOf (itemsBetween (now (items .entry)) from to))) (used .orders) (used .orders + length (ordersOf (itemsBetween (now (items .entry)) from to))) ⌝ }
+    ensures { λ _. ⌜ Stored triggerOf callOf (ordersOf (itemsBetween (now (items .entry)) from to)) (used .orders) (triggersIn (now (orders .entry))) (callsIn (now (orders .entry))) (triggersIn (now (orders .exit))) (callsIn (now (orders .exit))) ⌝ }
 {
     let end = lists::write_orders(items, from, to, orders, used.orders as usize);
     Row::Logic {
-        letter: letter as u8,
+        trigger: code_of(trigger),
         start: lists::find_start(items, from, to),
         from: used.orders,
         to: end as u32,
+    }
+}
+
+// The row of a harmony, whose keys stand there.
+fn make_harmony(items: &[u32], from: usize, to: usize) -> Row
+    requires { ⌜ Each FitKey (keysOf (itemsBetween (now items) from to)) ⌝ }
+    ensures { λ r. ⌜ r ≡ Row.Harmony (harmonyOf (keysOf (itemsBetween (now (items .entry)) from to)) .needed) (harmonyOf (keysOf (itemsBetween (now (items .entry)) from to)) .named) ⌝ }
+{
+    let harmony = read_harmony(items, from, to);
+    Row::Harmony {
+        needed: harmony.needed,
+        named: harmony.named,
     }
 }
 
@@ -208,7 +227,7 @@ fn count_row(used: Counts, row: Row) -> Counts
             }
         }
         Row::Logic {
-            letter: _,
+            trigger: _,
             start: _,
             from: _,
             to,
@@ -243,6 +262,10 @@ fn write_lists(
         return write_tones(items, from, to, values, used, kinds, changes);
     }
     let rest = from + 1;
+    if let TriggerHere::Trigger(trigger) = read_trigger(item) {
+        let orders = &mut codes[ORDERS_AT..CODES];
+        return write_logic(items, rest, to, trigger, used, orders);
+    }
     match item {
         Item::AnchorKey(key) => {
             let sounding = &mut codes[SOUNDING_AT..KINDS_AT];
@@ -251,10 +274,8 @@ fn write_lists(
         }
         Item::Period => read_period(items, rest, to, values),
         Item::Onward => read_period(items, from, to, values),
-        Item::Letter(letter) => {
-            let orders = &mut codes[ORDERS_AT..CODES];
-            write_logic(items, rest, to, letter, used, orders)
-        }
+        Item::Key(_) => make_harmony(items, from, to),
+        Item::StarredKey(_) => make_harmony(items, from, to),
         _ => make_plain(item, values, row),
     }
 }

@@ -11,9 +11,9 @@ use lib.Dec.{eqb}
 use lib.IntN.{ℤ}
 use lib.ListN.{length, length-append, length-map}
 use Rattle.grammar.specs.declared.Kind.{Kind}
-use Rattle.grammar.specs.declared.Kind.the-variants.{Interval, Tone, System, Retuning, Logic}
+use Rattle.grammar.specs.declared.Kind.the-variants.{Interval, Tone, System, Retuning, Logic, Harmony}
 use Rattle.grammar.specs.Moves.{kindNumber}
-use Rattle.limits.specs.Limits.{mostIntervals, mostToneNames, mostSystems, mostRetunings, mostLogics}
+use Rattle.limits.specs.Limits.{mostIntervals, mostToneNames, mostSystems, mostRetunings, mostLogics, mostHarmonies}
 use Rattle.tuning.specs.State.{places}
 use Rattle.tuning.specs.declared.Tone.{Tone as SoundingTone}
 use Rattle.tuning.specs.declared.ToneChange.{ToneChange}
@@ -22,7 +22,7 @@ use Rattle.tables.specs.declared.Row.{Row}
 use Rattle.tables.specs.Layout.{used}
 use Rattle.validity.specs.Valid.{kinds, oneMore, kindsFrom, kindsRight, belonging, ends, follows, endsAfter, partsFollow}
 use Rattle.validity.proofs.Sizes.{Room}
-use Rattle.program.specs.Program.{Declaration, ratio, root, sequence, frequency, from, system, anchor, width, freshPeriod, onwardPeriod, tones, logic, Placed, Program}
+use Rattle.program.specs.Program.{Declaration, ratio, root, sequence, frequency, from, system, anchor, width, freshPeriod, onwardPeriod, tones, logic, harmony, Placed, Program}
 use Rattle.program.specs.Meaning.{valueOf}
 use Rattle.program.specs.Allowed.{kindOf, Each, Fits, ifKind, countOf, orderCount, ordersIn, Allowed}
 use Rattle.program.proofs.AcceptedText.{few-declarations}
@@ -77,6 +77,7 @@ own-orders (freshPeriod ts) = refl
 own-orders (onwardPeriod ts) = refl
 own-orders (tones l) = refl
 own-orders (logic c s os) = refl
+own-orders (harmony ks) = refl
 
 all-orders : (p : Program) → length (gathered ordersOf p) ≡ ordersIn p
 unfolding flatMap ordersIn
@@ -100,43 +101,46 @@ room p a =
 -- ---- so many rows of each kind as there are declarations
 
 module _ (value : ℕ → ℤ) where
-  kinds-add : (x y s r l i t c o : ℕ) (p : Program) → kindsFrom (kinds x y s r l) (filledFrom value i t c o p .rows)
-      ≡ kinds (x + countOf Interval p) (y + countOf Tone p) (s + countOf System p) (r + countOf Retuning p) (l + countOf Logic p)
+  kinds-add : (x y s r l h i t c o : ℕ) (p : Program) → kindsFrom (kinds x y s r l h) (filledFrom value i t c o p .rows)
+      ≡ kinds (x + countOf Interval p) (y + countOf Tone p) (s + countOf System p) (r + countOf Retuning p) (l + countOf Logic p) (h + countOf Harmony p)
   unfolding filledFrom kindsFrom countOf
-  kinds-add x y s r l i t c o [] = simp add-zero
-  kinds-add x y s r l i t c o (d ∷ p) =
+  kinds-add x y s r l h i t c o [] = simp add-zero
+  kinds-add x y s r l h i t c o (d ∷ p) =
       let t′ = t + length (tonesOf value (d .is)) in
       let c′ = c + length (changesOf value (d .is)) in
       let o′ = o + length (ordersOf (d .is)) in
-      go (d .is) (filledFrom value (suc i) t′ c′ o′ p .rows) (λ x y s r l. kinds-add x y s r l (suc i) t′ c′ o′ p)
+      go (d .is) (filledFrom value (suc i) t′ c′ o′ p .rows) (λ x y s r l h. kinds-add x y s r l h (suc i) t′ c′ o′ p)
     where
       go : (d : Declaration) (rest : List Row)
-          → ((x y s r l : ℕ) → kindsFrom (kinds x y s r l) rest
-          ≡ kinds (x + countOf Interval p) (y + countOf Tone p) (s + countOf System p) (r + countOf Retuning p) (l + countOf Logic p))
+          → ((x y s r l h : ℕ) → kindsFrom (kinds x y s r l h) rest
+          ≡ kinds (x + countOf Interval p) (y + countOf Tone p) (s + countOf System p) (r + countOf Retuning p) (l + countOf Logic p) (h + countOf Harmony p))
           → let n : Kind → ℕ = λ q. ifKind (eqb (kindNumber (kindOf d)) (kindNumber q)) (countOf q p) in
-          kindsFrom (oneMore (kinds x y s r l) (rowOf value i t c o d)) rest ≡ kinds (x + n Interval) (y + n Tone) (s + n System) (r + n Retuning) (l + n Logic)
-      go (ratio a b) rest more = more (suc x) y s r l ∙ simp (suc-add, add-suc)
-      go (root a b) rest more = more (suc x) y s r l ∙ simp (suc-add, add-suc)
-      go (sequence ts) rest more = more (suc x) y s r l ∙ simp (suc-add, add-suc)
-      go (frequency f) rest more = more x (suc y) s r l ∙ simp (suc-add, add-suc)
-      go (from j ts) rest more = more x (suc y) s r l ∙ simp (suc-add, add-suc)
-      go (system a m ts) rest more = more x y (suc s) r l ∙ simp (suc-add, add-suc)
-      go (anchor m) rest more = more x y s (suc r) l ∙ simp (suc-add, add-suc)
-      go (width m) rest more = more x y s (suc r) l ∙ simp (suc-add, add-suc)
-      go (freshPeriod ts) rest more = more x y s (suc r) l ∙ simp (suc-add, add-suc)
-      go (onwardPeriod ts) rest more = more x y s (suc r) l ∙ simp (suc-add, add-suc)
-      go (tones m) rest more = more x y s (suc r) l ∙ simp (suc-add, add-suc)
-      go (logic a m os) rest more = more x y s r (suc l) ∙ simp (suc-add, add-suc)
+          kindsFrom (oneMore (kinds x y s r l h) (rowOf value i t c o d)) rest
+          ≡ kinds (x + n Interval) (y + n Tone) (s + n System) (r + n Retuning) (l + n Logic) (h + n Harmony)
+      go (ratio a b) rest more = more (suc x) y s r l h ∙ simp (suc-add, add-suc)
+      go (root a b) rest more = more (suc x) y s r l h ∙ simp (suc-add, add-suc)
+      go (sequence ts) rest more = more (suc x) y s r l h ∙ simp (suc-add, add-suc)
+      go (frequency f) rest more = more x (suc y) s r l h ∙ simp (suc-add, add-suc)
+      go (from j ts) rest more = more x (suc y) s r l h ∙ simp (suc-add, add-suc)
+      go (system a m ts) rest more = more x y (suc s) r l h ∙ simp (suc-add, add-suc)
+      go (anchor m) rest more = more x y s (suc r) l h ∙ simp (suc-add, add-suc)
+      go (width m) rest more = more x y s (suc r) l h ∙ simp (suc-add, add-suc)
+      go (freshPeriod ts) rest more = more x y s (suc r) l h ∙ simp (suc-add, add-suc)
+      go (onwardPeriod ts) rest more = more x y s (suc r) l h ∙ simp (suc-add, add-suc)
+      go (tones m) rest more = more x y s (suc r) l h ∙ simp (suc-add, add-suc)
+      go (logic a m os) rest more = more x y s r (suc l) h ∙ simp (suc-add, add-suc)
+      go (harmony ks) rest more = more x y s r l (suc h) ∙ simp (suc-add, add-suc)
 
-pub kinds-few : (p : Program) → Allowed p → kindsRight (kindsFrom (kinds 0 0 0 0 0) (filled p .rows)) ≡ true
+pub kinds-few : (p : Program) → Allowed p → kindsRight (kindsFrom (kinds 0 0 0 0 0 0) (filled p .rows)) ≡ true
 kinds-few p a =
     rw (
-      kinds-add (valueOf p) 0 0 0 0 0 0 0 0 0 p,
+      kinds-add (valueOf p) 0 0 0 0 0 0 0 0 0 0 p,
       le-leb (0 + countOf Interval p) mostIntervals (omega (arith, a .few Interval)),
       le-leb (0 + countOf Tone p) mostToneNames (omega (arith, a .few Tone)),
       le-leb (0 + countOf System p) mostSystems (omega (arith, a .few System)),
       le-leb (0 + countOf Retuning p) mostRetunings (omega (arith, a .few Retuning)),
       le-leb (0 + countOf Logic p) mostLogics (omega (arith, a .few Logic)),
+      le-leb (0 + countOf Harmony p) mostHarmonies (omega (arith, a .few Harmony)),
     )
 
 -- ---- tones, changes and orders stand one row's after the other's
@@ -166,6 +170,7 @@ module _ (value : ℕ → ℤ) where
       go (onwardPeriod ts) = record { begins = refl; after = none }
       go (tones l) = record { begins = eq-eqb c c refl; after = simp (length-map, add-zero) }
       go (logic x s os) = record { begins = eq-eqb o o refl; after = simp add-zero }
+      go (harmony ks) = record { begins = refl; after = none }
 
   parts-follow : (u : Counts) (i t c o : ℕ) (p : Program) → let f = filledFrom value i t c o p in
       t + length (f .tones) ≡ u .tones → c + length (f .changes) ≡ u .changes → o + length (f .orders) ≡ u .orders

@@ -9,11 +9,13 @@ use lib.ListN.{length, length-map}
 use lib.Seq.{slice}
 use Rattle.values.specs.Values.{Term}
 use Rattle.tables.specs.Layout.{rowWidth, mostRows, mostTones, mostChanges, mostOrders, numberAt, writtenAll, rowOf, rowAt, rowCount, tonesFrom, changesFrom, full}
-use Rattle.tables.specs.declared.Row.the-variants.{Unused}
+use Rattle.tables.specs.declared.Row.the-variants.{Unused, Harmony}
 use Rattle.tables.proofs.Stored.{written-length, row-read, tones-read, changes-read, part-read}
-use Rattle.program.specs.Program.{system, tones, logic, Program, Position, Order}
+use Rattle.harmonies.specs.Harmonies.{HarmonyKey, harmonyOf}
+use Rattle.program.specs.Program.{system, tones, logic, harmony, Declaration, Program, Position, Trigger, Order}
 use Rattle.program.specs.Meaning.{declarationAt, valueOf}
-use Rattle.filling.specs.Tables.{tonesOf, changesOf, ordersOf, toneOf, changeOf, tablesOf}
+use Rattle.filling.specs.Tables.{tonesOf, changesOf, ordersOf, toneOf, changeOf, triggerCode, tablesOf}
+use Rattle.filling.specs.Tables as filling
 use Rattle.mutabor.proofs.Lists.{full-past}
 use Rattle.mutabor.proofs.Filled.{part-stands, filled, filled-lists, row-at, rowFor, tonesBefore, changesBefore, ordersBefore}
 
@@ -36,7 +38,7 @@ past-decoded p k h = rw form
         let a = filled-lists p .rows in
         full-past (pos 0) (rowWidth * mostRows) (writtenAll (filled p .rows)) (rowWidth * k + 0) (omega (arith, written-length (filled p .rows)))
 
--- ---- the tones of a tone system, the changes of a tones retuning, the orders of a logic
+-- ---- the tones of a tone system, the changes of a tones retuning, the orders of a logic, the sets of a harmony
 
 module _ (p : Program) (k : ℕ) (h : k < length p) where
   pub system-tones : (a : ℕ) (l : List (Option ℕ)) (ts : List Term) → declarationAt p k ≡ system a l ts
@@ -55,15 +57,19 @@ module _ (p : Program) (k : ℕ) (h : k < length p) where
       let t = part-stands (changesOf value) p k h (filled-lists p .changes) (ap (changesOf value) e) (length-map l (changeOf value)) in
       changes-read mostChanges (changesBefore p k) (changesBefore p k + length l) (filled p .changes) (t .0) ∙ t .1
 
-  module _ (c : ℕ) (s : Option ℕ) (os : List Order) (e : declarationAt p k ≡ logic c s os) where
+  pub harmony-row : (ks : List HarmonyKey) → declarationAt p k ≡ harmony ks → rowAt (tablesOf p) k ≡ Harmony (harmonyOf ks .needed) (harmonyOf ks .named)
+  harmony-row ks e =
+      row-decoded p k h ∙ ap (λ (d : Declaration). filling.rowOf (valueOf p) k (tonesBefore p k) (changesBefore p k) (ordersBefore p k) d) e
+
+  module _ (c : Trigger) (s : Option ℕ) (os : List Order) (e : declarationAt p k ≡ logic c s os) where
     orders-there : (g : Order → ℕ) → slice (ordersBefore p k) (ordersBefore p k + length os) (full 0 mostOrders (map g (filled p .orders))) ≡ map g os
     orders-there g =
         let t = part-stands ordersOf p k h (filled-lists p .orders) (ap ordersOf e) refl in
         part-read g 0 mostOrders (ordersBefore p k) (ordersBefore p k + length os) (filled p .orders) (t .0) ∙ ap (map g) (t .1)
 
-    pub logic-letters : slice (ordersBefore p k) (ordersBefore p k + length os) (tablesOf p .triggers) ≡ map (λ (x : Order). x .letter) os
+    pub logic-triggers : slice (ordersBefore p k) (ordersBefore p k + length os) (tablesOf p .triggers) ≡ map (λ (x : Order). triggerCode (x .trigger)) os
     unfolding tablesOf
-    logic-letters = orders-there (λ x. x .letter)
+    logic-triggers = orders-there (λ x. triggerCode (x .trigger))
 
     pub logic-calls : slice (ordersBefore p k) (ordersBefore p k + length os) (tablesOf p .calls) ≡ map (λ (x : Order). x .calls) os
     unfolding tablesOf

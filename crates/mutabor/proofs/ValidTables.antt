@@ -4,9 +4,9 @@ use mathlib.Core.Path.{_≡_, refl, sym, ap, _∙_, subst}
 use mathlib.Core.Bool.{Bool, true, not, _&&_}
 use mathlib.Core.List.{List, [], _∷_, map, flatMap}
 use mathlib.Core.Option.{Option, some, none}
-use Prim.Native.Nat.{ℕ, _*_, _-_, _<_}
+use Prim.Native.Nat.{ℕ, _+_, _*_, _-_, _<_}
 use native.Mathlib.Omega.{arith}
-use borrow.Author.Tests.{lt-ltb}
+use borrow.Author.Tests.{le-leb, lt-ltb}
 use lib.IntN.{ℤ, pos, _+ℤ_}
 use lib.ListN.{length, length-map, getD}
 use Rattle.names.specs.Parts as parts
@@ -20,18 +20,22 @@ use Rattle.tuning.proofs.Lists.{every}
 use Rattle.tables.specs.declared.Counts.{Counts}
 use Rattle.tables.specs.declared.Row.{Row}
 use Rattle.tables.specs.declared.Row.the-variants.{Unused}
-use Rattle.tables.specs.Layout.{Tables, used, rowWidth, mostRows, mostTones, mostChanges, mostOrders, rowAt, writtenAll, soundingOf, pitchOf, changeCode, changeNumber}
+use Rattle.tables.specs.Layout.{Tables, used, rowWidth, mostRows, mostTones, mostChanges, mostOrders, harmonyBase, allSets, rowAt, writtenAll, soundingOf, pitchOf, changeCode, changeNumber}
 use Rattle.tables.proofs.Lists.{full-length}
 use Rattle.tables.proofs.Stored.{written-length}
-use Rattle.validity.specs.Valid.{isSum, isCapital, isSystemOrRetuning, isCalled, refersTo, isStart, declarationRight, validTables}
+use Rattle.validity.specs.Valid.{isSum, isCapital, isSystemOrRetuning, isCalled, refersTo, isStart, isHarmony, isTrigger, declarationRight, validTables}
 use Rattle.validity.proofs.Sizes.{Sizes}
 use Rattle.validity.proofs.Laid.{valid-is, row-laid, rows-laid, declarations-laid, tones-laid, changes-laid, orders-laid, zeros-after, noughts-after}
-use Rattle.program.specs.Program.{Declaration, ratio, root, sequence, frequency, from, system, anchor, width, freshPeriod, onwardPeriod, tones, logic, Placed, Program, Position, mute, kept, named, Order}
+use Rattle.program.specs.Program.{Declaration, ratio, root, sequence, frequency, from, system, anchor, width, freshPeriod, onwardPeriod, tones, logic, harmony, Placed, Program, Position, mute, kept, named, Trigger, byLetter, byHarmony, Order}
+use Rattle.sets.proofs.Tests.{either-right}
+use Rattle.harmonies.specs.Harmonies.{harmonyOf}
 use Rattle.program.specs.Meaning.{declarationAt, valueOf, valued}
-use Rattle.program.specs.Allowed.{kindOf, isKind, Each, FitSystemPosition, FitStart, FitOrder, Fits, Allowed}
+use Rattle.program.specs.Allowed.{kindOf, isKind, Each, FitSystemPosition, FitStart, FitTrigger, FitOrder, Fits, Allowed}
 use Rattle.program.specs.Text.{accepted, readText}
 use Rattle.program.proofs.AcceptedText.{steps, fits-at, value-tone, value-period}
-use Rattle.filling.specs.Tables.{sumOf, toneOf, tonesOf, changeOf, changesOf, startCode, rowOf, ordersOf, laidOut, tablesOf}
+use Rattle.filling.specs.Tables.{sumOf, toneOf, tonesOf, changeOf, changesOf, startCode, triggerCode, rowOf, ordersOf, laidOut, tablesOf}
+use Rattle.filling.specs.Inner.{triggerOf, callOf}
+use Rattle.filling.proofs.Naming.{harmony-small}
 use Rattle.mutabor.proofs.Lists.{every-append, every-within, stored-length, stored-at}
 use Rattle.mutabor.proofs.Filled.{gathered, part-stands, only-systems, only-retunings, only-logics, filled, filled-lists, tonesBefore, changesBefore, ordersBefore, rowFor, row-at}
 use Rattle.mutabor.proofs.Counted.{room, kinds-few, parts-laid}
@@ -40,29 +44,24 @@ use Rattle.mutabor.proofs.InRange.{sum-right, key-right, anchor-right, 
 -- ---- references: the kinds that a name may mean are those of the rows that it may refer to
 
 module _ (value : ℕ → ℤ) (i t c o : ℕ) where
-  -- what a start may mean, and what an order may mean
+  -- what a start may mean, what an order may mean, and what a trigger may mean
   kind-row : (d : Declaration) → (isKind (kindOf d) (meant parts.start) ≡ isSystemOrRetuning (rowOf value i t c o d))
-      × (isKind (kindOf d) (meant parts.order) ≡ isCalled (rowOf value i t c o d))
-  kind-row (ratio a b) = (refl, refl)
-  kind-row (root a b) = (refl, refl)
-  kind-row (sequence ts) = (refl, refl)
-  kind-row (frequency f) = (refl, refl)
-  kind-row (from k ts) = (refl, refl)
-  kind-row (system a l ts) = (refl, refl)
-  kind-row (anchor m) = (refl, refl)
-  kind-row (width m) = (refl, refl)
-  kind-row (freshPeriod ts) = (refl, refl)
-  kind-row (onwardPeriod ts) = (refl, refl)
-  kind-row (tones l) = (refl, refl)
-  kind-row (logic x s os) = (refl, refl)
+      × (isKind (kindOf d) (meant parts.order) ≡ isCalled (rowOf value i t c o d)) × (isKind (kindOf d) (meant parts.trigger) ≡ isHarmony (rowOf value i t c o d))
+  kind-row (ratio a b) = (refl, refl, refl)
+  kind-row (root a b) = (refl, refl, refl)
+  kind-row (sequence ts) = (refl, refl, refl)
+  kind-row (frequency f) = (refl, refl, refl)
+  kind-row (from k ts) = (refl, refl, refl)
+  kind-row (system a l ts) = (refl, refl, refl)
+  kind-row (anchor m) = (refl, refl, refl)
+  kind-row (width m) = (refl, refl, refl)
+  kind-row (freshPeriod ts) = (refl, refl, refl)
+  kind-row (onwardPeriod ts) = (refl, refl, refl)
+  kind-row (tones l) = (refl, refl, refl)
+  kind-row (logic x s os) = (refl, refl, refl)
+  kind-row (harmony ks) = (refl, refl, refl)
 
 -- ---- tables that are laid out
-
-abbrev letterOf : Order → ℕ
-letterOf x = x .letter
-
-abbrev callOf : Order → ℕ
-callOf x = x .calls
 
 module _ (p : Program) (a : Allowed p) (v : valued p ≡ Done) where
   abbrev value : ℕ → ℤ
@@ -88,6 +87,13 @@ module _ (p : Program) (a : Allowed p) (v : valued p ≡ Done) where
       let w = kind-row value k (tonesBefore p k) (changesBefore p k) (ordersBefore p k) (declarationAt p k) in
       refers-right isSystemOrRetuning k (h .within) (sym (w .0) ∙ h .kind)
 
+  trigger-right : (x : Trigger) → FitTrigger p x → isTrigger laid (triggerCode x) ≡ true
+  trigger-right (byLetter c) h = rw (letter-right c h)
+  trigger-right (byHarmony k) h =
+      let w = kind-row value k (tonesBefore p k) (changesBefore p k) (ordersBefore p k) (declarationAt p k) in
+      let e : harmonyBase + k - harmonyBase ≡ k = omega arith in
+      either-right (isCapital (harmonyBase + k)) _ (rw (le-leb harmonyBase (harmonyBase + k) (omega arith), e) (refers-right isHarmony k (h .within) (sym (w .2) ∙ h .kind)))
+
   row-right : (k : ℕ) → k < length p → declarationRight laid (rowFor p k) ≡ true
   unfolding declarationRight
   row-right k h = by-declaration (declarationAt p k) refl (fits-at a k h)
@@ -110,10 +116,14 @@ module _ (p : Program) (a : Allowed p) (v : valued p ≡ Done) where
       by-declaration (logic c s os) e fit =
           let t = part-stands ordersOf p k h (filled-lists p .orders) (ap ordersOf e) refl in
           rw (
-            letter-right c (fit .letter),
+            trigger-right c (fit .trigger),
             start-right s (fit .start),
             part-right 0 mostOrders (ordersBefore p k) (length os) (omega arith) (omega (arith, t .0, room p a .orders)),
           )
+      by-declaration (harmony ks) e fit =
+          let y = harmonyOf ks in
+          let small = harmony-small ks (fit .each) in
+          rw (lt-ltb (y .needed) allSets (small .needed), lt-ltb (y .named) allSets (small .named))
 
   -- ---- tones, changes and orders
 
@@ -156,13 +166,13 @@ module _ (p : Program) (a : Allowed p) (v : valued p ≡ Done) where
       own d fit = only-retunings value (λ xs. every changeRight xs ≡ true) d (positions-right []) (λ l e. positions-right l)
 
   abbrev orderRight : Order → Bool
-  orderRight x = isCapital (x .letter) && refersTo isCalled laid (x .calls)
+  orderRight x = isTrigger laid (triggerOf x) && refersTo isCalled laid (x .calls)
 
   order-right : (x : Order) → FitOrder p x → orderRight x ≡ true
   order-right x fit =
       let k = x .calls in
       let w = kind-row value k (tonesBefore p k) (changesBefore p k) (ordersBefore p k) (declarationAt p k) in
-      rw (letter-right (x .letter) (fit .letter), refers-right isCalled k (fit .calls .within) (sym (w .1) ∙ fit .calls .kind))
+      rw (trigger-right (x .trigger) (fit .trigger), refers-right isCalled k (fit .calls .within) (sym (w .1) ∙ fit .calls .kind))
 
   logic-right : (os : List Order) → Each (FitOrder p) os → every orderRight os ≡ true
   unfolding every
@@ -176,11 +186,11 @@ module _ (p : Program) (a : Allowed p) (v : valued p ≡ Done) where
       own d fit = only-logics (λ os. every orderRight os ≡ true) d (logic-right [] tt) (λ c s os e. logic-right os (subst (Fits p) e fit .orders))
 
   order-at : (i : ℕ) → i < length (filled p .orders)
-      → isCapital (getD (laid .triggers) i 0) && refersTo isCalled laid (getD (laid .calls) i 0) ≡ true
+      → isTrigger laid (getD (laid .triggers) i 0) && refersTo isCalled laid (getD (laid .calls) i 0) ≡ true
   order-at i h =
       let os = filled p .orders in
-      let nought : Order = record { letter = 0; calls = 0 } in
-      rw (stored-at letterOf mostOrders os nought i h, stored-at callOf mostOrders os nought i h) (every-within orderRight os i nought h orders-right)
+      let nought : Order = record { trigger = byLetter 0; calls = 0 } in
+      rw (stored-at triggerOf mostOrders os nought i h, stored-at callOf mostOrders os nought i h) (every-within orderRight os i nought h orders-right)
 
   -- ---- all of it
 
@@ -194,7 +204,7 @@ module _ (p : Program) (a : Allowed p) (v : valued p ≡ Done) where
         tones = stored-length pitchOf mostTones (f .tones) (pos 0) (n .tones);
         kinds = stored-length changeCode mostChanges (f .changes) 0 (n .changes);
         changes = stored-length changeNumber mostChanges (f .changes) (pos 0) (n .changes);
-        triggers = stored-length letterOf mostOrders (f .orders) 0 (n .orders);
+        triggers = stored-length triggerOf mostOrders (f .orders) 0 (n .orders);
         calls = stored-length callOf mostOrders (f .orders) 0 (n .orders);
         counts = refl;
       }
@@ -212,7 +222,7 @@ module _ (p : Program) (a : Allowed p) (v : valued p ≡ Done) where
         tones = tones-laid mostTones (length (f .tones)) (f .tones) refl tones-right;
         changes = changes-laid mostChanges (length (f .changes)) (f .changes) refl changes-right;
         orders = orders-laid laid (length (f .orders)) order-at;
-        triggersAfter = noughts-after mostOrders (length (f .orders)) (map letterOf (f .orders)) (length-map (f .orders) letterOf);
+        triggersAfter = noughts-after mostOrders (length (f .orders)) (map triggerOf (f .orders)) (length-map (f .orders) triggerOf);
         callsAfter = noughts-after mostOrders (length (f .orders)) (map callOf (f .orders)) (length-map (f .orders) callOf);
       })
     where

@@ -9,7 +9,7 @@ use Rattle.tables.proofs.Columns.{columns-length}
 use Rattle.program.specs.Program.{Order, Ordered, ordersOf}
 use Rattle.program.specs.Allowed.{Each}
 use Rattle.valuation.specs.Inner.{itemsBetween}
-use Rattle.filling.specs.Inner.{orderAt, letterOf, callOf, ordersHere, FitOrder, Appended}
+use Rattle.filling.specs.Inner.{orderAt, triggerBy, triggerOf, callOf, ordersHere, FitOrder, Appended}
 use Rattle.filling.proofs.Items.{ordered-end, orders-next}
 use Rattle.filling.proofs.Writing.{Making, making-none, making-all, making-now, making-skip, making-room, making-next, making-first-length, making-second-length}
 use Rattle.filling.proofs.lists.write_orders.Statement.{statement}
@@ -21,7 +21,7 @@ asIs x = x
 
 abbrev Inv-loop : tie.InvT-loop
 Inv-loop items from to orders₀ at count₀ i₀ orders count i =
-    Making FitOrder asIs letterOf callOf (ordersOf (itemsBetween items from to)) at (triggersIn orders₀) (callsIn orders₀)
+    Making FitOrder asIs triggerOf callOf (ordersOf (itemsBetween items from to)) at (triggersIn orders₀) (callsIn orders₀)
     (ordersOf (itemsBetween items i to)) (triggersIn orders) (callsIn orders) count
 
 abbrev μ-loop : tie.MeasureT-loop
@@ -43,8 +43,8 @@ module _ (c : tie.In-loop Inv-loop μ-loop) where
 read-order-requires : tie.Need-read-order-requires Inv-loop μ-loop
 read-order-requires c κs = c .loop-test .taken
 
-enum-known-letter : tie.Need-enum-known-letter Inv-loop μ-loop
-enum-known-letter c = search needs
+enum-known-trigger : tie.Need-enum-known-trigger Inv-loop μ-loop
+enum-known-trigger c = search needs
 
 enum-told : tie.Need-enum-told Inv-loop μ-loop
 enum-told c = search needs
@@ -65,30 +65,30 @@ loop-again c =
     making-skip (here .before .loop .inv) (present here) _ (next here) (same (ap ordersHere (sym (c .enum-told .given .1)) ∙ c .before .before .read-order .ensures))
 
 -- the order that it gives
-module _ (c : tie.After-letter Inv-loop μ-loop) where
+module _ (c : tie.After-trigger Inv-loop μ-loop) where
   abbrev order : Order
-  order = record { letter = c .letter .given .0 .0; calls = c .letter .given .0 .1 .0 }
+  order = record { trigger = triggerBy (c .trigger .given .0 .0); calls = c .trigger .given .0 .1 .0 }
 
   given : order ∷ [] ≡ present (c .before .before .before)
-  given = ap ordersHere (sym (c .letter .given .1)) ∙ c .before .before .read-order .ensures
+  given = ap ordersHere (sym (c .trigger .given .1)) ∙ c .before .before .read-order .ensures
 
   fit : FitOrder order
   fit =
       let here = c .before .before .before in
       (subst (Each FitOrder) (sym given) (making-now (here .before .loop .inv) (present here) _ (next here))) .0
 
-cast-store-order : tie.Need-cast-store-order Inv-loop μ-loop
-cast-store-order c = record { fits = fit (c .before .before) .letter }
+code-of-requires : tie.Need-code-of-requires Inv-loop μ-loop
+code-of-requires c κs = fit (c .before .before) .trigger
 
-cast-store-order-2 : tie.Need-cast-store-order-2 Inv-loop μ-loop
-cast-store-order-2 c = record { fits = fit (c .before .before) .calls }
+cast-store-order : tie.Need-cast-store-order Inv-loop μ-loop
+cast-store-order c = record { fits = fit (c .before .before .before) .calls }
 
 store-order-requires : tie.Need-store-order-requires Inv-loop μ-loop
 store-order-requires c κs = search needs
 
 add-count : tie.Need-add-count Inv-loop μ-loop
 add-count c =
-    let told = c .before .before .before .before .before in
+    let told = c .before .before .before .before .before .before in
     let here = told .before .before .before in
     let room = making-room (here .before .loop .inv) (present here) _ (next here) (same (given told)) (here .before .before .before .before .pre .1) in
     omega (arith, room)
@@ -101,9 +101,9 @@ loop-less-2 c = search needs
 
 loop-again-2 : tie.Need-loop-again-2 Inv-loop μ-loop
 loop-again-2 c =
-    let told = c .before .before .before .before .before in
+    let told = c .before .before .before .before .before .before in
     let here = told .before .before .before in
-    let stored = c .before .before .store-order .ensures in
+    let stored = rw (c .before .before .before .code-of .ensures) at (c .before .before .store-order .ensures) in
     making-next (here .before .loop .inv) (present here) _ (next here) (same (given told)) (stored .0) (stored .1)
 
 same-length : tie.Need-same-length Inv-loop μ-loop
@@ -113,7 +113,7 @@ same-length c = let inv = c .before .loop .inv in
 returns : tie.Need-returns Inv-loop μ-loop
 returns c = let os = c .before .before .before .before .args .orders .now in
     subst
-    (λ (l : List Order). Appended letterOf callOf l (c .before .before .before .before .args .at) (triggersIn os) (callsIn os) (c .before .loop .count) (triggersIn (c .before .loop .orders)) (callsIn (c .before .loop .orders)))
+    (λ (l : List Order). Appended triggerOf callOf l (c .before .before .before .before .args .at) (triggersIn os) (callsIn os) (c .before .loop .count) (triggersIn (c .before .loop .orders)) (callsIn (c .before .loop .orders)))
     (map-id _)
     (making-all (c .before .loop .inv) (ap (λ (g : Ordered). g .orders) (ordered-end _ _ _ (c .loop-test .left))))
 
@@ -125,13 +125,13 @@ write-orders-spec =
     μ-loop
     loop-holds
     read-order-requires
-    enum-known-letter
+    enum-known-trigger
     enum-told
     add-i
     loop-less
     loop-again
+    code-of-requires
     cast-store-order
-    cast-store-order-2
     store-order-requires
     add-count
     add-i-2

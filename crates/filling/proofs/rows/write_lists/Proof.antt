@@ -8,13 +8,13 @@ use Rattle.grammar.specs.declared.Item.{Item}
 use Rattle.grammar.specs.declared.Item.the-variants as item
 use Rattle.names.specs.Parts.{part}
 use Rattle.tables.specs.declared.Row.the-variants.{Interval}
-use Rattle.program.specs.Program.{Declaration, declarationOf, periodOf, tones, grouped}
+use Rattle.program.specs.Program.{Declaration, declarationOf, periodOf, tones, grouped, logic, startOf, ordersOf, harmony, keysOf}
 use Rattle.valuation.specs.Inner.{itemsBetween}
-use Rattle.filling.specs.Inner.{begins, Writable}
+use Rattle.filling.specs.Inner.{begins, triggerBy, triggersHere, Writable}
 use Rattle.filling.proofs.Inside.{inside}
 use Rattle.valuation.proofs.Between.{between-none}
 use Rattle.filling.proofs.Items.{item-next}
-use Rattle.filling.proofs.Forms.{Plain, as-plain, as-tones, period-form, period-rowed}
+use Rattle.filling.proofs.Forms.{Plain, as-plain, as-tones, as-logic, plain-first, starred-first, period-form, period-rowed, harmony-rowed}
 use Rattle.filling.proofs.Slices.{rowed-in-as, system-in, tones-in, logic-in}
 use borrow.Author.Needs.{needs}
 use Rattle.filling.proofs.rows.write_lists.Statement.{statement}
@@ -43,16 +43,32 @@ module _ (c : tie.After-item-at) where
       ∙ as-tones (inside (c .item-at .result)) e rest
       ∙ ap (λ (is : List Item). tones (grouped is .positions)) (sym (item-next _ _ _ (c .item-at .ensures) (c .before .if1 .left)))
 
+  keys : {x : Item} → c .item-at .result ≡ x → declarationOf (x ∷ rest) ≡ harmony (keysOf (x ∷ rest)) → declarationOf body ≡ harmony (keysOf body)
+  keys e q =
+      first e
+      ∙ q
+      ∙ ap (λ (is : List Item). harmony (keysOf is)) (sym (item-next _ _ _ (sym e ∙ c .item-at .ensures) (c .before .if1 .left)))
+
   -- whatever it is equal to can be written
   writable : {d : Declaration} → declarationOf body ≡ d → Writable (start .args .values .now) (start .args .used) d
   writable e = subst (λ (d : Declaration). Writable (start .args .values .now) (start .args .used) d) e (start .pre .1)
 
+-- a logic, by the trigger with which it begins
+triggered : (c : tie.After-trigger) → let here = c .before .before .before .before .before in
+    declarationOf (body here) ≡ logic (triggerBy (c .trigger .given .0 .0)) (startOf (rest here)) (ordersOf (rest here))
+triggered c =
+    let here = c .before .before .before .before .before in
+    let e = sym (c .before .before .read-trigger .ensures) ∙ ap triggersHere (c .trigger .given .1) in
+    first here refl ∙ as-logic (inside (here .item-at .result)) e (rest here)
+
 -- a declaration with no list and no sum
-plain : (c : tie.At-match-keys5) → let here = c .before .before .before in
+plain : (c : tie.At-match2-keys6) → let here = c .before .before .before .before .before .before in
     Plain (start here .args .values .now) (start here .args .used) (here .item-at .result) (rest here)
 plain c =
-    let here = c .before .before .before in
-    as-plain _ _ (here .item-at .result) (c .match .keys5) (sym (c .before .before .is-position .ensures) ∙ c .before .if2 .left) _
+    let here = c .before .before .before .before .before .before in
+    let none-begins = sym (c .before .before .before .before .before .is-position .ensures) ∙ c .before .before .before .before .if2 .left in
+    let none-triggers = sym (c .before .before .before .read-trigger .ensures) ∙ ap triggersHere (c .before .enum-told .given .1) in
+    as-plain _ _ (here .item-at .result) (c .match2 .keys6) none-begins none-triggers _
 
 cast-row : tie.Need-cast-row
 cast-row c = search needs
@@ -90,7 +106,8 @@ part-changes-end : tie.Need-part-changes-end
 part-changes-end c = search needs
 
 write-tones-requires : tie.Need-write-tones-requires
-write-tones-requires c κs = let here = c .before .before .before .before in
+write-tones-requires c κs =
+    let here = c .before .before .before .before in
     writable here (positions here (sym (c .before .before .before .is-position .ensures) ∙ c .before .before .if2 .taken))
 
 same-length : tie.Need-same-length
@@ -100,12 +117,45 @@ same-length-2 : tie.Need-same-length-2
 same-length-2 c = search needs
 
 returns-2 : tie.Need-returns-2
-returns-2 c = let w = c .before .before .before .write-tones in
+returns-2 c =
+    let w = c .before .before .before .write-tones in
     rowed-in-as (positions (c .before .before .before .before .before .before .before .before) (sym (c .before .before .before .before .before .before .before .is-position .ensures) ∙ c .before .before .before .before .before .before .if2 .taken))
     (tones-in (c .before .before .before .before .before .before .before .before .before .before .before .before .before .pre .0) (w .last .1 .1 .1 .1 .1 .0) (w .last .1 .1 .1 .1 .1 .1 .0) (w .kept .1 .1 .1 .1 .1 .0) (w .kept .1 .1 .1 .1 .1 .1 .0) (w .ensures .0) (w .ensures .1))
 
 add-rest : tie.Need-add-rest
 add-rest c = search needs
+
+read-trigger-requires : tie.Need-read-trigger-requires
+read-trigger-requires c κs = search needs
+
+enum-known-trigger : tie.Need-enum-known-trigger
+enum-known-trigger c = search needs
+
+sub-orders : tie.Need-sub-orders
+sub-orders c = search needs
+
+part-orders-start : tie.Need-part-orders-start
+part-orders-start c = search needs
+
+part-orders-end : tie.Need-part-orders-end
+part-orders-end c = search needs
+
+write-logic-requires : tie.Need-write-logic-requires
+write-logic-requires c κs =
+    let w = writable (c .before .before .before .before .before .before .before) (triggered (c .before .before)) in
+    (w .parts, w .orders)
+
+same-length-3 : tie.Need-same-length-3
+same-length-3 c = search needs
+
+returns-3 : tie.Need-returns-3
+returns-3 c =
+    let w = c .before .before .write-logic in
+    rowed-in-as (triggered (c .before .before .before .before .before))
+    (logic-in (c .before .before .before .before .before .before .before .before .before .before .before .before .before .before .before .pre .0) (w .last .1 .1 .1 .1 .1 .0) (w .kept .1 .1 .1 .1 .1 .0) (w .ensures .0) (w .ensures .1))
+
+enum-told : tie.Need-enum-told
+enum-told c = search needs
 
 enum-known-item : tie.Need-enum-known-item
 enum-known-item c = search needs
@@ -129,71 +179,83 @@ part-tones-end : tie.Need-part-tones-end
 part-tones-end c = search needs
 
 write-system-requires : tie.Need-write-system-requires
-write-system-requires c κs = let here = c .before .before .before .before .before .before .before in
+write-system-requires c κs =
+    let here = c .before .before .before .before .before .before .before .before .before .before in
     writable here (first here (c .before .before .before .item .given .1))
-
-enum-told : tie.Need-enum-told
-enum-told c = search needs
-
-read-period-requires : tie.Need-read-period-requires
-read-period-requires c κs = let here = c .before .before .before .before in writable here (first here (c .enum-told .given .1)) .parts
 
 enum-told-2 : tie.Need-enum-told-2
 enum-told-2 c = search needs
 
+read-period-requires : tie.Need-read-period-requires
+read-period-requires c κs =
+    let here = c .before .before .before .before .before .before .before in
+    writable here (first here (c .enum-told2 .given .1)) .parts
+
+enum-told-3 : tie.Need-enum-told-3
+enum-told-3 c = search needs
+
 read-period-requires-2 : tie.Need-read-period-requires-2
-read-period-requires-2 c κs = let here = c .before .before .before .before in writable here (onward here (c .enum-told2 .given .1)) .parts
+read-period-requires-2 c κs =
+    let here = c .before .before .before .before .before .before .before in
+    writable here (onward here (c .enum-told3 .given .1)) .parts
 
-enum-known-item-2 : tie.Need-enum-known-item-2
-enum-known-item-2 c = search needs
+enum-told-4 : tie.Need-enum-told-4
+enum-told-4 c = search needs
 
-sub-orders : tie.Need-sub-orders
-sub-orders c = search needs
+make-harmony-requires : tie.Need-make-harmony-requires
+make-harmony-requires c κs =
+    let here = c .before .before .before .before .before .before .before in
+    writable here (keys here (c .enum-told4 .given .1) (plain-first _ _)) .parts
 
-part-orders-start : tie.Need-part-orders-start
-part-orders-start c = search needs
+enum-told-5 : tie.Need-enum-told-5
+enum-told-5 c = search needs
 
-part-orders-end : tie.Need-part-orders-end
-part-orders-end c = search needs
-
-write-logic-requires : tie.Need-write-logic-requires
-write-logic-requires c κs = let here = c .before .before .before .before .before .before in
-    let w = writable here (first here (c .before .before .item2 .given .1)) in
-    (w .parts, w .orders)
+make-harmony-requires-2 : tie.Need-make-harmony-requires-2
+make-harmony-requires-2 c κs =
+    let here = c .before .before .before .before .before .before .before in
+    writable here (keys here (c .enum-told5 .given .1) (starred-first _ _)) .parts
 
 make-plain-requires : tie.Need-make-plain-requires
-make-plain-requires c κs = let here = c .before .before .before in
-    (c .before .before .before .before .before .before .before .before .pre .1 .value, plain c .fit (writable here (first here refl) .parts))
-
-same-length-3 : tie.Need-same-length-3
-same-length-3 c = search needs
+make-plain-requires c κs =
+    let here = c .before .before .before .before .before .before in
+    (c .before .before .before .before .before .before .before .before .before .before .before .pre .1 .value, plain c .fit (writable here (first here refl) .parts))
 
 same-length-4 : tie.Need-same-length-4
 same-length-4 c = search needs
 
-returns-3 : tie.Need-returns-3
-returns-3 c = let w = c .before .before .before .write-system in
-    rowed-in-as (first (c .before .before .before .before .before .before .before .before .before .before .before) (c .before .before .before .before .before .before .before .item .given .1))
-    (system-in (c .before .before .before .before .before .before .before .before .before .before .before .before .before .before .before .before .pre .0) (w .last .1 .1 .1 .1 .1 .1 .0) (w .last .1 .1 .1 .1 .1 .1 .1 .0) (w .kept .1 .1 .1 .1 .1 .1 .0) (w .kept .1 .1 .1 .1 .1 .1 .1 .0) (w .ensures .0) (w .ensures .1))
-
-returns-4 : tie.Need-returns-4
-returns-4 c = let here = c .before .before .before .before .before in
-    rowed-in-as (first here (c .before .enum-told .given .1)) (record { rowed = period-rowed (period-form (rest here)) (c .read-period .ensures); rows = refl })
-
-returns-5 : tie.Need-returns-5
-returns-5 c = let here = c .before .before .before .before .before in
-    rowed-in-as (onward here (c .before .enum-told2 .given .1)) (record { rowed = period-rowed (period-form (body here)) (c .read-period2 .ensures); rows = refl })
-
 same-length-5 : tie.Need-same-length-5
 same-length-5 c = search needs
 
+returns-4 : tie.Need-returns-4
+returns-4 c =
+    let w = c .before .before .before .write-system in
+    rowed-in-as (first (c .before .before .before .before .before .before .before .before .before .before .before .before .before .before) (c .before .before .before .before .before .before .before .item .given .1))
+    (system-in (c .before .before .before .before .before .before .before .before .before .before .before .before .before .before .before .before .before .before .before .pre .0) (w .last .1 .1 .1 .1 .1 .1 .0) (w .last .1 .1 .1 .1 .1 .1 .1 .0) (w .kept .1 .1 .1 .1 .1 .1 .0) (w .kept .1 .1 .1 .1 .1 .1 .1 .0) (w .ensures .0) (w .ensures .1))
+
+returns-5 : tie.Need-returns-5
+returns-5 c =
+    let here = c .before .before .before .before .before .before .before .before in
+    rowed-in-as (first here (c .before .enum-told2 .given .1)) (record { rowed = period-rowed (period-form (rest here)) (c .read-period .ensures); rows = refl })
+
 returns-6 : tie.Need-returns-6
-returns-6 c = let w = c .before .before .write-logic in
-    rowed-in-as (first (c .before .before .before .before .before .before .before .before .before) (c .before .before .before .before .before .item2 .given .1)) (logic-in (c .before .before .before .before .before .before .before .before .before .before .before .before .before .before .pre .0) (w .last .1 .1 .1 .1 .1 .0) (w .kept .1 .1 .1 .1 .1 .0) (w .ensures .0) (w .ensures .1))
+returns-6 c =
+    let here = c .before .before .before .before .before .before .before .before in
+    rowed-in-as (onward here (c .before .enum-told3 .given .1)) (record { rowed = period-rowed (period-form (body here)) (c .read-period2 .ensures); rows = refl })
 
 returns-7 : tie.Need-returns-7
-returns-7 c = let p = plain (c .before) in
-    rowed-in-as (first (c .before .before .before .before) refl) (record { rowed = record { row = c .make-plain .ensures ∙ sym (p .row); lists = sym (p .lists _) }; rows = refl })
+returns-7 c =
+    let here = c .before .before .before .before .before .before .before .before in
+    rowed-in-as (keys here (c .before .enum-told4 .given .1) (plain-first _ _)) (record { rowed = harmony-rowed (c .make-harmony .ensures); rows = refl })
+
+returns-8 : tie.Need-returns-8
+returns-8 c =
+    let here = c .before .before .before .before .before .before .before .before in
+    rowed-in-as (keys here (c .before .enum-told5 .given .1) (starred-first _ _)) (record { rowed = harmony-rowed (c .make-harmony2 .ensures); rows = refl })
+
+returns-9 : tie.Need-returns-9
+returns-9 c =
+    let p = plain (c .before) in
+    rowed-in-as (first (c .before .before .before .before .before .before .before) refl) (record { rowed = record { row = c .make-plain .ensures ∙ sym (p .row); lists = sym (p .lists _) }; rows = refl })
 
 pub write-lists-spec : {M : Type 1} → statement M
 write-lists-spec =
@@ -215,6 +277,15 @@ write-lists-spec =
     same-length-2
     returns-2
     add-rest
+    read-trigger-requires
+    enum-known-trigger
+    sub-orders
+    part-orders-start
+    part-orders-end
+    write-logic-requires
+    same-length-3
+    returns-3
+    enum-told
     enum-known-item
     sub-sounding
     part-sounding-start
@@ -223,21 +294,20 @@ write-lists-spec =
     part-tones-start
     part-tones-end
     write-system-requires
-    enum-told
-    read-period-requires
     enum-told-2
+    read-period-requires
+    enum-told-3
     read-period-requires-2
-    enum-known-item-2
-    sub-orders
-    part-orders-start
-    part-orders-end
-    write-logic-requires
+    enum-told-4
+    make-harmony-requires
+    enum-told-5
+    make-harmony-requires-2
     make-plain-requires
-    same-length-3
     same-length-4
-    returns-3
+    same-length-5
     returns-4
     returns-5
-    same-length-5
     returns-6
-    returns-7)
+    returns-7
+    returns-8
+    returns-9)
