@@ -46,6 +46,7 @@ fn plan(random: &mut Random) -> Plan {
         tones: upto(24),
         systems: upto(8),
         retunings: upto(24),
+        harmonies: upto(24),
         logics: upto(8),
         orders: upto(12),
         positions: upto(12) + 1,
