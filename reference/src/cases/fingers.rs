@@ -21,8 +21,8 @@ impl Fingers {
         let held = desk.held();
         let any = HouseKey { house: random.one_of(HOUSES), key: random.below(128) as u8 };
         match random.below(100) {
-            0..=3 => frame(random.one_of([DOWN, UP]), HouseKey { key: any.key | 0x80, ..any }),
-            4..=9 => frame(DOWN, any_held(random, held).unwrap_or(any)),
+            0..=3 => above(toggled(held, any)),
+            4..=9 => frame(DOWN, any_of(random, held.all()).unwrap_or(any)),
             10..=15 => frame(UP, not_held(random, held).unwrap_or(any)),
             16..=21 => toggled(held, any),
             _ => self.toward_goal(random, desk).unwrap_or(toggled(held, any)),
@@ -47,13 +47,14 @@ fn frame(kind: u8, HouseKey { house, key }: HouseKey) -> [u8; 3] {
     [if house == House::First { 1 } else { 2 }, kind, key]
 }
 
+/// The same with a key above 7F.
+fn above([house, kind, key]: [u8; 3]) -> [u8; 3] {
+    [house, kind, key | 0x80]
+}
+
 /// Down if the key is not held, else up.
 fn toggled(held: &HeldKeys, key: HouseKey) -> [u8; 3] {
     frame(if held.holds(key) { UP } else { DOWN }, key)
-}
-
-fn any_held(random: &mut Random, held: &HeldKeys) -> Option<HouseKey> {
-    any_of(random, held.all())
 }
 
 /// A held key, but of the house that does not hold it.
