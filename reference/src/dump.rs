@@ -1,8 +1,9 @@
 //! A program written down for people to read.
 
+use crate::harmony::{Harmony, Wish};
 use crate::measure::Pitch;
 use crate::state::{Call, Change, PeriodChange, Position};
-use crate::text::tree::{Declared, LogicForm, Target};
+use crate::text::tree::{Declared, LogicForm, Target, Trigger};
 use crate::text::Program;
 use std::fmt::Write;
 
@@ -25,6 +26,9 @@ pub fn readable(program: &Program) -> String {
     }
     for (declared, call) in tree.retunings.iter().zip(&program.retunings) {
         line("retuning", &declared.name.text, readable_call(call));
+    }
+    for harmony in &tree.harmonies {
+        line("harmony", &harmony.name.text, readable_harmony(&harmony.form));
     }
     for logic in &tree.logics {
         line("logic", &logic.name.text, readable_logic(program, logic));
@@ -73,23 +77,43 @@ fn readable_tone(tone: &Option<Pitch>) -> String {
     tone.map_or("muted".to_string(), |pitch| pitch.0.to_string())
 }
 
-fn readable_logic(program: &Program, logic: &Declared<LogicForm<Target>>) -> String {
+fn readable_harmony(harmony: &Harmony) -> String {
+    let key = |key: usize| match harmony.wish(key as u8) {
+        Some(Wish::Either) => format!("*{key}"),
+        _ => key.to_string(),
+    };
+    let keys: Vec<_> = harmony.named.all().map(key).collect();
+    format!("{{{}}}", keys.join(", "))
+}
+
+fn readable_logic(program: &Program, logic: &Declared<LogicForm<usize, Target>>) -> String {
     let form = &logic.form;
     let start = form.start.map_or("nothing".to_string(), |start| readable_target(program, start));
-    let mut text = format!("letter {}, start {start}", char::from(form.letter.0));
+    let mut text = format!("{}, start {start}", readable_trigger(program, &form.trigger));
     for order in &form.orders {
         let called = readable_target(program, order.called);
-        let _ = write!(text, "\n  order {} -> {called}", char::from(order.letter.0));
+        let trigger = readable_trigger(program, &order.trigger);
+        let _ = write!(text, "\n  order {trigger} -> {called}");
     }
     text
 }
 
+fn readable_trigger(program: &Program, trigger: &Trigger<usize>) -> String {
+    match trigger {
+        Trigger::Letter(letter) => format!("letter {}", char::from(letter.0)),
+        Trigger::Harmony(i) => named("harmony", program.declared.harmonies.get(*i)),
+    }
+}
+
 fn readable_target(program: &Program, target: Target) -> String {
     let tree = &program.declared;
-    let (kind, name) = match target {
-        Target::Retuning(i) => ("retuning", tree.retunings.get(i).map(|d| &d.name)),
-        Target::System(i) => ("tone system", tree.systems.get(i).map(|d| &d.name)),
-        Target::Logic(i) => ("logic", tree.logics.get(i).map(|d| &d.name)),
-    };
-    format!("{kind} {}", name.map_or("?", |name| &name.text))
+    match target {
+        Target::Retuning(i) => named("retuning", tree.retunings.get(i)),
+        Target::System(i) => named("tone system", tree.systems.get(i)),
+        Target::Logic(i) => named("logic", tree.logics.get(i)),
+    }
+}
+
+fn named<F>(kind: &str, declared: Option<&Declared<F>>) -> String {
+    format!("{kind} {}", declared.map_or("?", |declared| &declared.name.text))
 }

@@ -1,41 +1,54 @@
-//! Section "Frames" of document 01: frames, letters, logics and orders, and
-//! the answers.
+//! Section "Frames" of document 01, with the keys of request 5/13: frames,
+//! what they call, and the answers.
 
+use crate::bindings::{Bindings, Sought};
+use crate::harmony::{HeldKeys, House, HouseKey};
 use crate::measure::Pitch;
 use crate::numbers::{self, Number};
 use crate::state::{Call, Key, State};
-use crate::text::tree::{LogicForm, Target};
+use crate::text::tree::{Letter, Target};
 use crate::text::{Program, Refusal};
 
 /// "Muted is 80000000."
 const MUTED: [u8; 4] = [0x80, 0, 0, 0];
 
-const LETTERS: usize = 26;
-
-/// A place in the alphabet, from 0.
-#[derive(Clone, Copy, Debug, PartialEq, Eq)]
-struct Place(usize);
-
 #[derive(Clone, Copy, Debug, PartialEq, Eq)]
 enum Frame {
-    Letter(Place),
-    Key(u8),
+    Play(Action),
+    Pitch(Key),
     Dump,
 }
 
+/// What may call something.
+#[derive(Clone, Copy, Debug, PartialEq, Eq)]
+enum Action {
+    Letter(Letter),
+    Down(HouseKey),
+    Up(HouseKey),
+}
+
 /// "Byte 1: house, 01 or 02. Byte 2 and 3: 01 and a letter 41 to 5A; 02 and a
-/// key 00 to 7F; 03 and 00."
-fn frame(bytes: [u8; 3]) -> Option<Frame> {
-    match bytes {
-        [1 | 2, 1, letter @ b'A'..=b'Z'] => Some(Frame::Letter(Place((letter - b'A').into()))),
-        [1 | 2, 2, key @ 0..=127] => Some(Frame::Key(key)),
-        [1 | 2, 3, 0] => Some(Frame::Dump),
+/// key 00 to 7F; 03 and 00." "Frames of kind 05 and 06 say that a key goes down
+/// or up in that house."
+fn frame([house, kind, data]: [u8; 3]) -> Option<Frame> {
+    let house = match house {
+        1 => House::First,
+        2 => House::Second,
+        _ => return None,
+    };
+    let key = HouseKey { house, key: data };
+    match (kind, data) {
+        (1, b'A'..=b'Z') => Some(Frame::Play(Action::Letter(Letter(data)))),
+        (2, 0..=127) => Some(Frame::Pitch(Key(data.into()))),
+        (3, 0) => Some(Frame::Dump),
+        (5, 0..=127) => Some(Frame::Play(Action::Down(key))),
+        (6, 0..=127) => Some(Frame::Play(Action::Up(key))),
         _ => None,
     }
 }
 
 /// "Three bytes as six capital hexadecimal digits."
-fn frame_bytes(line: &[u8]) -> Option<[u8; 3]> {
+pub fn frame_bytes(line: &[u8]) -> Option<[u8; 3]> {
     let &[a, b, c, d, e, f] = line else {
         return None;
     };
@@ -93,37 +106,6 @@ pub fn refused_line(refusal: Refusal, out: &mut Vec<u8>) {
     answer.end();
 }
 
-/// What each letter is bound to: "the first with this letter".
-struct Bindings {
-    logics: [Option<usize>; LETTERS],
-    /// For each logic, what its orders call.
-    orders: Vec<[Option<Target>; LETTERS]>,
-}
-
-impl Bindings {
-    fn of(program: &Program) -> Self {
-        let logics = &program.declared.logics;
-        let orders = |form: &LogicForm<Target>| {
-            let called = form.orders.iter().map(|order| (order.letter.0, order.called));
-            first_of_each_letter(called)
-        };
-        let numbered = logics.iter().zip(0..).map(|(logic, i)| (logic.form.letter.0, i));
-        Bindings {
-            logics: first_of_each_letter(numbered),
-            orders: logics.iter().map(|logic| orders(&logic.form)).collect(),
-        }
-    }
-}
-
-fn first_of_each_letter<T: Copy>(
-    bound: impl Iterator<Item = (u8, T)> + Clone,
-) -> [Option<T>; LETTERS] {
-    std::array::from_fn(|i| {
-        let mut with_letter = bound.clone().filter(|(letter, _)| *letter == b'A' + i as u8);
-        with_letter.next().map(|(_, target)| target)
-    })
-}
-
 /// A call of a tone system or retuning that a frame has made, and its number.
 #[derive(Clone, Copy, Debug, PartialEq, Eq)]
 pub struct Made {
@@ -131,24 +113,36 @@ pub struct Made {
     pub number: Number,
 }
 
-/// What a letter did: its number, and the call if it made one.
-struct Pressed {
-    number: Number,
-    made: Option<Made>,
+/// What a frame did: its number, whether a trigger was found, and the call if
+/// it made one.
+#[derive(Clone, Copy, Debug, PartialEq, Eq)]
+pub struct Effect {
+    pub number: Number,
+    pub triggered: bool,
+    pub made: Option<Made>,
 }
 
-/// One state and one active logic, for both houses.
+impl Effect {
+    fn nothing(number: Number) -> Self {
+        Effect { number, triggered: false, made: None }
+    }
+}
+
+/// One state and one active logic for both houses, and the keys that each
+/// holds.
 pub struct Desk {
     program: Program,
     bindings: Bindings,
     state: State,
     active: Option<usize>,
+    held: HeldKeys,
 }
 
 impl Desk {
     pub fn new(program: Program) -> Self {
         let bindings = Bindings::of(&program);
-        Desk { program, bindings, state: State::start(), active: None }
+        let held = HeldKeys::default();
+        Desk { program, bindings, state: State::start(), active: None, held }
     }
 
     pub fn program(&self) -> &Program {
@@ -163,71 +157,96 @@ impl Desk {
         self.active
     }
 
+    pub fn held(&self) -> &HeldKeys {
+        &self.held
+    }
+
     /// Takes one frame, a line without its line feed, and writes the answer's
-    /// line; tells which call was made, if any.
-    pub fn answer(&mut self, line: &[u8], out: &mut Vec<u8>) -> Option<Made> {
+    /// line; tells what it did.
+    pub fn answer(&mut self, line: &[u8], out: &mut Vec<u8>) -> Effect {
         let known = frame_bytes(line).and_then(|bytes| Some((bytes, frame(bytes)?)));
         let Some((bytes, frame)) = known else {
             Answer::new(out, &[0xFF, numbers::BAD_FRAME]).end();
-            return None;
+            return Effect::nothing(numbers::BAD_FRAME);
         };
         let mut answer = Answer::new(out, &bytes);
-        let mut made = None;
-        match frame {
-            Frame::Letter(letter) => {
-                let pressed = self.press(letter);
-                answer.put(&[pressed.number]);
+        let effect = match frame {
+            Frame::Play(action) => {
+                let effect = self.play(action);
+                answer.put(&[effect.number]);
                 answer.put_head(&self.state);
-                made = pressed.made;
+                effect
             }
-            Frame::Key(key) => {
-                let pitch = self.state.pitch(Key(key.into()));
+            Frame::Pitch(key) => {
+                let pitch = self.state.pitch(key);
                 let silent = pitch.is_none();
-                answer.put(&[if silent { numbers::SILENT_KEY } else { numbers::DONE }]);
+                let number = if silent { numbers::SILENT_KEY } else { numbers::DONE };
+                answer.put(&[number]);
                 answer.put_pitch(pitch);
+                Effect::nothing(number)
             }
             Frame::Dump => {
                 answer.put(&[numbers::DONE]);
                 answer.put_head(&self.state);
                 let tones = self.state.tones.iter().take(self.state.width);
                 tones.for_each(|tone| answer.put_pitch(*tone));
+                Effect::nothing(numbers::DONE)
             }
-        }
+        };
         answer.end();
-        made
+        effect
+    }
+
+    /// "17 for a key already held in that house, 18 for one not held, each
+    /// before any analysis."
+    fn play(&mut self, action: Action) -> Effect {
+        let changed = match action {
+            Action::Letter(letter) => {
+                return self.seek(Sought::Letter(letter), numbers::UNBOUND_LETTER);
+            }
+            Action::Down(key) => self.held.press(key),
+            Action::Up(key) => self.held.release(key),
+        };
+        match changed {
+            Ok(()) => self.analyse(),
+            Err(number) => Effect::nothing(number),
+        }
+    }
+
+    /// "Each key frame is analysed once, after the key has changed. It answers
+    /// as a letter does, with 0 where nothing matches."
+    fn analyse(&mut self) -> Effect {
+        let chord = self.held.chord(&self.state);
+        self.seek(Sought::Chord(chord), numbers::DONE)
     }
 
     /// "Logics are tried in declared order; the first with this letter becomes
     /// active and its start is called, and the search ends (house). Else the
     /// active logic's orders in declared order, the first with it being
-    /// called".
-    fn press(&mut self, letter: Place) -> Pressed {
-        if let Some(logic) = self.bindings.logics[letter.0] {
-            return self.activate(logic);
-        }
-        let orders = self.active.and_then(|logic| self.bindings.orders.get(logic));
-        match orders.and_then(|orders| orders[letter.0]) {
+    /// called". If there is none, the number is `otherwise`.
+    fn seek(&mut self, sought: Sought, otherwise: Number) -> Effect {
+        match self.bindings.find(sought, self.active) {
             Some(Target::Logic(logic)) => self.activate(logic),
             Some(target) => self.call(target),
-            None => Pressed { number: numbers::UNBOUND_LETTER, made: None },
+            None => Effect::nothing(otherwise),
         }
     }
 
     /// "A logic becomes active even if its start isn't taken; the number
     /// returned is that of the call, 0 with no start."
-    fn activate(&mut self, logic: usize) -> Pressed {
+    fn activate(&mut self, logic: usize) -> Effect {
         self.active = Some(logic);
         let declared = self.program.declared.logics.get(logic);
         match declared.and_then(|logic| logic.form.start) {
             Some(start) => self.call(start),
-            None => Pressed { number: numbers::DONE, made: None },
+            None => Effect { number: numbers::DONE, triggered: true, made: None },
         }
     }
 
     /// Calls a tone system or retuning; a refused call leaves the state.
-    fn call(&mut self, target: Target) -> Pressed {
+    fn call(&mut self, target: Target) -> Effect {
         let Some(call) = called(&self.program, target) else {
-            return Pressed { number: numbers::DONE, made: None };
+            return Effect::nothing(numbers::DONE);
         };
         let number = match self.state.called(call) {
             Ok(state) => {
@@ -236,7 +255,7 @@ impl Desk {
             }
             Err(number) => number,
         };
-        Pressed { number, made: Some(Made { target, number }) }
+        Effect { number, triggered: true, made: Some(Made { target, number }) }
     }
 }
 
@@ -263,10 +282,17 @@ mod tests {
         String::from_utf8(out).unwrap().trim_end().to_string()
     }
 
+    /// The frames of a text one after the other, each with its answer.
+    fn answers(text: &str, frames: &[(&str, &str)]) {
+        let mut desk = desk(text);
+        for (line, expected) in frames {
+            assert_eq!(answer(&mut desk, line), *expected);
+        }
+    }
+
     #[test]
     fn case_s() {
-        let mut desk = desk(CASE_S);
-        for (line, expected) in [
+        let frames = [
             ("01014D", "01014D00450200124F80"),
             ("010245", "0102450000694920"),
             ("010155", "01015500460200124F80"),
@@ -274,9 +300,95 @@ mod tests {
             ("020247", "02024700007EB526"),
             ("010158", "01015815470200124F80"),
             ("0201", "FF16"),
-        ] {
-            assert_eq!(answer(&mut desk, line), expected);
-        }
+        ];
+        answers(CASE_S, &frames);
+    }
+
+    #[test]
+    fn a_chord_of_both_houses_and_the_refusals_of_keys() {
+        let text = "HARMONY C = { 0, 4, *7 } RETUNING Up = @ + 7 [ ] LOGIC L C = Up [ ]";
+        let frames = [
+            ("01053C", "01053C003C0C00124F80"),
+            ("02053C", "02053C003C0C00124F80"),
+            ("010540", "01054000430C00124F80"),
+            ("010540", "01054011430C00124F80"),
+            ("020640", "02064012430C00124F80"),
+            ("010640", "01064000430C00124F80"),
+        ];
+        answers(text, &frames);
+    }
+
+    #[test]
+    fn a_starred_key_held_by_the_other_house() {
+        let text =
+            "HARMONY C = { 0, 4, *7 } RETUNING Far = 200 [ ] W = [ << 24 >> ] LOGIC L C = W [ ]";
+        let frames = [
+            ("01053C", "01053C003C0C00124F80"),
+            ("020543", "020543003C0C00124F80"),
+            ("010540", "010540003C1800249F00"),
+        ];
+        answers(text, &frames);
+    }
+
+    #[test]
+    fn logics_come_first_and_a_refused_start_leaves_the_key_held() {
+        let text = "HARMONY A = { 0 } B = { *0, *3 } N = { 59 } \
+            RETUNING Far = 200 [ ] One = @ + 1 [ ] Two = @ + 2 [ ] \
+            LOGIC L KEY L = [ N -> Far B -> One A -> Two ] M A = Far [ B -> Two ]";
+        let frames = [
+            ("01014C", "01014C003C0C00124F80"),
+            ("01053C", "01053C0A3C0C00124F80"),
+            ("01063C", "01063C003E0C00124F80"),
+            ("01053F", "01053F003E0C00124F80"),
+            ("01063F", "01063F00400C00124F80"),
+        ];
+        answers(text, &frames);
+    }
+
+    #[test]
+    fn nothing_held_matches_stars_alone() {
+        let text = "HARMONIE e = { *0 } RETUNING One = @ + 1 [ ] LOGIC L e = One [ ]";
+        let frames = [
+            ("010540", "010540003C0C00124F80"),
+            ("010640", "010640003D0C00124F80"),
+            ("02063F", "02063F123D0C00124F80"),
+            ("020580", "FF16"),
+        ];
+        answers(text, &frames);
+    }
+
+    #[test]
+    fn a_starred_number_at_the_width_never_matches() {
+        let text = "HARMONY s = { *12, 0 } t = { 0 } RETUNING W = [ << 13 >> ] U = @+1[] \
+            LOGIC a KEY A = [ s -> U ] b KEY B = W [ s -> U ]";
+        let frames = [
+            ("010141", "010141003C0C00124F80"),
+            ("01053C", "01053C003C0C00124F80"),
+            ("01063C", "01063C003C0C00124F80"),
+            ("010142", "010142003C0D0013D620"),
+            ("01053C", "01053C003D0D0013D620"),
+        ];
+        answers(text, &frames);
+    }
+
+    /// A letter finds no harmony of its name, and keys find no letter; an order
+    /// of a chord may call a logic.
+    #[test]
+    fn letters_and_harmonies_of_one_name() {
+        let text = "HARMONY c = { 0 } RETUNING up = @+1[] LOGIC l KEY l = [ c -> m KEY c -> up ] \
+            m KEY m = up [ c -> l ]";
+        let frames = [
+            ("01053C", "01053C003C0C00124F80"),
+            ("01063C", "01063C003C0C00124F80"),
+            ("01014C", "01014C003C0C00124F80"),
+            ("010143", "010143003D0C00124F80"),
+            ("02053D", "02053D003E0C00124F80"),
+            ("010143", "010143153E0C00124F80"),
+            ("02053E", "02053E003E0C00124F80"),
+            ("02063D", "02063D003E0C00124F80"),
+            ("010143", "010143003F0C00124F80"),
+        ];
+        answers(text, &frames);
     }
 
     #[test]
@@ -284,7 +396,8 @@ mod tests {
         let mut desk = desk("");
         for line in [
             "", "01024", "0102450", "01024a", "030245", "000245", "010280", "010301", "010140",
-            "01015B", "010000", "010400", "010245\r", " 10245", "01 245",
+            "01015B", "010000", "010400", "010245\r", " 10245", "01 245", "010580", "0206FF",
+            "03053C", "00063C", "01053c", "010700", "01053C0",
         ] {
             assert_eq!(answer(&mut desk, line), "FF16", "{line:?}");
         }

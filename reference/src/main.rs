@@ -1,7 +1,8 @@
-//! An independent second program for the retuning desk, written from document
-//! 01 alone; the README describes the subcommands and their formats.
+//! An independent second program for the retuning desk, written from the
+//! documents alone; the README describes the subcommands and their formats.
 
 mod accuracy;
+mod bindings;
 mod book;
 mod call_records;
 mod cases;
@@ -10,6 +11,7 @@ mod comparison;
 mod desk;
 mod dump;
 mod frames;
+mod harmony;
 mod logarithm;
 mod measure;
 mod numbers;
@@ -21,7 +23,7 @@ mod text;
 mod validity;
 mod wide;
 
-use commands::{book as books, calls, measures, note, streams, texts, Outcome, Verdict};
+use commands::{book as books, calls, keys, measures, note, streams, texts, Outcome, Verdict};
 use std::process::ExitCode;
 
 const USAGE: &str = "usage: reference SUBCOMMAND
@@ -36,6 +38,7 @@ const USAGE: &str = "usage: reference SUBCOMMAND
   stream-cases SEED INDEX TEXTFILE FRAMESFILE
                                writes one text and its frames
   stream-pairs SEED COUNT DIR  writes texts and frames, each pair in a folder
+  stream-counts SEED COUNT     counts key frames and matches of these streams
   desk [--validate]            answers frames as sitedesk does
   join DIR                     writes a folder's text and frames as one input
   joined                       answers one input
@@ -84,6 +87,7 @@ fn run(words: &[&str]) -> Option<Outcome> {
         ["stream-pairs", seed, count, folder] => {
             streams::write_pairs(seed.parse().ok()?, count.parse().ok()?, folder)
         }
+        ["stream-counts", seed, count] => keys::count(seed.parse().ok()?, count.parse().ok()?),
         ["desk"] => streams::run_desk(false),
         ["desk", "--validate"] => streams::run_desk(true),
         ["join", folder] => streams::join(folder),

@@ -1,4 +1,4 @@
-//! The table "Numbers returned" of document 01.
+//! The table "Numbers returned" of document 01, and what request 5/13 adds.
 
 pub type Number = u8;
 
@@ -17,6 +17,8 @@ pub const BAD_WIDTH: Number = 11;
 pub const BAD_PERIOD: Number = 12;
 pub const MUTED: Number = 13;
 pub const BAD_TONE: Number = 14;
+pub const KEY_HELD: Number = 17;
+pub const KEY_NOT_HELD: Number = 18;
 pub const SILENT_KEY: Number = 20;
 pub const UNBOUND_LETTER: Number = 21;
 pub const BAD_FRAME: Number = 22;

@@ -2,9 +2,10 @@
 //! changes and orders that the rows refer to: the desk's tables, without their
 //! unused places. The README has the format.
 
+use crate::harmony::{Harmony, Positions};
 use crate::measure::Pitch;
 use crate::state::{Call, Change, PeriodChange, Position};
-use crate::text::tree::Target;
+use crate::text::tree::{self, Target, Trigger};
 use crate::text::Program;
 
 /// A sum beyond this, which leads no tone and no period back into its range,
@@ -19,25 +20,35 @@ pub const WIDTH: u8 = 5;
 pub const PERIOD: u8 = 6;
 pub const TONES: u8 = 7;
 pub const LOGIC: u8 = 8;
+pub const HARMONY: u8 = 9;
+
+/// How many key numbers stand in one number of a harmony's row.
+pub const KEYS_IN_NUMBER: usize = 30;
+
+/// A harmony's code as a trigger is this and its declaration's number; below
+/// it a code is a letter.
+pub const FIRST_HARMONY_CODE: u16 = 256;
 
 /// A declaration by its kind and its number there.
 #[derive(Clone, Copy, PartialEq, Eq)]
 enum Declaration {
     Interval(usize),
     Tone(usize),
+    Harmony(usize),
     Called(Target),
 }
 
 /// The five numbers of a row: its form, two numbers of its own, and from where
-/// to where its tones, changes or orders stand.
+/// to where its tones, changes or orders stand; a harmony has four numbers of
+/// its own.
 pub type Row = [i32; 5];
 
 /// A tone of a tone system or a change of a tones retuning: its kind and its
 /// number.
 pub type Pair = (u8, i32);
 
-/// A letter, and the number of the declaration that it calls.
-pub type Order = (u8, u16);
+/// A trigger's code, and the number of the declaration that it calls.
+pub type Order = (u16, u16);
 
 /// What the rows and lists of a program hold.
 #[derive(Default)]
@@ -76,8 +87,8 @@ pub fn bytes(program: &Program) -> Vec<u8> {
         bytes.push(*kind);
         bytes.extend(number.to_be_bytes());
     }
-    for (letter, number) in &lists.orders {
-        bytes.push(*letter);
+    for (trigger, number) in &lists.orders {
+        bytes.extend(trigger.to_be_bytes());
         bytes.extend(number.to_be_bytes());
     }
     bytes
@@ -99,6 +110,7 @@ fn in_order(program: &Program) -> Vec<Declaration> {
     let tones = tree.tones.iter().map(|d| d.name.place);
     let systems = tree.systems.iter().map(|d| d.name.place);
     let retunings = tree.retunings.iter().map(|d| d.name.place);
+    let harmonies = tree.harmonies.iter().map(|d| d.name.place);
     let logics = tree.logics.iter().map(|d| d.name.place);
     let called = Declaration::Called;
     let mut placed: Vec<(usize, Declaration)> = Vec::new();
@@ -106,6 +118,7 @@ fn in_order(program: &Program) -> Vec<Declaration> {
     placed.extend(tones.enumerate().map(|(i, at)| (at, Declaration::Tone(i))));
     placed.extend(systems.enumerate().map(|(i, at)| (at, called(Target::System(i)))));
     placed.extend(retunings.enumerate().map(|(i, at)| (at, called(Target::Retuning(i)))));
+    placed.extend(harmonies.enumerate().map(|(i, at)| (at, Declaration::Harmony(i))));
     placed.extend(logics.enumerate().map(|(i, at)| (at, called(Target::Logic(i)))));
     placed.sort_by_key(|(place, _)| *place);
     placed.into_iter().map(|(_, declaration)| declaration).collect()
@@ -119,16 +132,26 @@ struct Writer<'a> {
 
 impl Writer<'_> {
     /// The number of a declaration in the order of the text.
-    fn number(&self, target: Target) -> u16 {
-        let wanted = Declaration::Called(target);
+    fn number(&self, wanted: Declaration) -> u16 {
         self.order.iter().position(|d| *d == wanted).unwrap_or_default() as u16
+    }
+
+    /// A letter's capital, or the code of the harmony's declaration.
+    fn code(&self, trigger: &Trigger<usize>) -> u16 {
+        match trigger {
+            Trigger::Letter(letter) => letter.0.into(),
+            Trigger::Harmony(i) => FIRST_HARMONY_CODE + self.number(Declaration::Harmony(*i)),
+        }
     }
 
     fn put(&mut self, declaration: Declaration) {
         let program = self.program;
         match declaration {
-            Declaration::Interval(i) => self.row(INTERVAL, program.intervals[i].0 as i32, 0, (0, 0)),
+            Declaration::Interval(i) => {
+                self.row(INTERVAL, program.intervals[i].0 as i32, 0, (0, 0))
+            }
             Declaration::Tone(i) => self.row(TONE, program.tones[i].0 as i32, 0, (0, 0)),
+            Declaration::Harmony(i) => self.put_harmony(&program.declared.harmonies[i].form),
             Declaration::Called(Target::System(i)) => self.put_call(&program.systems[i]),
             Declaration::Called(Target::Retuning(i)) => self.put_call(&program.retunings[i]),
             Declaration::Called(Target::Logic(i)) => self.put_logic(i),
@@ -178,14 +201,32 @@ impl Writer<'_> {
 
     fn put_logic(&mut self, i: usize) {
         let form = &self.program.declared.logics[i].form;
-        let start = form.start.map_or(0, |start| 1 + i32::from(self.number(start)));
+        let number = |target: Target| self.number(Declaration::Called(target));
+        let start = form.start.map_or(0, |start| 1 + i32::from(number(start)));
+        let order = |order: &tree::Order<_, _>| (self.code(&order.trigger), number(order.called));
+        let orders: Vec<Order> = form.orders.iter().map(order).collect();
+        let trigger = self.code(&form.trigger);
         let from = self.lists.orders.len();
-        for order in &form.orders {
-            let number = self.number(order.called);
-            self.lists.orders.push((order.letter.0, number));
-        }
-        self.row(LOGIC, form.letter.0.into(), start, (from, from + form.orders.len()));
+        self.row(LOGIC, trigger.into(), start, (from, from + orders.len()));
+        self.lists.orders.extend(orders);
     }
+
+    /// The needed and then all named key numbers, each in two sums.
+    fn put_harmony(&mut self, harmony: &Harmony) {
+        let [low_needed, high_needed] = sums(harmony.needed);
+        let [low_named, high_named] = sums(harmony.named);
+        let form = HARMONY.into();
+        self.lists.rows.push([form, low_needed, high_needed, low_named, high_named]);
+    }
+}
+
+/// The sum of 2^key of the keys 0 to 29, and that of 2^(key-30) of 30 to 59.
+fn sums(keys: Positions) -> [i32; 2] {
+    let mut sums = [0; 2];
+    for key in keys.all() {
+        sums[key / KEYS_IN_NUMBER] += 1 << (key % KEYS_IN_NUMBER);
+    }
+    sums
 }
 
 #[cfg(test)]
@@ -202,7 +243,20 @@ mod tests {
         // Octave, the first row
         assert_eq!(bytes[16..33], [1, 0, 0x12, 0x4F, 0x80, 0, 0, 0, 0, 0, 0, 0, 0, 0, 0, 0, 0]);
         // the order U -> Up, which is declaration 5
-        assert_eq!(bytes[bytes.len() - 3..], [b'U', 0, 5]);
-        assert_eq!(bytes.len(), 16 + 7 * 17 + 2 * 5 + 3);
+        assert_eq!(bytes[bytes.len() - 4..], [0, b'U', 0, 5]);
+        assert_eq!(bytes.len(), 16 + 7 * 17 + 2 * 5 + 4);
+    }
+
+    #[test]
+    fn harmonies() {
+        let text = "LOGIC l b = [ KEY x -> l a -> l ] HARMONY a = { 59, *30, 29, *0 } b = { 1 }";
+        let lists = Lists::of(&text::read(text.as_bytes()).unwrap());
+        let rows = [
+            [8, 256 + 2, 0, 0, 2],
+            [9, 1 << 29, 1 << 29, (1 << 29) + 1, (1 << 29) + 1],
+            [9, 2, 0, 2, 0],
+        ];
+        assert_eq!(lists.rows, rows);
+        assert_eq!(lists.orders, [(b'X'.into(), 0), (256 + 1, 0)]);
     }
 }

@@ -111,11 +111,16 @@ impl State {
     /// "Key x has x - a = q·w + r with r from 0 to w-1; its pitch is t(r) +
     /// q·P, silent if t(r) is muted."
     pub fn pitch(&self, key: Key) -> Option<Pitch> {
+        let (q, r) = self.place_of(key);
+        let tone = self.tones.get(r).copied().flatten();
+        tone.map(|tone| tone + self.period * q)
+    }
+
+    /// q and r of a key.
+    pub fn place_of(&self, key: Key) -> (i64, usize) {
         let distance = key.0 - self.anchor.0;
         let width = self.width.max(1) as i64;
-        let (q, r) = (distance.div_euclid(width), distance.rem_euclid(width));
-        let tone = self.tones.get(r as usize).copied().flatten();
-        tone.map(|tone| tone + self.period * q)
+        (distance.div_euclid(width), distance.rem_euclid(width) as usize)
     }
 
     /// The state after a call that is taken, or the number of its refusal.

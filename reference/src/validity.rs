@@ -9,9 +9,10 @@ use crate::state::{State, ANCHORS, CHANGES, PERIODS, POSITIONS, VALUES, WIDTHS};
 use crate::text::Program;
 
 /// "intervals, tones | 256 each", "tone systems, logics | 32 each", "retunings |
-/// 128", "positions in one list | 60", "orders in all logics together | 512".
-const MOST: [usize; 5] = [256, 256, 32, 128, 32];
-const ROWS: usize = MOST[0] + MOST[1] + MOST[2] + MOST[3] + MOST[4];
+/// 128", "positions in one list | 60", "orders in all logics together | 512";
+/// "at most 64 harmonies".
+const MOST: [usize; 6] = [256, 256, 32, 128, 32, 64];
+const ROWS: usize = MOST[0] + MOST[1] + MOST[2] + MOST[3] + MOST[4] + MOST[5];
 const TONES: usize = 32 * POSITIONS;
 const CHANGES_IN_ALL: usize = 128 * POSITIONS;
 const ORDERS: usize = 512;
@@ -60,7 +61,7 @@ impl Tables {
     /// No more declarations of a kind than allowed; and the positions and orders
     /// of rows stand one row's after the other's, none left over.
     fn is_laid_out(&self) -> bool {
-        let mut kinds = [0; 5];
+        let mut kinds = [0; 6];
         let mut ends = [0; 3];
         for &[form, _, _, from, to] in self.lists.rows.iter().take(self.used[0]) {
             let (kind, list) = match u8::try_from(form) {
@@ -69,6 +70,7 @@ impl Tables {
                 Ok(rows::SYSTEM) => (2, Some(0)),
                 Ok(rows::TONES) => (3, Some(1)),
                 Ok(rows::LOGIC) => (4, Some(2)),
+                Ok(rows::HARMONY) => (5, None),
                 _ => (3, None),
             };
             kinds[kind] += 1;
@@ -106,16 +108,23 @@ impl Tables {
             Ok(rows::PERIOD) => (0..=1).contains(&first) && is_sum(second) && has_none,
             Ok(rows::TONES) => first == 0 && second == 0 && has(1, POSITIONS, changes),
             Ok(rows::LOGIC) => {
-                is_letter(first)
+                self.is_trigger(first)
                     && (second == 0 || self.has_form(second - 1, rows::SYSTEM, rows::TONES))
                     && has(0, ORDERS, orders)
             }
+            Ok(rows::HARMONY) => [first, second, from, to].into_iter().all(is_set),
             _ => false,
         }
     }
 
-    fn is_order(&self, &(letter, called): &Order) -> bool {
-        is_letter(letter.into()) && self.has_form(called.into(), rows::SYSTEM, rows::LOGIC)
+    fn is_order(&self, &(trigger, called): &Order) -> bool {
+        self.is_trigger(trigger.into()) && self.has_form(called.into(), rows::SYSTEM, rows::LOGIC)
+    }
+
+    /// A letter, or the code of a harmony's declaration.
+    fn is_trigger(&self, code: i32) -> bool {
+        let harmony = code - i32::from(rows::FIRST_HARMONY_CODE);
+        is_letter(code) || self.has_form(harmony, rows::HARMONY, rows::HARMONY)
     }
 
     /// A reference to a used row of a form from one to another.
@@ -143,6 +152,11 @@ fn is_amount(last: i32, code: i32, n: i32) -> bool {
 
 fn is_sum(number: i32) -> bool {
     i64::from(number).abs() <= FARTHEST_SUM
+}
+
+/// A sum of powers of two, one for each key number.
+fn is_set(number: i32) -> bool {
+    (0..1 << rows::KEYS_IN_NUMBER).contains(&number)
 }
 
 fn is_letter(number: i32) -> bool {
@@ -180,6 +194,40 @@ mod tests {
         tables.lists.changes[CHANGES_IN_ALL - 1].1 = 0;
         tables.lists.rows[4][4] = 3;
         assert!(!tables.is_valid());
+    }
+
+    #[test]
+    fn harmonies_and_triggers_are_valid_until_damaged() {
+        let text = "HARMONY a = { 0, *59 } LOGIC l a = [ a -> l KEY x -> l ] INTERVAL o = 2:1";
+        let sound = || Tables::of(&text::read(text.as_bytes()).unwrap());
+        assert!(sound().is_valid());
+        let damages: [fn(&mut Tables); 9] = [
+            |tables| tables.lists.rows[0][1] = -1,
+            |tables| tables.lists.rows[0][4] = 1 << 30,
+            |tables| tables.lists.rows[1][1] = 256 + 2,
+            |tables| tables.lists.rows[1][1] = 256 + 3,
+            |tables| tables.lists.rows[1][2] = 1,
+            |tables| tables.lists.orders[0].0 = 255,
+            |tables| tables.lists.orders[0].0 = 256 + 1,
+            |tables| tables.lists.orders[1].1 = 0,
+            |tables| tables.lists.orders[2].0 = 256,
+        ];
+        for (i, damage) in damages.into_iter().enumerate() {
+            let mut tables = sound();
+            damage(&mut tables);
+            assert!(!tables.is_valid(), "damage {i}");
+        }
+    }
+
+    #[test]
+    fn a_harmony_too_many_is_damage() {
+        let mut tables = Tables::of(&text::read(b"").unwrap());
+        tables.lists.rows[..65].fill([9, 0, 0, 1, 0]);
+        tables.used[0] = 65;
+        assert!(!tables.is_valid());
+        tables.lists.rows[64] = UNUSED;
+        tables.used[0] = 64;
+        assert!(tables.is_valid());
     }
 
     #[test]

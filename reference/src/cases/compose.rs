@@ -1,6 +1,8 @@
 //! Texts that are right: declarations of all kinds, composed at random with
 //! their values in view, so that most stay in range.
 
+use super::harmonies::{self, Item};
+use super::shuffle;
 use super::sketch::{kind_word, Kind, Part, Quantity, Token, KINDS};
 use crate::measure::{self, Degree, Interval, Pitch, TenThousandths};
 use crate::random::Random;
@@ -15,6 +17,7 @@ pub struct Plan {
     pub tones: usize,
     pub systems: usize,
     pub retunings: usize,
+    pub harmonies: usize,
     pub logics: usize,
     pub orders: usize,
     /// The longest list of positions and the longest sum.
@@ -32,6 +35,7 @@ pub fn compose(random: &mut Random, plan: Plan) -> Vec<Token> {
         composer.tones(),
         composer.systems(),
         composer.retunings(),
+        composer.harmonies(),
         composer.logics(),
     ];
     arrange(random, kinds)
@@ -41,7 +45,7 @@ type Declaration = Vec<Token>;
 
 /// Parts the declarations of each kind into blocks and puts these in some
 /// order: "names may be used before they are declared".
-fn arrange(random: &mut Random, kinds: [Vec<Declaration>; 5]) -> Vec<Token> {
+fn arrange(random: &mut Random, kinds: [Vec<Declaration>; KINDS.len()]) -> Vec<Token> {
     let shuffled = random.percent(50);
     let mut blocks = Vec::new();
     for (kind, mut declarations) in KINDS.into_iter().zip(kinds) {
@@ -64,12 +68,6 @@ fn arrange(random: &mut Random, kinds: [Vec<Declaration>; 5]) -> Vec<Token> {
     blocks.into_iter().flatten().collect()
 }
 
-fn shuffle<T>(random: &mut Random, list: &mut [T]) {
-    for i in (1..list.len()).rev() {
-        list.swap(i, random.below(i + 1));
-    }
-}
-
 /// A declared name and its value.
 #[derive(Clone, Debug)]
 struct Known<V> {
@@ -84,6 +82,7 @@ struct Composer<'a> {
     tones: Vec<Known<Pitch>>,
     systems: Vec<String>,
     retunings: Vec<String>,
+    harmonies: Vec<String>,
     logics: Vec<String>,
 }
 
@@ -160,6 +159,7 @@ impl<'a> Composer<'a> {
             tones: Vec::new(),
             systems: Vec::new(),
             retunings: Vec::new(),
+            harmonies: Vec::new(),
             logics: Vec::new(),
         }
     }
@@ -313,7 +313,7 @@ fn declaration(kind: Kind, name: &str, form: Vec<Token>) -> Declaration {
     tokens
 }
 
-/// Tone systems, retunings and logics.
+/// Tone systems, retunings, harmonies and logics.
 impl Composer<'_> {
     fn systems(&mut self) -> Vec<Declaration> {
         let names = fresh_names(self.random, self.plan.systems);
@@ -462,6 +462,28 @@ impl Composer<'_> {
         tokens
     }
 
+    fn harmonies(&mut self) -> Vec<Declaration> {
+        self.harmonies = fresh_names(self.random, self.plan.harmonies);
+        let mut earlier: Vec<Vec<Item>> = Vec::new();
+        let mut declarations = Vec::new();
+        for name in self.harmonies.clone() {
+            let items = harmonies::items(self.random, &earlier);
+            let tokens = items.iter().map(|item| self.harmony_item(*item)).collect();
+            declarations.push(declaration(Kind::Harmony, &name, listed("{", tokens, "}")));
+            earlier.push(items);
+        }
+        declarations
+    }
+
+    fn harmony_item(&mut self, (number, starred): Item) -> Vec<Token> {
+        let number = self.whole(Quantity::KeyNumber, number.into());
+        if starred {
+            vec![Token::mark("*"), number]
+        } else {
+            vec![number]
+        }
+    }
+
     /// Logics have letters from the front of the alphabet, orders mostly from
     /// its end, so that they are reached.
     fn logics(&mut self) -> Vec<Declaration> {
@@ -472,7 +494,7 @@ impl Composer<'_> {
         for (i, name) in names.iter().enumerate() {
             let letter = if self.random.percent(80) { i % front } else { self.random.below(26) };
             let mut tokens = vec![Token::declared(Kind::Logic, name)];
-            tokens.extend(self.key(letter));
+            tokens.extend(self.trigger(letter, LOGICS_BY_HARMONIES));
             tokens.push(Token::mark("="));
             tokens.extend(self.called(false));
             tokens.push(Token::mark("["));
@@ -491,9 +513,18 @@ impl Composer<'_> {
         };
         let behind = front + self.random.below(26 - front);
         let letter = if self.random.percent(90) { behind } else { self.random.below(26) };
-        let mut tokens = self.key(letter);
+        let mut tokens = self.trigger(letter, ORDERS_BY_HARMONIES);
         tokens.extend([Token::mark("->"), called]);
         tokens
+    }
+
+    /// A harmony's name, so often in a hundred times, or this letter.
+    fn trigger(&mut self, letter: usize, chance: u32) -> Vec<Token> {
+        if self.harmonies.is_empty() || !self.random.percent(chance) {
+            return self.key(letter);
+        }
+        let name = self.random.pick(&self.harmonies, String::new());
+        vec![Token::used(Kind::Harmony, &name)]
     }
 
     fn key(&mut self, letter: usize) -> Vec<Token> {
@@ -515,16 +546,25 @@ impl Composer<'_> {
     }
 }
 
+/// How many in a hundred triggers are harmonies, if there are any.
+const LOGICS_BY_HARMONIES: u32 = 25;
+const ORDERS_BY_HARMONIES: u32 = 50;
+
 const NO_TONE: Known<Pitch> = Known { name: String::new(), value: measure::CONCERT_PITCH };
 
 fn bracketed(positions: Vec<Vec<Token>>) -> Vec<Token> {
-    let mut tokens = vec![Token::mark("[")];
-    for (i, position) in positions.into_iter().enumerate() {
+    listed("[", positions, "]")
+}
+
+/// Items parted by commas between two marks.
+fn listed(open: &str, items: Vec<Vec<Token>>, close: &str) -> Vec<Token> {
+    let mut tokens = vec![Token::mark(open)];
+    for (i, item) in items.into_iter().enumerate() {
         if i > 0 {
             tokens.push(Token::mark(","));
         }
-        tokens.extend(position);
+        tokens.extend(item);
     }
-    tokens.push(Token::mark("]"));
+    tokens.push(Token::mark(close));
     tokens
 }

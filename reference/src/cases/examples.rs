@@ -1,8 +1,21 @@
 //! Texts from the documents: case S of document 01, and examples of the
 //! handbook (000) and of its page on relative retunings (003), right ones and
-//! ones that use what is left out for now.
+//! ones that use what is left out for now. The handbook's harmonies stand in
+//! whole texts here, with what they call.
 
-pub const EXAMPLES: [&str; 12] = [
+/// The scale of the handbook's chapter 7, on which its harmonies play.
+macro_rules! c_dur_rein {
+    () => {
+        "INTERVALL Quinte = 3:2 Terz = 5:4 Naturseptime = 7:4 Oktave = 2:1\n\
+         TON c = a - Terz + Quinte - Oktave des = f - Terz d = g + Quinte - Oktave es = g - Terz\n\
+         e = c + Terz f = c - Quinte + Oktave fis = d + Terz g = c + Quinte as = c - Terz + Oktave\n\
+         a = 440 b = f - Quinte + Oktave h = g + Terz b2 = c + Naturseptime\n\
+         TONSYSTEM C_Dur_Rein = 60 [ c,des,d,es,e,f,fis,g,as,a,b,h ] Oktave\n\
+         UMSTIMMUNG Natur = [ @,@,@,@,@,@,@,@,@,@, b2 ,@ ]\n"
+    };
+}
+
+pub const EXAMPLES: [&str; 19] = [
     "INTERVAL Octave = 2 : 1 Fifth = 3 : 2 TONE a = 440 e = a + Fifth \
      TONESYSTEM Two = 69 [ a, e ] Octave RETUNING Up = @ + 1 [ ] LOGIC L KEY M = Two [ KEY U -> Up ]",
     "INTERVALL\n  Drittelton = 18 Wurzel 2\nTON\n  a = 440\nTONSYSTEM\n  Drittel = 69 [a] Drittelton\n\
@@ -30,4 +43,70 @@ pub const EXAMPLES: [&str; 12] = [
     "UMSTIMMUNG Ton = [ @ , @ ]",
     "UMSTIMMUNG Was_ist_das = @ + 4",
     "UMSTIMMUNG mehrfach = { u1, u3, u7 } setze_anker (x) = x [ ]",
+    "HARMONIE\n\nC_DUR = { 0,4,7 }\n\nUMSTIMMUNG Hinauf = @ + 7 [ ]\n\
+     LOGIK Dur Taste D = [ C_DUR -> Hinauf ]",
+    "HARMONIE\n\nDur2 = { 0,4,7,*10 }\n\nUMSTIMMUNG Hinab = @ - 7 [ ]\nLOGIK Dur Dur2 = Hinab [ ]",
+    concat!(
+        c_dur_rein!(),
+        "HARMONIE    Septakkord = { 0, *4, *7, 10 }\nLOGIK\n\
+         \x20   Mutierend Taste M = C_Dur_Rein [ Septakkord -> Natur ]\n"
+    ),
+    C_B,
+    "INTERVALL Halbton = 12 Wurzel 2 MiniOktave = 11 Halbton Oktave = 12 Halbton\n\
+     TON c = a - 9 Halbton cis = c + Halbton d = c + 2 Halbton dis = c + 3 Halbton e = c + 4 Halbton\n\
+     f = c + 5 Halbton fis = c + 6 Halbton g = c + 7 Halbton gis = c + 8 Halbton a = 440\n\
+     b = a + Halbton h = a + 2 Halbton\n\
+     TONSYSTEM Zwoelf_Stufig = 60 [ c, cis, d, dis, e, f, fis, g, gis, a, b, h ] Oktave\n\
+     HARMONIE\n\nD_Dur = { 2,6,9 }\n\nUMSTIMMUNG\n\nGelb = [ ] MiniOktave\n\n\
+     LOGIK\n\nBraun Taste b = Zwoelf_Stufig [ D_Dur -> Gelb ]\n",
+    "HARMONIE Moll = {0,3,7}\nUMSTIMMUNG Meier = 34 []\nLOGIK Nie Taste n = [2 ~ Moll -> Meier]\n",
+    "HARMONIE\ndur = {0, 4, 7}\nLOGIK mutiere_dur_2 Taste M = [\n    FORM dur  -> u1\n]\n",
 ];
+
+const C_B: &str = concat!(
+    c_dur_rein!(),
+    "Normal = [ @,@,@,@,@,@,@,@,@,@, b,@ ]\n\nHARMONIE\n\nSeptakkord = { 0, *4, *7, 10 }\n\n\
+     Be = { 10 }\n\nLOGIK\n\nStatisch Taste s = C_Dur_Rein [ ]\n\n\
+     Mutierend Taste m = C_Dur_Rein [ Septakkord -> Natur\n\
+     \x20                               Be           -> Normal ]\n"
+);
+
+#[cfg(test)]
+mod tests {
+    use super::*;
+    use crate::frames::Desk;
+    use crate::state::Key;
+    use crate::text;
+
+    #[test]
+    fn each_is_right_or_uses_what_is_left_out() {
+        let number = |text: &&str| text::read(text.as_bytes()).err().map_or(0, |r| r.number);
+        let numbers: Vec<_> = EXAMPLES.iter().map(number).collect();
+        assert_eq!(numbers, [0, 0, 0, 0, 0, 0, 0, 0, 0, 3, 3, 3, 0, 0, 0, 0, 0, 3, 3]);
+    }
+
+    /// The handbook's steps: f-b is pure, with a c the b becomes a natural
+    /// seventh above it, and when the c goes it is the old one again.
+    #[test]
+    fn the_septime_of_c_b() {
+        let mut desk = Desk::new(text::read(C_B.as_bytes()).unwrap());
+        let mut b_after = |frame: &str| {
+            desk.answer(frame.as_bytes(), &mut Vec::new());
+            desk.state().pitch(Key(70)).unwrap().0
+        };
+        let (pure, natural) = (7_011_731, 6_984_467);
+        for (frame, b) in [
+            ("010153", pure),
+            ("010546", pure),
+            ("01053C", pure),
+            ("01014D", pure),
+            ("01063C", pure),
+            ("02053C", natural),
+            ("020540", natural),
+            ("020640", natural),
+            ("02063C", pure),
+        ] {
+            assert_eq!(b_after(frame), b, "{frame}");
+        }
+    }
+}

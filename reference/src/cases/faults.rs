@@ -7,7 +7,7 @@ use crate::text::LONGEST_TEXT;
 
 /// Puts one fault into the symbols of a text.
 pub fn put_in(random: &mut Random, text: &mut Vec<Token>) {
-    match random.below(18) {
+    match random.below(21) {
         0 | 1 => put_unreadable(random, text),
         2..=4 => disorder(random, text),
         5..=7 => unfit_number(random, text),
@@ -15,12 +15,14 @@ pub fn put_in(random: &mut Random, text: &mut Vec<Token>) {
         10 | 11 => use_undeclared(random, text),
         12 | 13 => put_cycle(random, text),
         14 | 15 => put_great_value(random, text),
+        16 => name_number_twice(random, text),
+        17 | 18 => put_harmony(random, text),
         _ => put_too_many(random, text),
     }
 }
 
 /// Bytes that no symbol begins with, and numbers lacking digits.
-const UNREADABLE: &str = "( ) { } ~ ! ; < > . .5 3. 3..5 # #.5 \" \u{0} \u{1a} \u{7f} \u{f6}";
+const UNREADABLE: &str = "( ) ~ ! ; < > . .5 3. 3..5 # #.5 \" \u{0} \u{1a} \u{7f} \u{f6}";
 
 /// 2: something where no symbol begins, or a number lacking digits.
 fn put_unreadable(random: &mut Random, text: &mut Vec<Token>) {
@@ -54,7 +56,8 @@ fn disorder(random: &mut Random, text: &mut Vec<Token>) {
 }
 
 /// Symbols to put in where they may not belong, reserved words among them.
-const SYMBOLS: &str = "= : + - * / [ ] , @ << >> -> x 12 0.5 #7F KEY ROOT TONE LOGIK ELSE SHIFTED \
+const SYMBOLS: &str =
+    "= : + - * / [ ] { } , @ << >> -> x 12 0.5 #7F KEY ROOT TONE LOGIK ELSE SHIFTED \
     PATTERN MIDIIN MIDICHANNEL MIDIOUT ANSONSTEN FORM HARMONIE MIDIKANAL HARMONY";
 
 fn any_token(random: &mut Random) -> Token {
@@ -87,6 +90,7 @@ fn unfit(random: &mut Random, quantity: Quantity) -> &'static str {
         Quantity::Anchor => random.one_of(["128", "60.0", "#80", "0128"]),
         Quantity::Change => random.one_of(["10000", "7.5", "#2710", "1.0"]),
         Quantity::Divisor => random.one_of(["0", "10000", "2.0", "#0"]),
+        Quantity::KeyNumber => random.one_of(["60", "0.0", "#3C", "4.0", "0060", "59.5", "127"]),
     }
 }
 
@@ -202,6 +206,54 @@ fn put_users(random: &mut Random, text: &mut Vec<Token>, kind: Kind) {
     }
 }
 
+/// 3: a number that a harmony has named already, once more at its end, as it
+/// was written or in another way.
+fn name_number_twice(random: &mut Random, text: &mut Vec<Token>) {
+    let is_number = |token: &Token| token.part == Part::Number(Quantity::KeyNumber);
+    let Some(place) = random_place(random, text, is_number) else {
+        return;
+    };
+    let number = String::from_utf8_lossy(&text[place].bytes).into_owned();
+    let value = match number.strip_prefix('#') {
+        Some(digits) => u8::from_str_radix(digits, 16),
+        None => number.parse(),
+    };
+    let value = value.unwrap_or_default();
+    let again =
+        random.one_of([number, value.to_string(), format!("0{value}"), format!("#{value:x}")]);
+    let star = random.one_of(["", "*"]);
+    let end = text.iter().skip(place).position(|token| token.bytes == b"}");
+    let end = end.map_or(text.len(), |length| place + length);
+    text.splice(end..end, tokens(&format!(", {star} {again}"), Kind::Harmony));
+}
+
+/// Braces that are refused with 3 or 4, and a few that are right.
+const BRACES: &str = "{ }|{ 0 , }|{ , 0 }|{ * }|{ * * 0 }|{ * , 4 }|{ 0 , , 4 }|{ 0 4 }|{ 0 , * }|\
+    { 0 , 4 , 0 }|{ 0 , * 4 , 4 }|{ 0 , 4 , * #4 }|{ * 007 , * 7 }|{ #3b , 59 }|\
+    { 60 }|{ * 60 }|{ 0 , 0.0 }|{ 59 , 60 , 59 }|{ 7 , * 7.0 }|{ #3C }|{ 0060 }|\
+    { 99999999999999999999999 }|{ x }|{ @ }|{ - 1 }|{ + 1 }|{ 0 - 4 }|{ 0 ]|[ 0 ]|{ 0|{ 0 ,|{|\
+    { { 0 } }|{ 0 } }|0|{ 1 : 2 }|{ KEY }|{ 59 }|{ * 59 , 0 }|{ 00 , * #3B }";
+
+/// 3, 4 and 9: a harmony with faulty braces, or with sixty numbers and one
+/// more.
+fn put_harmony(random: &mut Random, text: &mut Vec<Token>) {
+    let braces: Vec<_> = BRACES.split('|').collect();
+    let form = match random.below(3) {
+        0 => full_braces(random),
+        _ => random.pick(&braces, "{ }").to_string(),
+    };
+    put_block(random, text, Kind::Harmony, &format!("qk = {form}"));
+}
+
+/// Sixty numbers, and perhaps one more: "at most .. 60 keys".
+fn full_braces(random: &mut Random) -> String {
+    let star = random.one_of(["", "* "]);
+    let numbers: Vec<_> = (0..60).map(|number| format!("{star}{number}")).collect();
+    let last =
+        random.one_of(["}", ", * 0 }", ", * 60 }", ", * 0.5 }", ", * }", ", 0 }", ", 60 }", ", }"]);
+    format!("{{ {} {last}", numbers.join(" , "))
+}
+
 /// 9: one more item than allowed, or just as many.
 fn put_too_many(random: &mut Random, text: &mut Vec<Token>) {
     let over = usize::from(random.percent(70));
@@ -219,6 +271,7 @@ fn fill_kind(random: &mut Random, text: &mut Vec<Token>, over: usize) {
         (Kind::Tone, 256, "= 440"),
         (Kind::System, 32, "= 0 [ , ] qo"),
         (Kind::Retuning, 128, "= @ [ ]"),
+        (Kind::Harmony, 64, "= { 0 , * 7 }"),
         (Kind::Logic, 32, "KEY Q = [ ]"),
     ]);
     if kind == Kind::System {
@@ -233,7 +286,9 @@ fn fill_kind(random: &mut Random, text: &mut Vec<Token>, over: usize) {
 
 fn fill_orders(random: &mut Random, text: &mut Vec<Token>, over: usize) {
     let arrows = text.iter().filter(|token| token.bytes == b"->").count();
-    let orders = "TASTE Z -> ql ".repeat((512 + over).saturating_sub(arrows));
+    let trigger = random.one_of(["TASTE Z", "qk"]);
+    let orders = format!("{trigger} -> ql ").repeat((512 + over).saturating_sub(arrows));
+    put_block(random, text, Kind::Harmony, "qk = { 0 }");
     put_block(random, text, Kind::Logic, &format!("ql KEY Q = [ {orders} ]"));
 }
 
@@ -287,7 +342,7 @@ fn any_byte(random: &mut Random) -> u8 {
     if random.percent(20) {
         return random.next() as u8;
     }
-    random.one_of(*b"=:+-*/[],@<>->\"#.0123456789abefxzAZ_' \n\t\r")
+    random.one_of(*b"=:+-*/[]{},@<>->\"#.0123456789abefxzAZ_' \n\t\r")
 }
 
 /// Fills a text up to a length right at the limit, or beyond it.

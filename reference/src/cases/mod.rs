@@ -4,7 +4,17 @@ pub mod calls;
 mod compose;
 mod examples;
 mod faults;
+mod fingers;
+mod harmonies;
 pub mod measures;
 mod sketch;
 pub mod streams;
 pub mod texts;
+
+use crate::random::Random;
+
+fn shuffle<T>(random: &mut Random, list: &mut [T]) {
+    for i in (1..list.len()).rev() {
+        list.swap(i, random.below(i + 1));
+    }
+}

@@ -10,11 +10,12 @@ pub enum Kind {
     Tone,
     System,
     Retuning,
+    Harmony,
     Logic,
 }
 
-pub const KINDS: [Kind; 5] =
-    [Kind::Interval, Kind::Tone, Kind::System, Kind::Retuning, Kind::Logic];
+pub const KINDS: [Kind; 6] =
+    [Kind::Interval, Kind::Tone, Kind::System, Kind::Retuning, Kind::Harmony, Kind::Logic];
 
 /// What a number stands for.
 #[derive(Clone, Copy, Debug, PartialEq, Eq)]
@@ -26,6 +27,8 @@ pub enum Quantity {
     Anchor,
     Change,
     Divisor,
+    /// A number that a harmony names.
+    KeyNumber,
 }
 
 /// The part that a symbol plays.
@@ -74,10 +77,11 @@ impl Token {
 }
 
 /// Plain symbols parted by blanks, for blocks that are put in as a whole.
-/// Numbers are factors, and names are uses of this kind.
+/// Numbers are factors or those of harmonies, and names are uses of this kind.
 pub fn tokens(text: &str, kind: Kind) -> Vec<Token> {
+    let number = if kind == Kind::Harmony { Quantity::KeyNumber } else { Quantity::Factor };
     let part = |symbol: &str| match symbol.bytes().next() {
-        Some(b'0'..=b'9' | b'#') => Part::Number(Quantity::Factor),
+        Some(b'0'..=b'9' | b'#') => Part::Number(number),
         Some(byte) if byte.is_ascii_lowercase() => Part::Used(kind),
         Some(byte) if byte.is_ascii_uppercase() => Part::Word,
         _ => Part::Mark,
@@ -92,6 +96,7 @@ pub fn kind_word(random: &mut Random, kind: Kind) -> Token {
         Kind::Tone => ["TONE", "TON"],
         Kind::System => ["TONESYSTEM", "TONSYSTEM"],
         Kind::Retuning => ["RETUNING", "UMSTIMMUNG"],
+        Kind::Harmony => ["HARMONY", "HARMONIE"],
         Kind::Logic => ["LOGIC", "LOGIK"],
     };
     Token::word(random.one_of(words))

@@ -1,12 +1,15 @@
 //! Pairs of a text and a stream of frames for it. Most texts are right, and
-//! their letters really move the state.
+//! their letters and harmonies really move the state.
 
 use super::compose::{compose, Plan};
+use super::examples::EXAMPLES;
 use super::faults;
+use super::fingers::Fingers;
 use super::sketch::render;
 use crate::frames::Desk;
 use crate::random::Random;
 use crate::text;
+use crate::text::tree::Trigger;
 
 pub struct Pair {
     pub text: Vec<u8>,
@@ -17,8 +20,12 @@ pub struct Pair {
 pub fn pair(seed: u64, index: u64) -> Pair {
     let mut random = Random::for_case(seed ^ 0x5EED_0F57_2EA4, index);
     let random = &mut random;
-    let text = if random.percent(4) { damaged_text(random) } else { right_text(random) };
-    let frames = Player::new(&text).frames(random);
+    let text = match random.below(100) {
+        0..=3 => damaged_text(random),
+        4..=7 => random.one_of(EXAMPLES).as_bytes().to_vec(),
+        _ => right_text(random),
+    };
+    let frames = Player::new(random, &text).frames(random);
     Pair { text, frames }
 }
 
@@ -49,6 +56,7 @@ fn plan(random: &mut Random) -> Plan {
             tones: between(20, 60),
             systems: between(2, 12),
             retunings: between(40, 100),
+            harmonies: between(0, 64),
             logics: between(8, 32),
             orders: 14,
             positions: [12, 16, 24, 60][between(0, 3)],
@@ -61,6 +69,7 @@ fn plan(random: &mut Random) -> Plan {
         tones: between(2, 12),
         systems: between(1, 4),
         retunings: between(5, 30),
+        harmonies: between(0, 10).saturating_sub(2),
         logics: between(1, 6),
         orders: 14,
         positions: between(1, 14),
@@ -69,17 +78,26 @@ fn plan(random: &mut Random) -> Plan {
     }
 }
 
-/// Plays on a text: follows it with a desk, so that it knows which letters are
-/// bound at each moment.
+/// Plays on a text: follows it with a desk, so that it knows which letters and
+/// harmonies are bound at each moment. A refused text is followed as if it were
+/// empty.
 struct Player {
-    desk: Option<Desk>,
+    desk: Desk,
     lines: Vec<u8>,
+    fingers: Fingers,
+    /// How many in a hundred frames are those of keys.
+    keys: u32,
 }
 
 impl Player {
-    fn new(text: &[u8]) -> Self {
-        let desk = text::read(text).ok().map(Desk::new);
-        Player { desk, lines: Vec::new() }
+    fn new(random: &mut Random, text: &[u8]) -> Self {
+        let desk = Desk::new(text::read(text).unwrap_or_default());
+        let keys = if desk.program().declared.harmonies.is_empty() {
+            random.one_of([0, 0, 0, 20])
+        } else {
+            random.one_of([0, 20, 50, 80])
+        };
+        Player { desk, lines: Vec::new(), fingers: Fingers::default(), keys }
     }
 
     /// The frames of a stream; the last line may lack its line feed.
@@ -87,9 +105,7 @@ impl Player {
         let most = random.one_of([5, 30, 60, 120, 240]);
         for _ in 0..=random.below(most) {
             let line = self.line(random);
-            if let Some(desk) = &mut self.desk {
-                desk.answer(&line, &mut Vec::new());
-            }
+            self.desk.answer(&line, &mut Vec::new());
             self.lines.extend(line);
             self.lines.push(b'\n');
         }
@@ -99,7 +115,10 @@ impl Player {
         self.lines
     }
 
-    fn line(&self, random: &mut Random) -> Vec<u8> {
+    fn line(&mut self, random: &mut Random) -> Vec<u8> {
+        if random.percent(self.keys) {
+            return frame_line(self.fingers.frame(random, &self.desk));
+        }
         let house = 1 + random.below(2) as u8;
         match random.below(100) {
             0..=64 => frame_line([house, 1, self.letter(random)]),
@@ -114,24 +133,26 @@ impl Player {
     /// any.
     fn letter(&self, random: &mut Random) -> u8 {
         let any = b'A' + random.below(26) as u8;
-        let Some(desk) = &self.desk else {
-            return any;
-        };
-        let logics = &desk.program().declared.logics;
-        let active = desk.active().and_then(|i| logics.get(i));
+        let logics = &self.desk.program().declared.logics;
+        let active = self.desk.active().and_then(|i| logics.get(i));
         let orders = active.map_or(&[][..], |logic| &logic.form.orders);
+        let orders = letters(orders.iter().map(|order| &order.trigger));
+        let logics = letters(logics.iter().map(|logic| &logic.form.trigger));
         match random.below(100) {
-            0..=74 if !orders.is_empty() => {
-                let place = random.below(orders.len());
-                orders.get(place).map_or(any, |order| order.letter.0)
-            }
-            0..=94 => {
-                let place = random.below(logics.len());
-                logics.get(place).map_or(any, |logic| logic.form.letter.0)
-            }
+            0..=74 if !orders.is_empty() => random.pick(&orders, any),
+            0..=94 => random.pick(&logics, any),
             _ => any,
         }
     }
+}
+
+/// The letters among these triggers.
+fn letters<'a>(triggers: impl Iterator<Item = &'a Trigger<usize>>) -> Vec<u8> {
+    let letter = |trigger: &Trigger<usize>| match trigger {
+        Trigger::Letter(letter) => Some(letter.0),
+        Trigger::Harmony(_) => None,
+    };
+    triggers.filter_map(letter).collect()
 }
 
 fn frame_line(bytes: [u8; 3]) -> Vec<u8> {
@@ -142,7 +163,7 @@ fn frame_line(bytes: [u8; 3]) -> Vec<u8> {
 /// Three bytes right beside those of a frame.
 fn near_frame(random: &mut Random) -> [u8; 3] {
     let house = random.one_of([0, 1, 2, 3, 0xFF]);
-    let kind = random.one_of([0, 1, 2, 3, 4]);
+    let kind = random.one_of([0, 1, 2, 3, 4, 5, 6, 7]);
     let last = random.one_of([0x00, 0x01, 0x40, 0x41, 0x5A, 0x5B, 0x61, 0x7F, 0x80, 0xFF]);
     [house, kind, last]
 }
@@ -178,7 +199,7 @@ mod tests {
             accepted += 1;
             let mut desk = Desk::new(program);
             for line in pair.frames.split(|&byte| byte == b'\n') {
-                let call = desk.answer(line, &mut Vec::new());
+                let call = desk.answer(line, &mut Vec::new()).made;
                 made += u32::from(call.is_some());
                 taken += u32::from(call.is_some_and(|call| call.number == 0));
             }

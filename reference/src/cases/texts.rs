@@ -46,6 +46,7 @@ fn plan(random: &mut Random) -> Plan {
         tones: upto(24),
         systems: upto(8),
         retunings: upto(24),
+        harmonies: upto(24),
         logics: upto(8),
         orders: upto(12),
         positions: upto(12) + 1,
@@ -58,6 +59,7 @@ fn plan(random: &mut Random) -> Plan {
 mod tests {
     use super::*;
     use crate::text::read;
+    use std::collections::BTreeMap;
 
     #[test]
     fn each_number_is_frequent() {
@@ -67,5 +69,63 @@ mod tests {
             counts[usize::from(number)] += 1;
         }
         assert!(counts.iter().all(|&count| count >= 15), "{counts:?}");
+    }
+
+    /// The refusals that harmonies bring, each by what stands at its place.
+    #[test]
+    fn each_refusal_of_harmonies_is_frequent() {
+        let mut counts = BTreeMap::new();
+        for index in 0..6_000 {
+            let text = text(11, index);
+            if let Err(refusal) = read(&text) {
+                let (before, after) = text.split_at(refusal.place);
+                *counts.entry((refusal.number, kind_at(before), what(after))).or_insert(0) += 1;
+            }
+        }
+        for (number, kind, what) in [
+            (3, "harmon", "}"),
+            (3, "harmon", ","),
+            (3, "harmon", "0"),
+            (4, "harmon", "0"),
+            (9, "harmon", "*"),
+            (9, "harmon", "name ="),
+            (5, "harmon", "name ="),
+            (6, "logi", "name ="),
+            (6, "order", "name -"),
+            (9, "order", "name -"),
+            (9, "order", "KEY"),
+        ] {
+            let count = counts.get(&(number, kind, what.to_string())).copied().unwrap_or(0);
+            assert!(count >= 10, "{number} {kind} {what}: {count} of {counts:?}");
+        }
+    }
+
+    /// The first letters of the word that begins the last block of this text;
+    /// inside a logic's bracket it is an order.
+    fn kind_at(before: &[u8]) -> &'static str {
+        let before = String::from_utf8_lossy(before).to_lowercase();
+        let outside: String = before.split('"').step_by(2).collect();
+        let kinds = ["interval", "ton", "retuning", "umstimmung", "harmon", "logi"];
+        let kind = kinds.into_iter().max_by_key(|kind| outside.rfind(kind)).unwrap_or_default();
+        let is_order = kind == "logi" && outside.rfind('[') > outside.rfind(']');
+        if is_order {
+            "order"
+        } else {
+            kind
+        }
+    }
+
+    /// What these bytes begin with: a name and the mark after it, KEY, a number
+    /// or a mark.
+    fn what(after: &[u8]) -> String {
+        let after = String::from_utf8_lossy(after).to_lowercase();
+        let is_of_name = |c: char| c.is_ascii_alphanumeric() || c == '_' || c == '\'';
+        let rest = after.trim_start_matches(is_of_name);
+        match after.chars().next().unwrap_or_default() {
+            '0'..='9' | '#' => "0".to_string(),
+            _ if after.starts_with("key") || after.starts_with("taste") => "KEY".to_string(),
+            mark if !is_of_name(mark) => mark.to_string(),
+            _ => rest.trim_start().chars().next().map_or_else(String::new, |c| format!("name {c}")),
+        }
     }
 }

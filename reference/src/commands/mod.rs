@@ -2,6 +2,7 @@
 
 pub mod book;
 pub mod calls;
+pub mod keys;
 pub mod measures;
 pub mod streams;
 pub mod texts;

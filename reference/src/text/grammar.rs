@@ -1,4 +1,5 @@
-//! Section "Declarations" of document 01, and the numbers 2, 3, 4 and 9:
+//! Section "Declarations" of document 01, the harmonies and triggers of request
+//! 5/13, and the numbers 2, 3, 4 and 9:
 //! "Reading goes symbol by symbol, so among 2, 3, 4 and 9 the first place
 //! wins". No symbol is looked at before all before it is judged, but for "an
 //! interval's first number", which "is judged once `:`, ROOT or a name
@@ -7,9 +8,10 @@
 use super::symbols::{next_symbol, Mark, Number, Placed, Symbol, Word};
 use super::tree::{
     Declared, Draft, IntervalForm, Letter, LogicForm, Name, Order, PositionForm, RetuningForm, Sum,
-    SystemForm, Term, ToneForm,
+    SystemForm, Term, ToneForm, Trigger,
 };
 use super::Refusal;
+use crate::harmony::{Harmony, Wish};
 use crate::measure::{Degree, TenThousandths};
 use crate::numbers;
 use crate::state::{Change, CHANGES, POSITIONS};
@@ -20,14 +22,17 @@ const INTERVALS: usize = 256;
 const TONES: usize = 256;
 const SYSTEMS: usize = 32;
 const RETUNINGS: usize = 128;
+const HARMONIES: usize = 64;
 const LOGICS: usize = 32;
 const ORDERS: usize = 512;
 const TERMS: usize = 16;
+const HARMONY_KEYS: usize = 60;
 
 const DEGREES: RangeInclusive<u16> = 1..=65_535;
 const FACTORS: RangeInclusive<u16> = 0..=999;
 const SYSTEM_ANCHORS: RangeInclusive<u16> = 0..=127;
 const DIVISORS: RangeInclusive<u16> = 1..=9_999;
+const KEY_NUMBERS: RangeInclusive<u16> = 0..=59;
 
 type Parsed<T> = Result<T, Refusal>;
 
@@ -49,6 +54,9 @@ pub fn parse(text: &[u8]) -> Parsed<Draft> {
             }
             Symbol::Word(Word::Retuning) => {
                 parser.block(&mut draft.retunings, RETUNINGS, Parser::retuning)?
+            }
+            Symbol::Word(Word::Harmony) => {
+                parser.block(&mut draft.harmonies, HARMONIES, Parser::harmony)?
             }
             Symbol::Word(Word::Logic) => parser.block(&mut draft.logics, LOGICS, Parser::logic)?,
             _ => return Err(not_allowed(&next)),
@@ -328,11 +336,47 @@ impl Parser<'_> {
         }
     }
 
+    /// "As `HARMONY C = { 0, 4, *7 }` .. by key numbers from 0 to 59 in braces";
+    /// "3 also for empty braces or a number named twice".
+    fn harmony(&mut self) -> Parsed<Harmony> {
+        self.mark(Mark::Equals)?;
+        self.mark(Mark::OpenBrace)?;
+        let mut harmony = Harmony::default();
+        loop {
+            self.harmony_key(&mut harmony)?;
+            let next = self.take()?;
+            match next.symbol {
+                Symbol::Mark(Mark::Comma) => {}
+                Symbol::Mark(Mark::CloseBrace) => return Ok(harmony),
+                _ => return Err(not_allowed(&next)),
+            }
+        }
+    }
+
+    /// One key number, with a star before it or not. One too many can only be
+    /// seen at its star: a number itself is then named twice or out of range.
+    fn harmony_key(&mut self, harmony: &mut Harmony) -> Parsed<()> {
+        let next = self.peek()?;
+        let starred = next.symbol == Symbol::Mark(Mark::Times);
+        if starred && harmony.count() == HARMONY_KEYS {
+            return Err(one_too_many(next));
+        }
+        if starred {
+            self.take()?;
+        }
+        let (number, place) = self.number()?;
+        let key = number.whole(KEY_NUMBERS).ok_or(out_of_range(place))? as u8;
+        if harmony.wish(key).is_some() {
+            return Err(Refusal::new(numbers::NOT_ALLOWED, place));
+        }
+        harmony.add(key, if starred { Wish::Either } else { Wish::Held });
+        Ok(())
+    }
+
     /// "`name KEY letter = start [ orders ]`; start is a tone system or
-    /// retuning name or nothing".
-    fn logic(&mut self) -> Parsed<LogicForm<Name>> {
-        self.expect(Symbol::Word(Word::Key))?;
-        let letter = self.letter()?;
+    /// retuning name or nothing", and other triggers beside `KEY letter`.
+    fn logic(&mut self) -> Parsed<LogicForm<Name, Name>> {
+        let trigger = self.trigger()?;
         self.mark(Mark::Equals)?;
         let start = match self.peek()?.symbol {
             Symbol::Name(_) => Some(self.name()?),
@@ -344,22 +388,31 @@ impl Parser<'_> {
             orders.push(self.order()?);
         }
         self.mark(Mark::Close)?;
-        Ok(LogicForm { letter, start, orders })
+        Ok(LogicForm { trigger, start, orders })
     }
 
-    /// "`KEY letter -> name`".
-    fn order(&mut self) -> Parsed<Order<Name>> {
-        let next = self.take()?;
-        if next.symbol != Symbol::Word(Word::Key) {
-            return Err(not_allowed(&next));
-        }
-        if self.orders == ORDERS {
-            return Err(one_too_many(&next));
+    /// "`KEY letter -> name`", or another trigger. One too many has the first
+    /// symbol of its trigger as place.
+    fn order(&mut self) -> Parsed<Order<Name, Name>> {
+        let full = self.orders == ORDERS;
+        let next = self.peek()?;
+        if full && matches!(next.symbol, Symbol::Word(Word::Key) | Symbol::Name(_)) {
+            return Err(one_too_many(next));
         }
         self.orders += 1;
-        let letter = self.letter()?;
+        let trigger = self.trigger()?;
         self.mark(Mark::Arrow)?;
-        Ok(Order { letter, called: self.name()? })
+        Ok(Order { trigger, called: self.name()? })
+    }
+
+    /// "Its bare name is a trigger beside `KEY letter`, in logics and orders."
+    fn trigger(&mut self) -> Parsed<Trigger<Name>> {
+        let next = self.take()?;
+        match next.symbol {
+            Symbol::Word(Word::Key) => Ok(Trigger::Letter(self.letter()?)),
+            Symbol::Name(text) => Ok(Trigger::Harmony(Name { text, place: next.place })),
+            _ => Err(not_allowed(&next)),
+        }
     }
 }
 

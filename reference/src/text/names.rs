@@ -2,7 +2,7 @@
 
 use super::tree::{
     Declared, Draft, IntervalForm, LogicForm, Name, Order, PositionForm, Resolved, RetuningForm,
-    Sum, SystemForm, Target, Term, ToneForm,
+    Sum, SystemForm, Target, Term, ToneForm, Trigger,
 };
 use super::{at_earliest, Refusal};
 use crate::numbers;
@@ -16,6 +16,7 @@ pub fn check_declared_once(draft: &Draft) -> Result<(), Refusal> {
         first_second(&draft.tones),
         first_second(&draft.systems),
         first_second(&draft.retunings),
+        first_second(&draft.harmonies),
         first_second(&draft.logics),
     ];
     at_earliest(numbers::USED_TWICE, seconds.into_iter().flatten())
@@ -38,6 +39,7 @@ pub fn resolve(draft: Draft) -> Result<Resolved, Refusal> {
         tones: each(draft.tones, &mut missing, |form| kinds.tone_form(form)),
         systems: each(draft.systems, &mut missing, |form| kinds.system_form(form)),
         retunings: each(draft.retunings, &mut missing, |form| kinds.retuning_form(form)),
+        harmonies: draft.harmonies,
         logics: each(draft.logics, &mut missing, |form| kinds.logic_form(form)),
     };
     at_earliest(numbers::NOT_DECLARED, missing.into_iter())?;
@@ -77,6 +79,7 @@ struct Kinds {
     tones: Index,
     systems: Index,
     retunings: Index,
+    harmonies: Index,
     logics: Index,
 }
 
@@ -87,6 +90,7 @@ impl Kinds {
             tones: index(&draft.tones),
             systems: index(&draft.systems),
             retunings: index(&draft.retunings),
+            harmonies: index(&draft.harmonies),
             logics: index(&draft.logics),
         }
     }
@@ -146,13 +150,24 @@ impl Kinds {
         })
     }
 
-    fn logic_form(&self, form: LogicForm<Name>) -> Found<LogicForm<Target>> {
+    /// Trigger, start and orders in the order of the text, so that the first
+    /// that is missing is the earliest.
+    fn logic_form(&self, form: LogicForm<Name, Name>) -> Found<LogicForm<usize, Target>> {
+        let trigger = self.trigger(form.trigger)?;
         let start = form.start.map(|name| self.start(&name)).transpose()?;
-        let order = |order: Order<Name>| {
-            Ok(Order { letter: order.letter, called: self.called(&order.called)? })
+        let order = |order: Order<Name, Name>| {
+            let trigger = self.trigger(order.trigger)?;
+            Ok(Order { trigger, called: self.called(&order.called)? })
         };
         let orders = form.orders.into_iter().map(order).collect::<Found<_>>()?;
-        Ok(LogicForm { letter: form.letter, start, orders })
+        Ok(LogicForm { trigger, start, orders })
+    }
+
+    fn trigger(&self, trigger: Trigger<Name>) -> Found<Trigger<usize>> {
+        Ok(match trigger {
+            Trigger::Letter(letter) => Trigger::Letter(letter),
+            Trigger::Harmony(name) => Trigger::Harmony(find(&self.harmonies, &name)?),
+        })
     }
 
     /// "A called name means the retuning of that name, else the tone system".

@@ -1,4 +1,5 @@
-//! Section "Symbols of the text" of document 01.
+//! Section "Symbols of the text" of document 01, with the braces of request
+//! 5/13.
 
 use super::Refusal;
 use crate::measure::TenThousandths;
@@ -16,7 +17,7 @@ pub enum Symbol {
     End,
 }
 
-/// "Marks: `= : + - * / [ ] , @ << >> ->`."
+/// "Marks: `= : + - * / [ ] , @ << >> ->`", and the braces of harmonies.
 #[derive(Clone, Copy, Debug, PartialEq, Eq)]
 pub enum Mark {
     Equals,
@@ -27,6 +28,8 @@ pub enum Mark {
     Over,
     Open,
     Close,
+    OpenBrace,
+    CloseBrace,
     Comma,
     At,
     OpenWidth,
@@ -35,7 +38,7 @@ pub enum Mark {
 }
 
 /// Marks of two bytes stand before those of one, so the longest is found.
-const MARKS: [(&[u8], Mark); 13] = [
+const MARKS: [(&[u8], Mark); 15] = [
     (b"<<", Mark::OpenWidth),
     (b">>", Mark::CloseWidth),
     (b"->", Mark::Arrow),
@@ -47,6 +50,8 @@ const MARKS: [(&[u8], Mark); 13] = [
     (b"/", Mark::Over),
     (b"[", Mark::Open),
     (b"]", Mark::Close),
+    (b"{", Mark::OpenBrace),
+    (b"}", Mark::CloseBrace),
     (b",", Mark::Comma),
     (b"@", Mark::At),
 ];
@@ -57,6 +62,7 @@ pub enum Word {
     Tone,
     ToneSystem,
     Retuning,
+    Harmony,
     Logic,
     Key,
     Root,
@@ -75,6 +81,8 @@ const WORDS: [(&str, Word); 25] = [
     ("tonsystem", Word::ToneSystem),
     ("retuning", Word::Retuning),
     ("umstimmung", Word::Retuning),
+    ("harmony", Word::Harmony),
+    ("harmonie", Word::Harmony),
     ("logic", Word::Logic),
     ("logik", Word::Logic),
     ("key", Word::Key),
@@ -89,9 +97,7 @@ const WORDS: [(&str, Word); 25] = [
     ("midiout", Word::Unused),
     ("ansonsten", Word::Unused),
     ("form", Word::Unused),
-    ("harmonie", Word::Unused),
     ("midikanal", Word::Unused),
-    ("harmony", Word::Unused),
 ];
 
 /// A number as it is written: its whole part (with no upper limit; what is too

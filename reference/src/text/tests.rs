@@ -123,7 +123,6 @@ fn grammar() {
     refused_at("INTERVAL x = - a", 3, "-");
     refused_at("INTERVAL x = b + - 3 a", 3, "-");
     refused_at("INTERVAL x = 3 4 a", 3, "4");
-    refused_at("LOGIC L = [ ]", 3, "=");
     refused_at("LOGIC L KEY _ = [ ]", 3, "_");
     refused_at("LOGIC L KEY ab = [ ]", 3, "ab");
     refused_at("LOGIC L KEY 3 = [ ]", 3, "3");
@@ -172,6 +171,7 @@ fn too_many_declarations() {
         ("TONE", "=440 ", 256),
         ("RETUNING", "=@[] ", 128),
         ("LOGIC", " KEY a=[] ", 32),
+        ("HARMONY", "={0} ", 64),
     ];
     for (word, form, most) in limits {
         let declared: String = (0..most).map(|i| format!("n{i}{form}")).collect();
@@ -227,4 +227,75 @@ fn out_of_range_values() {
     assert_eq!(refusal(text), (8, place_of(text, "s =")));
     refused_at("INTERVAL o = 2:1 n = 1:2 TONESYSTEM s = 0 [ , ] n", 8, "s =");
     accepted("INTERVAL o = 2:1 TONESYSTEM s = 0 [ , ] 10 o t = 1 [ , ] 0 o");
+}
+
+#[test]
+fn harmonies() {
+    accepted("HARMONY C = { 0, 4, *7 } HARMONIE D={*#3b,00058,*0} \"x\" e = { 59 }");
+    for (text, number, place) in [
+        ("HARMONY C = { }", 3, 14),
+        ("HARMONY C = { 0, 4, 0 }", 3, 20),
+        ("HARMONY C = { 0, *4, 4 }", 3, 21),
+        ("HARMONY C = { 60 }", 4, 14),
+        ("HARMONY C = { 0, 0.0 }", 4, 17),
+        ("HARMONY C = { 0, 4 } C = { 1 }", 5, 21),
+        ("LOGIC L C = x [ D -> y ]", 6, 8),
+        ("HARMONY C = { 0 } LOGIC L = [ ]", 3, 26),
+    ] {
+        assert_eq!(refusal(text), (number, place), "{text}");
+    }
+    refused_at("HARMONY C = { 0, }", 3, "}");
+    refused_at("HARMONY C = { , 0 }", 3, ",");
+    refused_at("HARMONY C = { * }", 3, "}");
+    refused_at("HARMONY C = { *, 4 }", 3, ",");
+    refused_at("HARMONY C = { ** 0 }", 3, "* 0");
+    refused_at("HARMONY C = { 0 4 }", 3, "4");
+    refused_at("HARMONY C = { 4, *#04 (", 3, "#04");
+    refused_at("HARMONY C = { 4, *004 } C = (", 3, "004");
+    refused_at("HARMONY C = { *60, 99 }", 4, "60");
+    refused_at("HARMONY C = { 7, 7.5", 4, "7.5");
+    refused_at("HARMONY C = { 3. }", 2, "3.");
+    refused_at("HARMONY C = [ 0 ]", 3, "[");
+    refused_at("HARMONY C KEY c = { 0 }", 3, "KEY");
+    refused_at("RETUNING r = { u1, u3 }", 3, "{");
+    refused_at("HARMONY (", 2, "(");
+    let text = "HARMONY C = { 0, 4 ";
+    assert_eq!(refusal(text), (3, text.len()));
+}
+
+#[test]
+fn too_many_keys_and_harmonies() {
+    let numbers: Vec<_> = (0..60).map(|number| number.to_string()).collect();
+    let full = format!("HARMONY C = {{ {}", numbers.join(", "));
+    accepted(&format!("{full} }}"));
+    assert_eq!(refusal(&format!("{full}, *0 }}")), (9, 0xF4));
+    assert_eq!(refusal(&format!("{full}, 0 }}")), (3, 0xF4));
+    assert_eq!(refusal(&format!("{full}, 60 }}")), (4, 0xF4));
+    assert_eq!(refusal(&format!("{full}, *(")), (9, 0xF4));
+    assert_eq!(refusal(&format!("{full}, }}")), (3, 0xF4));
+    let declared: String = (0..65).map(|i| format!("h{i} = {{ 0 }} ")).collect();
+    assert_eq!(refusal(&format!("HARMONY {declared}")), (9, 0x2FE));
+    let text = format!("HARMONY a = {{ 0 }} LOGIC L a=[{}", "a->L ".repeat(512));
+    accepted(&format!("{text}]"));
+    refused_at(&format!("{text}] M a=[ KEY"), 9, "KEY");
+    refused_at(&format!("{text}] M a=[ zz"), 9, "zz");
+    refused_at(&format!("{text}] M a=[ 7"), 3, "7");
+}
+
+#[test]
+fn triggers() {
+    refused_at("LOGIC L = [ ]", 3, "=");
+    refused_at("LOGIC L 3 = [ ]", 3, "3");
+    refused_at("LOGIC L x y = [ ]", 3, "y");
+    refused_at("LOGIC L x = [ y z -> L ]", 3, "z");
+    refused_at("LOGIC L KEY a = [ HARMONY -> L ]", 3, "HARMONY");
+    refused_at("LOGIC L KEY a = [ 2 ~ y -> L ]", 3, "2");
+    refused_at("HARMONY y = { 0 } LOGIC L y = y [ ]", 6, "y [");
+    refused_at("HARMONY y = { 0 } LOGIC L y = [ y -> y ]", 6, "y ]");
+    refused_at("RETUNING r = @[] LOGIC L KEY a = [ r -> r ]", 6, "r -> r");
+    refused_at("LOGIC L KEY a = z [ y -> L ]", 6, "z");
+    refused_at("HARMONY a = {0} A = {1} LOGIC L KEY a = z [ ]", 5, "A =");
+    accepted(
+        "LOGIC c c = c [ c -> c KEY c -> c ] HARMONIE c = { 0 } RETUNING c = [ ] c INTERVAL c = 2:1",
+    );
 }

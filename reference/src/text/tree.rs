@@ -1,7 +1,8 @@
-//! The declarations of a text. They refer to each other by `R` (terms and
-//! tones) and `T` (what logics call): by names as they are written first, by
-//! number once the names are resolved.
+//! The declarations of a text. They refer to each other by `R` (terms, tones
+//! and triggers) and `T` (what logics call): by names as they are written
+//! first, by number once the names are resolved.
 
+use crate::harmony::Harmony;
 use crate::measure::{Degree, TenThousandths};
 use crate::state::Change;
 
@@ -64,16 +65,23 @@ pub enum RetuningForm<R> {
 }
 
 #[derive(Clone, Debug, PartialEq, Eq)]
-pub struct Order<T> {
-    pub letter: Letter,
+pub struct Order<R, T> {
+    pub trigger: Trigger<R>,
     pub called: T,
 }
 
 #[derive(Clone, Debug, PartialEq, Eq)]
-pub struct LogicForm<T> {
-    pub letter: Letter,
+pub struct LogicForm<R, T> {
+    pub trigger: Trigger<R>,
     pub start: Option<T>,
-    pub orders: Vec<Order<T>>,
+    pub orders: Vec<Order<R, T>>,
+}
+
+/// "Its bare name is a trigger beside `KEY letter`, in logics and orders."
+#[derive(Clone, Debug, PartialEq, Eq)]
+pub enum Trigger<R> {
+    Letter(Letter),
+    Harmony(R),
 }
 
 /// "A letter is a one-letter name from a to z"; held as the capital that
@@ -95,7 +103,8 @@ pub struct Tree<R, T> {
     pub tones: Vec<Declared<ToneForm<R>>>,
     pub systems: Vec<Declared<SystemForm<R>>>,
     pub retunings: Vec<Declared<RetuningForm<R>>>,
-    pub logics: Vec<Declared<LogicForm<T>>>,
+    pub harmonies: Vec<Declared<Harmony>>,
+    pub logics: Vec<Declared<LogicForm<R, T>>>,
 }
 
 /// A text as it is written.
@@ -111,6 +120,7 @@ impl<R, T> Default for Tree<R, T> {
             tones: Vec::new(),
             systems: Vec::new(),
             retunings: Vec::new(),
+            harmonies: Vec::new(),
             logics: Vec::new(),
         }
     }

@@ -9,7 +9,7 @@ use crate::numbers;
 use crate::state::{Call, PeriodChange, Position, ToneSystem, PERIODS, VALUES};
 
 /// An accepted text: its declarations and their values, in declared order.
-#[derive(Clone, Debug, PartialEq, Eq)]
+#[derive(Clone, Debug, Default, PartialEq, Eq)]
 pub struct Program {
     pub declared: Resolved,
     pub intervals: Vec<Interval>,

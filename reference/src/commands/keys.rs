@@ -1,0 +1,106 @@
+//! `stream-counts`: how often the streams of a seed play keys, and how often a
+//! harmony then matches.
+
+use super::{output, verdict, Outcome};
+use crate::cases::streams::{self, Pair};
+use crate::frames::{frame_bytes, Desk};
+use crate::numbers;
+use crate::text;
+use std::io::Write;
+
+/// One in so many streams with key frames shall contain a match.
+const STREAMS_TO_A_MATCH: u64 = 3;
+
+/// Answers the streams of a seed and counts; fails if too few have a match.
+pub fn count(seed: u64, count: u64) -> Outcome {
+    let mut tally = Tally::default();
+    for index in 0..count {
+        tally.follow(&streams::pair(seed, index));
+    }
+    let mut output = output();
+    writeln!(output, "{tally}")?;
+    output.flush()?;
+    Ok(verdict(tally.has_enough_matches()))
+}
+
+#[derive(Default)]
+struct Tally {
+    streams: u64,
+    with_keys: u64,
+    with_match: u64,
+    frames: u64,
+    matches: u64,
+    refused_calls: u64,
+    held: u64,
+    not_held: u64,
+    above: u64,
+}
+
+impl Tally {
+    /// Key frames for a refused text match nothing, and count all the same.
+    fn follow(&mut self, pair: &Pair) {
+        let (frames, matches) = (self.frames, self.matches);
+        let mut desk = text::read(&pair.text).ok().map(Desk::new);
+        let lines = pair.frames.strip_suffix(b"\n").unwrap_or(&pair.frames);
+        for line in lines.split(|&byte| byte == b'\n') {
+            self.take(desk.as_mut(), line);
+        }
+        self.streams += 1;
+        self.with_keys += u64::from(self.frames > frames);
+        self.with_match += u64::from(self.matches > matches);
+    }
+
+    fn take(&mut self, desk: Option<&mut Desk>, line: &[u8]) {
+        let effect = desk.map(|desk| desk.answer(line, &mut Vec::new()));
+        let Some([1 | 2, 5 | 6, _]) = frame_bytes(line) else {
+            return;
+        };
+        self.frames += 1;
+        let Some(effect) = effect else {
+            return;
+        };
+        match effect.number {
+            _ if effect.triggered => {
+                self.matches += 1;
+                self.refused_calls += u64::from(effect.number != numbers::DONE);
+            }
+            numbers::KEY_HELD => self.held += 1,
+            numbers::KEY_NOT_HELD => self.not_held += 1,
+            numbers::BAD_FRAME => self.above += 1,
+            _ => {}
+        }
+    }
+
+    fn has_enough_matches(&self) -> bool {
+        STREAMS_TO_A_MATCH * self.with_match >= self.with_keys
+    }
+}
+
+impl std::fmt::Display for Tally {
+    fn fmt(&self, f: &mut std::fmt::Formatter) -> std::fmt::Result {
+        writeln!(
+            f,
+            "{} streams, {} with key frames, {} of these with a match",
+            self.streams, self.with_keys, self.with_match
+        )?;
+        write!(
+            f,
+            "{} key frames: {} matches ({} with a refused call), number 17: {}, 18: {}, 22: {}",
+            self.frames, self.matches, self.refused_calls, self.held, self.not_held, self.above
+        )
+    }
+}
+
+#[cfg(test)]
+mod tests {
+    use super::*;
+
+    #[test]
+    fn keys_often_match_and_are_often_refused() {
+        let mut tally = Tally::default();
+        (0..150).for_each(|index| tally.follow(&streams::pair(11, index)));
+        assert!(tally.has_enough_matches(), "{tally}");
+        let refused = [tally.refused_calls, tally.held, tally.not_held, tally.above];
+        assert!(refused.into_iter().all(|count| count >= 30), "{tally}");
+    }
+}
