@@ -1,47 +1,46 @@
 -- Where the terms end that stand before the next position. Assumes nothing.
 use mathlib.Core.Path.{_≡_, refl, sym, _∙_, ap}
-use mathlib.Core.Bool.{true, false}
+use mathlib.Core.Bool.{Bool, true, false}
 use mathlib.Core.List.{List, [], _++_}
 use Prim.Native.Nat.{ℕ, _+_, _≤_, _<_}
 use native.Mathlib.Omega.{arith}
+use lib.Dec.{ltb}
+use lib.ListN.{length}
 use Rattle.grammar.specs.declared.Item.{Item}
 use Rattle.grammar.specs.Items.{itemAt}
 use Rattle.names.specs.Parts.{part}
 use Rattle.values.specs.Values.{Term}
 use Rattle.values.proofs.Cases.{clash}
-use Rattle.program.specs.Program.{Grouped, termThen, groupThen, grouped}
+use Rattle.program.specs.Program.{Grouped, AsListed, unlisted, a-term, muted-position, kept-position, tone-position, a-start, a-trigger, a-call, a-key, asListed, withTerm, termThen, withGroup, groupThen, grouped}
 use Rattle.valuation.specs.Inner.{itemsBetween}
 use Rattle.filling.specs.Inner.{begins, positionBy, positionAt}
-use Rattle.filling.proofs.Inside.{Inside, add, subtract, muted, kept, tone, letter, start, order, trigger, key, starred, outside, inside, no-begin}
 use Rattle.filling.proofs.Items.{termsFrom, terms-end, terms-next, groups-end, groups-next}
 
-before-none : {i : Item} → Inside i → (g : Grouped) → begins (part i) ≡ true → groupThen (part i) g .before ≡ []
-before-none add g e = absurd (clash e refl)
-before-none subtract g e = absurd (clash e refl)
-before-none muted g e = refl
-before-none kept g e = refl
-before-none tone g e = refl
-before-none letter g e = absurd (clash e refl)
-before-none start g e = absurd (clash e refl)
-before-none order g e = absurd (clash e refl)
-before-none trigger g e = absurd (clash e refl)
-before-none key g e = absurd (clash e refl)
-before-none starred g e = absurd (clash e refl)
-before-none {i} (outside o) g e = absurd (clash e (no-begin i o))
+-- whether a position begins with a part
+abbrev beginsAt : AsListed → Bool
+beginsAt q = ltb 0 (length (withGroup q (record { before = []; positions = [] }) .positions))
 
-before-first : {i : Item} → Inside i → (g : Grouped) → begins (part i) ≡ false → groupThen (part i) g .before ≡ termThen (part i) [] ++ g .before
-before-first add g e = refl
-before-first subtract g e = refl
-before-first muted g e = absurd (clash refl e)
-before-first kept g e = absurd (clash refl e)
-before-first tone g e = absurd (clash refl e)
-before-first letter g e = refl
-before-first start g e = refl
-before-first order g e = refl
-before-first trigger g e = refl
-before-first key g e = refl
-before-first starred g e = refl
-before-first (outside o) g e = rw o
+before-none : (q : AsListed) (g : Grouped) → beginsAt q ≡ true → withGroup q g .before ≡ []
+before-none unlisted g e = absurd (clash e refl)
+before-none (a-term t) g e = absurd (clash e refl)
+before-none muted-position g e = refl
+before-none kept-position g e = refl
+before-none (tone-position n) g e = refl
+before-none (a-start n) g e = absurd (clash e refl)
+before-none (a-trigger x) g e = absurd (clash e refl)
+before-none (a-call n) g e = absurd (clash e refl)
+before-none (a-key k) g e = absurd (clash e refl)
+
+before-first : (q : AsListed) (g : Grouped) → beginsAt q ≡ false → withGroup q g .before ≡ withTerm q [] ++ g .before
+before-first unlisted g e = refl
+before-first (a-term t) g e = refl
+before-first muted-position g e = absurd (clash refl e)
+before-first kept-position g e = absurd (clash refl e)
+before-first (tone-position n) g e = absurd (clash refl e)
+before-first (a-start n) g e = refl
+before-first (a-trigger x) g e = refl
+before-first (a-call n) g e = refl
+before-first (a-key k) g e = refl
 
 abbrev beforeIn : List ℕ → ℕ → ℕ → List Term
 beforeIn l i to = grouped (itemsBetween l i to) .before
@@ -64,7 +63,7 @@ module _ {l : List ℕ} {from to i : ℕ} (h : Passing l from to i) where
 
     pub passing-stop : begins (part x) ≡ true → beforeIn l from to ≡ termsFrom l from i
     passing-stop b =
-        h .end i (omega arith) (at-item ∙ before-none (inside x) (grouped (itemsBetween l (i + 1) to)) b ∙ sym (terms-end l i i (omega arith)))
+        h .end i (omega arith) (at-item ∙ before-none (asListed (part x)) (grouped (itemsBetween l (i + 1) to)) b ∙ sym (terms-end l i i (omega arith)))
 
     pub passing-on : begins (part x) ≡ false → Passing l from to (i + 1)
     passing-on b = record {
@@ -72,7 +71,7 @@ module _ {l : List ℕ} {from to i : ℕ} (h : Passing l from to i) where
       end = λ r m q.
           h .end r (omega arith)
           (at-item
-          ∙ before-first (inside x) (grouped (itemsBetween l (i + 1) to)) b
+          ∙ before-first (asListed (part x)) (grouped (itemsBetween l (i + 1) to)) b
           ∙ ap (λ (ts : List Term). termThen (part x) [] ++ ts) q
           ∙ sym (terms-next l i r e (omega arith)));
     }

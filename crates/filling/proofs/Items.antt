@@ -1,5 +1,5 @@
 -- Laws of the lists that the items from one place to another of a slice give, item by item. Assumes nothing.
-use mathlib.Core.Path.{_≡_, refl, sym, _∙_, ap, subst}
+use mathlib.Core.Path.{_≡_, refl, _∙_, ap}
 use mathlib.Core.List.{List, [], _∷_, _++_}
 use mathlib.Core.Option.{Option, some, none}
 use Prim.Native.Nat.{ℕ, _+_, _≤_, _<_}
@@ -8,89 +8,72 @@ use Rattle.grammar.specs.Items.{itemAt}
 use Rattle.names.specs.Parts.{part}
 use Rattle.values.specs.Values.{Term}
 use Rattle.harmonies.specs.Harmonies.{HarmonyKey}
-use Rattle.program.specs.Program.{Trigger, byLetter, byHarmony, Order, Grouped, Ordered, AsListed, termThen, termsOf, systemPositionThen, systemPositionsOf, withGroup, groupThen, grouped, triggeredBy, withOrder, orderThen, ordered, ordersOf, startThen, startOf, keyThen, keysOf}
+use Rattle.program.specs.Program.{Trigger, Order, Grouped, Ordered, AsListed, unlisted, a-term, muted-position, kept-position, tone-position, a-start, a-trigger, a-call, a-key, asListed}
+use Rattle.program.specs.Program.{withTerm, termThen, termsOf, withSystemPosition, systemPositionThen, systemPositionsOf, withGroup, groupThen, grouped, triggeredBy, withOrder, orderThen, ordered, ordersOf, startThen, startOf, withKey, keyThen, keysOf}
 use Rattle.valuation.specs.Inner.{itemsBetween}
 use Rattle.filling.specs.Inner.{positionBy, orderBy}
 use Rattle.valuation.proofs.Between.{between-none, between-here}
-use Rattle.filling.proofs.Inside.{Inside, add, subtract, muted, kept, tone, letter, start, order, trigger, key, starred, outside, inside}
 
 -- ---- what the first item gives, and what those after it give
 
-term-first : {i : Item} → Inside i → (ts : List Term) → termThen (part i) ts ≡ termThen (part i) [] ++ ts
-term-first add ts = refl
-term-first subtract ts = refl
-term-first muted ts = refl
-term-first kept ts = refl
-term-first tone ts = refl
-term-first letter ts = refl
-term-first start ts = refl
-term-first order ts = refl
-term-first trigger ts = refl
-term-first key ts = refl
-term-first starred ts = refl
-term-first (outside o) ts = rw o
+term-first : (q : AsListed) (ts : List Term) → withTerm q ts ≡ withTerm q [] ++ ts
+term-first unlisted ts = refl
+term-first (a-term t) ts = refl
+term-first muted-position ts = refl
+term-first kept-position ts = refl
+term-first (tone-position n) ts = refl
+term-first (a-start n) ts = refl
+term-first (a-trigger x) ts = refl
+term-first (a-call n) ts = refl
+term-first (a-key k) ts = refl
 
-place-first : {i : Item} → Inside i → (l : List (Option ℕ)) → systemPositionThen (part i) l ≡ systemPositionThen (part i) [] ++ l
-place-first add l = refl
-place-first subtract l = refl
-place-first muted l = refl
-place-first kept l = refl
-place-first tone l = refl
-place-first letter l = refl
-place-first start l = refl
-place-first order l = refl
-place-first trigger l = refl
-place-first key l = refl
-place-first starred l = refl
-place-first (outside o) l = rw o
+place-first : (q : AsListed) (l : List (Option ℕ)) → withSystemPosition q l ≡ withSystemPosition q [] ++ l
+place-first unlisted l = refl
+place-first (a-term t) l = refl
+place-first muted-position l = refl
+place-first kept-position l = refl
+place-first (tone-position n) l = refl
+place-first (a-start n) l = refl
+place-first (a-trigger x) l = refl
+place-first (a-call n) l = refl
+place-first (a-key k) l = refl
 
 trigger-first : (x : Trigger) (called : Option ℕ) (l : List Order) → triggeredBy x called l .orders ≡ triggeredBy x called [] .orders ++ l
 trigger-first x none l = refl
 trigger-first x (some n) l = refl
 
-order-first : {i : Item} → Inside i → (g : Ordered) → orderThen (part i) g .orders ≡ orderBy (part i) (g .call) ++ g .orders
-order-first add g = refl
-order-first subtract g = refl
-order-first muted g = refl
-order-first kept g = refl
-order-first tone g = refl
-order-first (letter {c}) g = trigger-first (byLetter c) (g .call) (g .orders)
-order-first start g = refl
-order-first order g = refl
-order-first (trigger {n}) g = trigger-first (byHarmony n) (g .call) (g .orders)
-order-first key g = refl
-order-first starred g = refl
-order-first (outside o) g =
-    subst (λ (q : AsListed). withOrder q g .orders ≡ withOrder q (record { call = g .call; orders = [] }) .orders ++ g .orders) (sym o) refl
+order-first : (q : AsListed) (g : Ordered) → withOrder q g .orders ≡ withOrder q (record { call = g .call; orders = [] }) .orders ++ g .orders
+order-first unlisted g = refl
+order-first (a-term t) g = refl
+order-first muted-position g = refl
+order-first kept-position g = refl
+order-first (tone-position n) g = refl
+order-first (a-start n) g = refl
+order-first (a-trigger x) g = trigger-first x (g .call) (g .orders)
+order-first (a-call n) g = refl
+order-first (a-key k) g = refl
 
-position-first : {i : Item} → Inside i → (g : Grouped) → groupThen (part i) g .positions ≡ positionBy (part i) (g .before) ++ g .positions
-position-first add g = refl
-position-first subtract g = refl
-position-first muted g = refl
-position-first kept g = refl
-position-first tone g = refl
-position-first letter g = refl
-position-first start g = refl
-position-first order g = refl
-position-first trigger g = refl
-position-first key g = refl
-position-first starred g = refl
-position-first (outside o) g =
-    subst (λ (q : AsListed). withGroup q g .positions ≡ withGroup q (record { before = g .before; positions = [] }) .positions ++ g .positions) (sym o) refl
+position-first : (q : AsListed) (g : Grouped) → withGroup q g .positions ≡ withGroup q (record { before = g .before; positions = [] }) .positions ++ g .positions
+position-first unlisted g = refl
+position-first (a-term t) g = refl
+position-first muted-position g = refl
+position-first kept-position g = refl
+position-first (tone-position n) g = refl
+position-first (a-start n) g = refl
+position-first (a-trigger x) g = refl
+position-first (a-call n) g = refl
+position-first (a-key k) g = refl
 
-key-first : {i : Item} → Inside i → (ks : List HarmonyKey) → keyThen (part i) ks ≡ keyThen (part i) [] ++ ks
-key-first add ks = refl
-key-first subtract ks = refl
-key-first muted ks = refl
-key-first kept ks = refl
-key-first tone ks = refl
-key-first letter ks = refl
-key-first start ks = refl
-key-first order ks = refl
-key-first trigger ks = refl
-key-first key ks = refl
-key-first starred ks = refl
-key-first (outside o) ks = rw o
+key-first : (q : AsListed) (ks : List HarmonyKey) → withKey q ks ≡ withKey q [] ++ ks
+key-first unlisted ks = refl
+key-first (a-term t) ks = refl
+key-first muted-position ks = refl
+key-first kept-position ks = refl
+key-first (tone-position n) ks = refl
+key-first (a-start n) ks = refl
+key-first (a-trigger x) ks = refl
+key-first (a-call n) ks = refl
+key-first (a-key k) ks = refl
 
 -- ---- the same from one place of a slice to another
 
@@ -129,11 +112,11 @@ module _ (l : List ℕ) (i to : ℕ) where
 
     pub terms-next : termsFrom l i to ≡ termThen (part x) [] ++ termsFrom l (i + 1) to
     unfolding termsOf
-    terms-next = ap termsOf item-next ∙ term-first (inside x) (termsFrom l (i + 1) to)
+    terms-next = ap termsOf item-next ∙ term-first (asListed (part x)) (termsFrom l (i + 1) to)
 
     pub places-next : systemPositionsOf (itemsBetween l i to) ≡ systemPositionThen (part x) [] ++ systemPositionsOf (itemsBetween l (i + 1) to)
     unfolding systemPositionsOf
-    places-next = ap systemPositionsOf item-next ∙ place-first (inside x) (systemPositionsOf (itemsBetween l (i + 1) to))
+    places-next = ap systemPositionsOf item-next ∙ place-first (asListed (part x)) (systemPositionsOf (itemsBetween l (i + 1) to))
 
     pub ordered-next : ordered (itemsBetween l i to) ≡ orderThen (part x) (ordered (itemsBetween l (i + 1) to))
     unfolding ordered
@@ -141,7 +124,7 @@ module _ (l : List ℕ) (i to : ℕ) where
 
     pub orders-next : ordersOf (itemsBetween l i to)
         ≡ orderBy (part x) (ordered (itemsBetween l (i + 1) to) .call) ++ ordersOf (itemsBetween l (i + 1) to)
-    orders-next = ap (λ (g : Ordered). g .orders) ordered-next ∙ order-first (inside x) (ordered (itemsBetween l (i + 1) to))
+    orders-next = ap (λ (g : Ordered). g .orders) ordered-next ∙ order-first (asListed (part x)) (ordered (itemsBetween l (i + 1) to))
 
     pub groups-next : grouped (itemsBetween l i to) ≡ groupThen (part x) (grouped (itemsBetween l (i + 1) to))
     unfolding grouped
@@ -149,7 +132,7 @@ module _ (l : List ℕ) (i to : ℕ) where
 
     pub positions-next : grouped (itemsBetween l i to) .positions
         ≡ positionBy (part x) (grouped (itemsBetween l (i + 1) to) .before) ++ grouped (itemsBetween l (i + 1) to) .positions
-    positions-next = ap (λ (g : Grouped). g .positions) groups-next ∙ position-first (inside x) (grouped (itemsBetween l (i + 1) to))
+    positions-next = ap (λ (g : Grouped). g .positions) groups-next ∙ position-first (asListed (part x)) (grouped (itemsBetween l (i + 1) to))
 
     pub start-next : startOf (itemsBetween l i to) ≡ startThen (part x) (startOf (itemsBetween l (i + 1) to))
     unfolding startOf
@@ -157,4 +140,4 @@ module _ (l : List ℕ) (i to : ℕ) where
 
     pub keys-next : keysOf (itemsBetween l i to) ≡ keyThen (part x) [] ++ keysOf (itemsBetween l (i + 1) to)
     unfolding keysOf
-    keys-next = ap keysOf item-next ∙ key-first (inside x) (keysOf (itemsBetween l (i + 1) to))
+    keys-next = ap keysOf item-next ∙ key-first (asListed (part x)) (keysOf (itemsBetween l (i + 1) to))

@@ -1,7 +1,20 @@
 // A test program: texts on standard input, each after its length in four bytes, are read, and what is left in the tables is written to standard
 // output, to be compared with what the second program reads: number (1), place (4), counts (4 each), then rows of form (1) and four numbers (4 each),
-// tones of kind (1) and pitch (4), changes of kind (1) and sum (4), orders of letter (1) and called declaration (2). High byte first, negative
+// tones of kind (1) and pitch (4), changes of kind (1) and sum (4), orders of trigger (2) and called declaration (2). High byte first, negative
 // numbers in two's complement.
+//
+// `stdin` has three texts, and `stdout` what they leave, worked out by hand.
+// HARMONY C = { 0, 4, *7 } RETUNING Up = @ + 7 [ ] LOGIC L C = Up [ ]
+//   00 00000000, 3 rows and no more. C needs 0 and 4, bits 1 and 10, and names 7 as well, bit 80. Up adds 7. L waits for the harmony of row 0, which is
+//   100 and 0, and its start is row 1, which is 2.
+//   09 00000011 00000000 00000091 00000000, 04 00000002 00000007 00000000 00000000, 08 00000100 00000002 00000000 00000000
+// RETUNING Up = @ + 1 [ ] LOGIC L KEY M = [ H -> Up Z -> L KEY U -> Up ] HARMONY H = { *0, 30, 31, *59 } Z = { *5 }
+//   00 00000000, 4 rows and 3 orders. L waits for M, has no start, and its orders are 0 to 3. H needs 30 and 31, the lowest two of the upper thirty,
+//   and names 0, the lowest of the lower, and 59, the highest of the upper; Z needs nothing. The orders wait for rows 2 and 3 and for U.
+//   04 00000002 00000001 00000000 00000000, 08 0000004D 00000000 00000000 00000003,
+//   09 00000000 00000003 00000001 20000003, 09 00000000 00000000 00000020 00000000, 0102 0000, 0103 0001, 0055 0000
+// HARMONY C = { 0, *0 }
+//   03 00000012: 0 is named twice, at byte 18; the tables are zero again.
 use hexadecimal::bits_of;
 use hexadecimal::put;
 use libc::STDIN_FILENO;
@@ -44,7 +57,7 @@ const ROW_BYTES: usize = 17;
 
 const PAIR_BYTES: usize = 5;
 
-const ORDER_BYTES: usize = 3;
+const ORDER_BYTES: usize = 4;
 
 // The end of the input, or a text of so many bytes.
 enum Next {
@@ -122,7 +135,7 @@ fn put_row(out: &mut [u8], at: usize, rows: &[i32], from: usize)
 
 // Each of the next four tells where what it has put ends.
 fn put_rows(out: &mut [u8], at: usize, rows: &[i32], count: usize) -> usize
-    requires { ⌜ (at ≤ 21) × (count ≤ 704) × (length (now rows) ≡ 3_520) ⌝ }
+    requires { ⌜ (at ≤ 21) × (count ≤ 768) × (length (now rows) ≡ 3_840) ⌝ }
     ensures { λ r. ⌜ r ≡ at + 17 * count ⌝ }
 {
     let mut i: usize = 0;
@@ -148,22 +161,22 @@ fn put_pairs(out: &mut [u8], at: usize, kinds: &[u16], numbers: &[i32], count: u
 }
 
 fn put_orders(out: &mut [u8], at: usize, orders: &[u16], count: usize) -> usize
-    requires { ⌜ (at + 3 * count ≤ 65_536) × (2 * count ≤ length (now orders)) ⌝ }
-    ensures { λ r. ⌜ r ≡ at + 3 * count ⌝ }
+    requires { ⌜ (at + 4 * count ≤ 65_536) × (2 * count ≤ length (now orders)) ⌝ }
+    ensures { λ r. ⌜ r ≡ at + 4 * count ⌝ }
 {
     let mut i: usize = 0;
     while i < count {
         let from = ORDER_WIDTH * i;
-        put(out, at + ORDER_BYTES * i, low(orders[from]));
-        put_two(out, at + ORDER_BYTES * i + 1, orders[from + 1]);
+        put_two(out, at + ORDER_BYTES * i, orders[from]);
+        put_two(out, at + ORDER_BYTES * i + 2, orders[from + 1]);
         i += 1;
     }
     at + ORDER_BYTES * count
 }
 
 fn put_tables(out: &mut [u8], numbers: &[i32], codes: &[u16]) -> usize
-    requires { ⌜ (length (now numbers) ≡ 13_120) × (length (now codes) ≡ 10_628) ⌝ }
-    ensures { λ r. ⌜ r ≤ 61_525 ⌝ }
+    requires { ⌜ (length (now numbers) ≡ 13_440) × (length (now codes) ≡ 10_628) ⌝ }
+    ensures { λ r. ⌜ r ≤ 63_125 ⌝ }
 {
     let used = Counts::read(&codes[0..SOUNDING_AT]);
     put_counts(out, used);

@@ -18,35 +18,11 @@ loop-holds c = search needs
 mul-from : tie.Need-mul-from Inv-loop μ-loop
 mul-from c = search needs
 
-mul-put : tie.Need-mul-put Inv-loop μ-loop
-mul-put c = search needs
-
-add-put : tie.Need-add-put Inv-loop μ-loop
-add-put c = search needs
-
-mul-low : tie.Need-mul-low Inv-loop μ-loop
-mul-low c = search needs
-
-shared-slice-read-low : tie.Need-shared-slice-read-low Inv-loop μ-loop
-shared-slice-read-low c = search needs
-
-low-requires : tie.Need-low-requires Inv-loop μ-loop
-low-requires c κs = search needs
-
-put-requires : tie.Need-put-requires Inv-loop μ-loop
-put-requires c κs = search needs
-
 mul-put-two : tie.Need-mul-put-two Inv-loop μ-loop
 mul-put-two c = search needs
 
 add-put-two : tie.Need-add-put-two Inv-loop μ-loop
 add-put-two c = search needs
-
-add-put-two-2 : tie.Need-add-put-two-2 Inv-loop μ-loop
-add-put-two-2 c = search needs
-
-add-put-two-3 : tie.Need-add-put-two-3 Inv-loop μ-loop
-add-put-two-3 c = search needs
 
 mul-put-two-2 : tie.Need-mul-put-two-2 Inv-loop μ-loop
 mul-put-two-2 c = search needs
@@ -56,6 +32,27 @@ shared-slice-read-put-two c = search needs
 
 put-two-requires : tie.Need-put-two-requires Inv-loop μ-loop
 put-two-requires c κs = search needs
+
+mul-put-two-3 : tie.Need-mul-put-two-3 Inv-loop μ-loop
+mul-put-two-3 c = search needs
+
+add-put-two-2 : tie.Need-add-put-two-2 Inv-loop μ-loop
+add-put-two-2 c = search needs
+
+add-put-two-3 : tie.Need-add-put-two-3 Inv-loop μ-loop
+add-put-two-3 c = search needs
+
+add-put-two-4 : tie.Need-add-put-two-4 Inv-loop μ-loop
+add-put-two-4 c = search needs
+
+mul-put-two-4 : tie.Need-mul-put-two-4 Inv-loop μ-loop
+mul-put-two-4 c = search needs
+
+shared-slice-read-put-two-2 : tie.Need-shared-slice-read-put-two-2 Inv-loop μ-loop
+shared-slice-read-put-two-2 c = search needs
+
+put-two-requires-2 : tie.Need-put-two-requires-2 Inv-loop μ-loop
+put-two-requires-2 c κs = search needs
 
 add-i : tie.Need-add-i Inv-loop μ-loop
 add-i c = search needs
@@ -86,19 +83,18 @@ put-orders-spec =
     μ-loop
     loop-holds
     mul-from
-    mul-put
-    add-put
-    mul-low
-    shared-slice-read-low
-    low-requires
-    put-requires
     mul-put-two
     add-put-two
-    add-put-two-2
-    add-put-two-3
     mul-put-two-2
     shared-slice-read-put-two
     put-two-requires
+    mul-put-two-3
+    add-put-two-2
+    add-put-two-3
+    add-put-two-4
+    mul-put-two-4
+    shared-slice-read-put-two-2
+    put-two-requires-2
     add-i
     loop-less
     loop-again
