@@ -101,14 +101,7 @@ fn end_line(buf: &mut [u8], bytes: usize) -> usize
 }
 
 // The answer to a letter, or to a key that goes down or up. Each of these tells how long the line is.
-pub fn answer_change(
-    buf: &mut [u8],
-    house: u8,
-    kind: u8,
-    value: u8,
-    number: u8,
-    s: State,
-) -> usize
+pub fn answer_change(buf: &mut [u8], house: u8, kind: u8, value: u8, number: u8, s: State) -> usize
     requires { ⌜ (smallestBuffer ≤ length (now buf)) × (validState s ≡ true) ⌝ }
     ensures { λ r. ⌜ (r ≡ length (lineOf (changeBytes house kind value number (held s)))) × (now (buf .exit) ≡ begunWith (lineOf (changeBytes house kind value number (held s))) (now (buf .entry))) ⌝ }
 {

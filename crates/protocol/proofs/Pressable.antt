@@ -46,6 +46,9 @@ module _ (t : Tables) (v : validTables t ≡ true) where
       let k = active-within i h in
       (fields-fit t v i k, orders-there (rowAt t i) (row-valid t v i k))
 
+  pub active-row : (i : ℕ) → activeRight t (active.Logic i) ≡ true → ValidRow t (rowAt t i)
+  active-row i h = row-valid t v i (active-within i h)
+
   -- what an order calls
   order-within : (p : ℕ → Bool) (r : TableRow) → ValidRow t r → {k : ℕ} → orderBy t p r ≡ some k → k < rowCount t
   order-within p Unused h {k} e = absurd (Option·none-ne-some k e)

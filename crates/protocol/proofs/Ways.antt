@@ -1,5 +1,5 @@
 -- The ways through a frame. Assumes nothing.
-use mathlib.Core.Path.{_≡_, refl, sym, ap, _∙_, subst}
+use mathlib.Core.Path.{_≡_, refl, sym, ap, ap₂, _∙_, subst}
 use mathlib.Core.Bool.{Bool, true, false, _&&_}
 use mathlib.Core.List.{List, [], _∷_}
 use Prim.Native.Nat.{ℕ, _≤_, _<_}
@@ -15,7 +15,7 @@ use Rattle.tuning.proofs.Lists.{both}
 use Rattle.tuning.proofs.Held.{heard-tone}
 use Rattle.tables.specs.Layout.{Tables}
 use Rattle.validity.specs.Valid.{validTables}
-use Rattle.frames.specs.Frames.{Frame, bad, letter, key, dump, move, frameOf, inside, isHouse, isKey, lastKey, decodedAs}
+use Rattle.frames.specs.Frames.{Frame, bad, letter, key, dump, move, frameOf, inside, isHouse, isKey, lastKey, decodedAs, wayKind}
 use Rattle.frames.specs.declared.Way.{Way}
 use Rattle.cents.specs.declared.KeyNumber.{KeyNumber}
 use Rattle.frames.specs.declared.Decoded.{Decoded}
@@ -24,7 +24,7 @@ use Rattle.hexadecimal.specs.Lines.{lineOf}
 use Rattle.frames.proofs.Decoded as variants
 use Rattle.frames.proofs.Decoding.{letter-decoded, move-decoded}
 use Rattle.frames.proofs.Ranges.{move-ranges}
-use Rattle.answers.specs.Answer.{letterBytes, moveBytes, keyBytes, smallestBuffer}
+use Rattle.answers.specs.Answer.{changeBytes, letterBytes, keyBytes, smallestBuffer}
 use Rattle.protocol.specs.declared.Desk.{Desk}
 use Rattle.protocol.specs.declared.Answered.{Answered}
 use Rattle.protocol.specs.declared.Told.{Told}
@@ -114,27 +114,32 @@ outcome-tells {r = r} {before = before} {after = after} e h = subst (λ (x : Out
 pub tells : (d : Desk) {f g : Decoded} {r : Told} {before after : List ℕ} → f ≡ g → Tells (toldOutcome d g) r before after → Tells (toldOutcome d f) r before after
 tells d e h = outcome-tells (ap (toldOutcome d) (sym e)) h
 
--- the variants of a frame that changes nothing
-abbrev pub noChange : List ℕ
-noChange = 0 ∷ 2 ∷ 3 ∷ []
+-- the variants of a frame that is no letter, and of one that moves no key
+abbrev pub noLetter : List ℕ
+noLetter = 0 ∷ 2 ∷ 3 ∷ 4 ∷ []
+
+abbrev pub noMove : List ℕ
+noMove = 0 ∷ 1 ∷ 2 ∷ 3 ∷ []
 
 -- what is told is what the frame does
 abbrev pub toldBy : Desk → Told → Answered
 toldBy d r = record { desk = d; number = r .number; length = r .length }
 
 pub told-gives : (t : Tables) (d : Desk) (f : Frame) {q : Decoded} {r : Told} {before after : List ℕ} → q ≡ decodedAs f
-    → OneOf noChange (tagOf variants.the-type q) → Tells (toldOutcome d q) r before after → Gives (frameOutcome t d f) (toldBy d r) before after
+    → OneOf noLetter (tagOf variants.the-type q) → OneOf noMove (tagOf variants.the-type q)
+    → Tells (toldOutcome d q) r before after → Gives (frameOutcome t d f) (toldBy d r) before after
 unfolding frameOutcome keyOutcome
-told-gives t d f {q} {r} {before} {after} e h g =
-    go f (subst (λ (x : Decoded). OneOf noChange (tagOf variants.the-type x)) e h) (subst (λ (x : Decoded). Tells (toldOutcome d x) r before after) e g)
+told-gives t d f {q} {r} {before} {after} e h k g =
+    go f (subst (λ (x : Decoded). OneOf noLetter (tagOf variants.the-type x)) e h) (subst (λ (x : Decoded). OneOf noMove (tagOf variants.the-type x)) e k)
+    (subst (λ (x : Decoded). Tells (toldOutcome d x) r before after) e g)
   where
-    go : (f : Frame) → OneOf noChange (tagOf variants.the-type (decodedAs f)) → Tells (toldOutcome d (decodedAs f)) r before after
-        → Gives (frameOutcome t d f) (toldBy d r) before after
-    go bad h g = record { desk = refl; number = g .number; size = g .size; buffer = g .buffer }
-    go (letter house c) h g = absurd (miss noChange 1 tt h)
-    go (key house k) h g = record { desk = refl; number = g .number; size = g .size; buffer = g .buffer }
-    go (dump house) h g = record { desk = refl; number = g .number; size = g .size; buffer = g .buffer }
-    go (move way house k) h g = absurd (miss noChange 4 tt h)
+    go : (f : Frame) → OneOf noLetter (tagOf variants.the-type (decodedAs f)) → OneOf noMove (tagOf variants.the-type (decodedAs f))
+        → Tells (toldOutcome d (decodedAs f)) r before after → Gives (frameOutcome t d f) (toldBy d r) before after
+    go bad h k g = record { desk = refl; number = g .number; size = g .size; buffer = g .buffer }
+    go (letter house c) h k g = absurd (miss noLetter 1 tt h)
+    go (key house n) h k g = record { desk = refl; number = g .number; size = g .size; buffer = g .buffer }
+    go (dump house) h k g = record { desk = refl; number = g .number; size = g .size; buffer = g .buffer }
+    go (move way house n) h k g = absurd (miss noMove 4 tt k)
 
 -- ---- a letter
 
@@ -156,18 +161,19 @@ module _ (t : Tables) (d : Desk) (house c : ℕ) where
 -- ---- a key that goes down or up
 
 module _ (t : Tables) (d : Desk) (way : Way) (house k : ℕ) where
-  abbrev pub moved : Stepped → Outcome
-  moved r =
+  -- by the kind that is answered, and the desk and the number that the step leaves
+  abbrev pub moved : ℕ → Stepped → Outcome
+  moved kind r =
       record {
         desk = r .desk;
         number = r .number;
         made = moveStep t way house d k .made;
-        line = lineOf (moveBytes way house k (r .number) (held (r .desk .tuning)));
+        line = lineOf (changeBytes house kind k (r .number) (held (r .desk .tuning)));
       }
 
-  pub move-gives : {r : Stepped} → r ≡ stepLeaves (moveStep t way house d k) → moved r ≡ moveOutcome t d way house k
+  pub move-gives : {kind : ℕ} {r : Stepped} → kind ≡ wayKind way → r ≡ stepLeaves (moveStep t way house d k) → moved kind r ≡ moveOutcome t d way house k
   unfolding moveOutcome
-  move-gives e = ap moved e
+  move-gives f e = ap₂ moved f e
 
 -- ---- a key
 

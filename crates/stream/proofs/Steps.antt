@@ -13,7 +13,9 @@ use lib.Seq.{drop-cons, take-suc-set, take-all, take-at, drop-at, drop-drop, dro
 use Rattle.hexadecimal.specs.Lines.{lineFeed}
 use Rattle.frames.specs.Frames.{frameOf, inside, decodedAs, enough}
 use Rattle.frames.specs.declared.Decoded.{Decoded}
-use Rattle.frames.specs.declared.Decoded.the-variants.{Letter}
+use Rattle.frames.specs.declared.Way.{Way}
+use Rattle.frames.specs.declared.Decoded.the-variants.{Letter, Move}
+use Rattle.cents.specs.declared.KeyNumber.{KeyNumber}
 use Rattle.frames.proofs.Decoded as variants
 use Rattle.frames.proofs.Decoding.{letter-decoded}
 use Rattle.frames.proofs.Ranges.{letter-ranges}
@@ -22,9 +24,9 @@ use Rattle.tables.specs.Layout.{Tables}
 use Rattle.protocol.specs.declared.Desk.{Desk}
 use Rattle.protocol.specs.declared.Answered.{Answered}
 use Rattle.protocol.specs.declared.Told.{Told}
-use Rattle.protocol.specs.Answers.{Outcome, letterOutcome, validDesk, answerOf, Gives}
+use Rattle.protocol.specs.Answers.{Outcome, letterOutcome, moveOutcome, validDesk, answerOf, Gives}
 use Rattle.protocol.specs.Inner.{triggerCodes, toldOutcome, Tells}
-use Rattle.protocol.proofs.Ways.{gives, damaged, taken, on-letter, noLetter, toldBy, told-gives}
+use Rattle.protocol.proofs.Ways.{gives, damaged, taken, on-letter, on-move, noLetter, noMove, toldBy, told-gives}
 use Rattle.stream.specs.Feed.{Fed, feed, fedByte, fed, finished, streamed, SameStream}
 use Rattle.stream.specs.Inner.{SameLine, SameSkipped}
 use Rattle.stream.proofs.Whole.{enough-held}
@@ -144,6 +146,10 @@ module _ (line : List ℕ) {f : Decoded} (e : f ≡ decodedAs (frameOf line)) wh
         → Gives (letterOutcome t d house c) r before after → Gives (answerOf t d line room) r before after
     letter-answered house c h g = gives (on-letter t d (frameOf line) e house c h ∙ taken t d line room m refl v) g
 
-    pub told-answered : {r : Told} {before after : List ℕ} → OneOf noLetter (tagOf variants.the-type f) → Tells (toldOutcome d f) r before after
-        → Gives (answerOf t d line room) (toldBy d r) before after
-    told-answered h r = gives (taken t d line room m refl v) (told-gives t d (frameOf line) e h r)
+    pub move-answered : (way : Way) (house : ℕ) (k : KeyNumber) {r : Answered} {before after : List ℕ} → f ≡ Move way house k
+        → Gives (moveOutcome t d way house (k .0)) r before after → Gives (answerOf t d line room) r before after
+    move-answered way house k h g = gives (on-move t d (frameOf line) e way house k h ∙ taken t d line room m refl v) g
+
+    pub told-answered : {r : Told} {before after : List ℕ} → OneOf noLetter (tagOf variants.the-type f) → OneOf noMove (tagOf variants.the-type f)
+        → Tells (toldOutcome d f) r before after → Gives (answerOf t d line room) (toldBy d r) before after
+    told-answered h k r = gives (taken t d line room m refl v) (told-gives t d (frameOf line) e h k r)

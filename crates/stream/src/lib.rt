@@ -6,6 +6,7 @@ use hexadecimal::LINE_FEED;
 use protocol::Desk;
 use protocol::TRIGGERS;
 use protocol::answer_letter;
+use protocol::answer_move;
 use protocol::find_indexed;
 use protocol::index_logics;
 use protocol::is_valid;
@@ -129,6 +130,10 @@ pub fn fill_ready(
         if let Decoded::Letter { house, letter } = frame {
             let logic = find_indexed(index, letter as u16);
             let r = answer_letter(numbers, codes, d, house, letter, logic, &mut out[used..]);
+            d = r.desk;
+            used += r.length;
+        } else if let Decoded::Move { way, house, key } = frame {
+            let r = answer_move(numbers, codes, d, way, house, key, &mut out[used..]);
             d = r.desk;
             used += r.length;
         } else {

@@ -1,8 +1,10 @@
--- `protocol::take_frame` meets its contract: a letter, or a frame that changes nothing. Assumes nothing.
+-- `protocol::take_frame` meets its contract: a letter, a key that goes down or up, or a frame that changes nothing. Assumes nothing.
+use mathlib.Core.Path.{subst}
 use borrow.Author.Needs.{needs}
 use Rattle.frames.specs.Frames.{frameOf}
 use Rattle.validity.proofs.Laws.{slices-valid}
-use Rattle.protocol.proofs.Ways.{gives, key-inside, on-letter, told-gives}
+use Rattle.protocol.specs.Inner.{KeyInside}
+use Rattle.protocol.proofs.Ways.{gives, key-inside, on-letter, on-move, told-gives}
 use Rattle.protocol.proofs.take_frame.Statement.{statement}
 use Rattle.protocol.proofs.take_frame.Tie as tie
 
@@ -27,20 +29,38 @@ same-length c = search needs
 returns : tie.Need-returns
 returns c = gives (on-letter _ _ _ (c .before .before .before .before .before .before .before .before .decode .ensures .0) _ _ (c .before .before .before .before .before .before .taken .given .1)) (c .before .before .answer-letter .ensures .0)
 
-tell-requires : tie.Need-tell-requires
-tell-requires c κs =
-    let d = c .before .before in
+enum-known-taken-2 : tie.Need-enum-known-taken-2
+enum-known-taken-2 c = search needs
+
+answer-move-requires : tie.Need-answer-move-requires
+answer-move-requires c κs =
+    let m = c .before .before in
+    let d = m .before .before .before in
     let a = d .before .before .before .before in
-    (a .pre .state, a .pre .room, key-inside (frameOf (a .args .frame .now)) (d .decode .ensures .0) (d .decode .ensures .1))
+    (a .pre, subst KeyInside (m .taken2 .given .1) (key-inside (frameOf (a .args .frame .now)) (d .decode .ensures .0) (d .decode .ensures .1)))
 
 same-length-2 : tie.Need-same-length-2
 same-length-2 c = search needs
 
 returns-2 : tie.Need-returns-2
 returns-2 c =
-    let d = c .before .before .before .before .before in
-    told-gives _ (d .before .before .before .before .args .desk) _ (d .decode .ensures .0) (c .before .before .before .before .match .keys2)
-    (c .before .before .tell .ensures)
+    let m = c .before .before .before .before .before in
+    gives (on-move _ _ _ (m .before .before .before .decode .ensures .0) _ _ _ (m .taken2 .given .1)) (c .before .before .answer-move .ensures .0)
+
+tell-requires : tie.Need-tell-requires
+tell-requires c κs =
+    let d = c .before .before .before in
+    let a = d .before .before .before .before in
+    (a .pre .state, a .pre .room, key-inside (frameOf (a .args .frame .now)) (d .decode .ensures .0) (d .decode .ensures .1))
+
+same-length-3 : tie.Need-same-length-3
+same-length-3 c = search needs
+
+returns-3 : tie.Need-returns-3
+returns-3 c =
+    let d = c .before .before .before .before .before .before in
+    told-gives _ (d .before .before .before .before .args .desk) _ (d .decode .ensures .0) (c .before .before .before .before .before .match .keys2)
+    (c .before .before .before .before .match2 .keys2) (c .before .before .tell .ensures)
 
 pub take-frame-spec : {M : Type 1} → statement M
 take-frame-spec =
@@ -53,6 +73,10 @@ take-frame-spec =
     answer-letter-requires
     same-length
     returns
-    tell-requires
+    enum-known-taken-2
+    answer-move-requires
     same-length-2
-    returns-2)
+    returns-2
+    tell-requires
+    same-length-3
+    returns-3)

@@ -1,6 +1,6 @@
 -- `stream::fill_ready` meets its contract. The loop's invariant: what is left to do is what was to be done.
 use mathlib.Core.Logic.{_⊎_, inl, inr, ⊎-elim}
-use mathlib.Core.Path.{_≡_, refl, sym, ap, _∙_}
+use mathlib.Core.Path.{_≡_, refl, sym, ap, _∙_, subst}
 use mathlib.Core.Bool.{true}
 use mathlib.Core.List.{List, [], _++_}
 use Prim.Native.Nat.{ℕ, _+_, _-_, _≤_, _<_}
@@ -12,19 +12,21 @@ use denote.Enum.Declared.{tagOf}
 use lib.ListN.{length, take, drop, length-take, length-drop}
 use lib.Seq.{length-take-le}
 use Rattle.frames.specs.Frames.{frameOf, enough}
-use Rattle.frames.specs.declared.Decoded.the-variants.{Letter}
+use Rattle.frames.specs.declared.Way.{Way}
+use Rattle.frames.specs.declared.Decoded.the-variants.{Letter, Move}
+use Rattle.cents.specs.declared.KeyNumber.{KeyNumber}
 use Rattle.frames.proofs.Decoded as variants
 use Rattle.answers.specs.Answer.{smallestBuffer}
 use Rattle.tables.specs.Layout.{Tables, tablesIn}
 use Rattle.protocol.specs.declared.Desk.{Desk}
 use Rattle.protocol.specs.declared.Answered.{Answered}
 use Rattle.protocol.specs.declared.Told.{Told}
-use Rattle.protocol.specs.Answers.{letterOutcome, validDesk, answerOf, Gives}
-use Rattle.protocol.specs.Inner.{triggerCodes, Ready, toldOutcome, Tells}
-use Rattle.protocol.proofs.Ways.{desk-ready, key-inside, noLetter, toldBy}
+use Rattle.protocol.specs.Answers.{letterOutcome, moveOutcome, validDesk, answerOf, Gives}
+use Rattle.protocol.specs.Inner.{triggerCodes, Ready, KeyInside, toldOutcome, Tells}
+use Rattle.protocol.proofs.Ways.{desk-ready, key-inside, noLetter, noMove, toldBy}
 use Rattle.protocol.proofs.Index.{indexed}
 use Rattle.stream.specs.Feed.{Fed, feed, streamed, SameStream}
-use Rattle.stream.proofs.Steps.{answer-fits, rest-kept, drop-more, on-line, letter-byte, letter-answered, told-answered}
+use Rattle.stream.proofs.Steps.{answer-fits, rest-kept, drop-more, on-line, letter-byte, letter-answered, move-answered, told-answered}
 use Rattle.stream.proofs.fill_ready.Statement.{statement}
 use Rattle.stream.proofs.fill_ready.Tie as tie
 
@@ -169,9 +171,18 @@ module _ (c : tie.After-decode Inv-loop μ-loop) where
   letter-here house letter e g =
       letter-answered bytes (c .decode .ensures .0) t d₁ (length part) room-here (turn line .loop .inv .known) house letter e g
 
-  told-here : {r : Told} {written : List ℕ} → OneOf noLetter (tagOf variants.the-type (c .decode .result)) → Tells (toldOutcome d₁ (c .decode .result)) r part written
-      → Gives (answerOf t d₁ bytes (length part)) (toldBy d₁ r) part written
-  told-here h r = told-answered bytes (c .decode .ensures .0) t d₁ (length part) room-here (turn line .loop .inv .known) h r
+  move-here : (way : Way) (house : ℕ) (k : KeyNumber) {r : Answered} {written : List ℕ} → c .decode .result ≡ Move way house k
+      → Gives (moveOutcome t d₁ way house (k .0)) r part written → Gives (answerOf t d₁ bytes (length part)) r part written
+  move-here way house k e g =
+      move-answered bytes (c .decode .ensures .0) t d₁ (length part) room-here (turn line .loop .inv .known) way house k e g
+
+  told-here : {r : Told} {written : List ℕ} → OneOf noLetter (tagOf variants.the-type (c .decode .result)) → OneOf noMove (tagOf variants.the-type (c .decode .result))
+      → Tells (toldOutcome d₁ (c .decode .result)) r part written → Gives (answerOf t d₁ bytes (length part)) (toldBy d₁ r) part written
+  told-here h k r = told-answered bytes (c .decode .ensures .0) t d₁ (length part) room-here (turn line .loop .inv .known) h k r
+
+  -- the key of the frame, if it has one, is one of the keyboard
+  key-here : KeyInside (c .decode .result)
+  key-here = key-inside (frameOf bytes) (c .decode .ensures .0) (c .decode .ensures .1)
 
   -- an answer ends within the output
   module _ {r : Answered} {written : List ℕ} (g : Gives (answerOf t d₁ bytes (length part)) r part written) (k : length written ≡ length part) where
@@ -234,6 +245,34 @@ add-used c =
     let k = answered .answer-letter .kept .1 .1 .1 .1 .1 .1 .0 in
     omega (arith, answer-within decoded-here g k, turn l .loop .inv .out-length, call l .good)
 
+enum-known-frame-2 : tie.Need-enum-known-frame-2 Inv-loop μ-loop
+enum-known-frame-2 c = search needs
+
+sub-answer-move : tie.Need-sub-answer-move Inv-loop μ-loop
+sub-answer-move c = search needs
+
+part-answer-move-start : tie.Need-part-answer-move-start Inv-loop μ-loop
+part-answer-move-start c = search needs
+
+part-answer-move-end : tie.Need-part-answer-move-end Inv-loop μ-loop
+part-answer-move-end c = search needs
+
+answer-move-requires : tie.Need-answer-move-requires Inv-loop μ-loop
+answer-move-requires c κs =
+    let known = c .before .before in
+    let decoded-here = known .before .before .before in
+    (ready decoded-here, subst KeyInside (known .frame2 .given .1) (key-here decoded-here))
+
+add-used-2 : tie.Need-add-used-2 Inv-loop μ-loop
+add-used-2 c =
+    let answered = c .before .before .before .before in
+    let known = answered .before .before .before in
+    let decoded-here = known .before .before .before in
+    let l = line decoded-here in
+    let g = move-here decoded-here _ _ _ (known .frame2 .given .1) (answered .answer-move .ensures .0) in
+    let k = answered .answer-move .kept .1 .1 .1 .1 .1 .1 .0 in
+    omega (arith, answer-within decoded-here g k, turn l .loop .inv .out-length, call l .good)
+
 sub-tell : tie.Need-sub-tell Inv-loop μ-loop
 sub-tell c = search needs
 
@@ -245,16 +284,16 @@ part-tell-end c = search needs
 
 tell-requires : tie.Need-tell-requires Inv-loop μ-loop
 tell-requires c κs =
-    let decoded-here = c .before .before in
-    (ready decoded-here .state, ready decoded-here .room, key-inside (frameOf (bytes decoded-here)) (decoded-here .decode .ensures .0) (decoded-here .decode .ensures .1))
+    let decoded-here = c .before .before .before in
+    (ready decoded-here .state, ready decoded-here .room, key-here decoded-here)
 
-add-used-2 : tie.Need-add-used-2 Inv-loop μ-loop
-add-used-2 c =
+add-used-3 : tie.Need-add-used-3 Inv-loop μ-loop
+add-used-3 c =
     let told = c .before .before .before in
     let other = told .before .before in
-    let decoded-here = other .before in
+    let decoded-here = other .before .before in
     let l = line decoded-here in
-    let g = told-here decoded-here (other .match .keys2) (told .tell .ensures) in
+    let g = told-here decoded-here (other .before .match .keys2) (other .match2 .keys2) (told .tell .ensures) in
     omega (arith, answer-within decoded-here g (told .tell .kept .1 .1 .0), turn l .loop .inv .out-length, call l .good)
 
 add-i : tie.Need-add-i Inv-loop μ-loop
@@ -270,8 +309,14 @@ loop-again c =
     (λ w.
     next here (letter-here here _ _ (w .1 .given .1) (w .5 .ensures .0)) (w .5 .kept .1 .1 .1 .1 .1 .1 .0)
     (w .5 .ensures .1) (w .10) (w .11) (w .12))
+    (λ v.
+    ⊎-elim
     (λ w.
-    next here (told-here here (w .0 .keys2) (w .2 .ensures)) (w .2 .kept .1 .1 .0) (turn (line here) .loop .inv .known) (w .6) (w .7) (w .8))
+    next here (move-here here _ _ _ (w .2 .given .1) (w .5 .ensures .0)) (w .5 .kept .1 .1 .1 .1 .1 .1 .0)
+    (w .5 .ensures .1) (w .10) (w .11) (w .12))
+    (λ w.
+    next here (told-here here (w .0 .keys2) (w .1 .keys2) (w .3 .ensures)) (w .3 .kept .1 .1 .0) (turn (line here) .loop .inv .known) (w .7) (w .8) (w .9))
+    v)
     (c .match .came)
 
 same-length : tie.Need-same-length Inv-loop μ-loop
@@ -332,11 +377,17 @@ fill-ready-spec =
     part-answer-letter-end
     answer-letter-requires
     add-used
+    enum-known-frame-2
+    sub-answer-move
+    part-answer-move-start
+    part-answer-move-end
+    answer-move-requires
+    add-used-2
     sub-tell
     part-tell-start
     part-tell-end
     tell-requires
-    add-used-2
+    add-used-3
     add-i
     loop-less
     loop-again

@@ -33,7 +33,7 @@ returns c =
     let a = c .before .before .before in
     let w = a .args .desk .tuning .width in (
       ap (λ (p : ℕ). record { positions = p; width = w }) (c .project .ensures .0)
-      ∙ ap (λ (n : ℕ). record { positions = chordOf (a .args .desk .keys) (a .args .desk .tuning .anchor .0) n; width = n }) (sym (wide a)),
+          ∙ ap (λ (n : ℕ). record { positions = chordOf (a .args .desk .keys) (a .args .desk .tuning .anchor .0) n; width = n }) (sym (wide a)),
       record { positions = c .project .ensures .1; width = omega (arith, valid a .most, wide a) },
     )
 

@@ -61,7 +61,7 @@ make-call-requires c κs =
       (
         ap (λ (d : Desk). validState (d .tuning)) (c .with-active .ensures) ∙ right a .tuning .0,
         callable-found (lent a) (tables-right (lent a) (a .args .desk) (a .pre .0)) (q .press-found .result .called)
-        (subst (λ (z : Struck). Within (lent a) (z .calls)) (sym (struck-here q)) (a .pre .1)),
+            (subst (λ (z : Struck). Within (lent a) (z .calls)) (sym (struck-here q)) (a .pre .1)),
       ),
     )
 

@@ -44,11 +44,10 @@ struck-here f = let a = f .before .before in struck-named (lent a) (a .args .des
 
 strike-requires : tie.Need-strike-requires
 strike-requires c κs =
-    let a = c .before .before in
-    (
+    let a = c .before .before in (
       a .pre .0,
       subst (λ (z : Struck). Within (lent a) (z .calls)) (sym (struck-here c))
-      (struck-within (lent a) (tables-right (lent a) (a .args .desk) (a .pre .0)) (a .args .desk .active) (right a .active) (itself (a .args .trigger))),
+          (struck-within (lent a) (tables-right (lent a) (a .args .desk) (a .pre .0)) (a .args .desk .active) (right a .active) (itself (a .args .trigger))),
     )
 
 returns : tie.Need-returns
