@@ -22,7 +22,8 @@ use Rattle.program.proofs.AllowedText.{accepted-allowed}
 use Rattle.filling.specs.Tables.{tablesOf}
 use Rattle.mutabor.proofs.ValidTables.{accepted-valid}
 use Rattle.keys.specs.declared.HeldKeys.{HeldKeys}
-use Rattle.keys.specs.Keys.{isHeld}
+use Rattle.keys.specs.declared.Changed.{Changed}
+use Rattle.keys.specs.Keys.{isHeld, withKey, withoutKey}
 use Rattle.frames.specs.declared.Way.{Way}
 use Rattle.frames.specs.declared.Way.the-variants.{Down, Up}
 use Rattle.frames.specs.Frames.{Frame, bad, letter, key, dump, move, frameOf}
@@ -64,6 +65,17 @@ call-below s c = first-below (checks s c) (known c)
     known (tonesTo l) = refl
     known (system y) = refl
 
+-- a key's 17 or 18
+either-below : (is : Bool) (x y : Changed) → x .number < tableDamaged → y .number < tableDamaged → cond is x y .number < tableDamaged
+either-below true x y l m = l
+either-below false x y l m = m
+
+moved-below : (way : Way) (h : HeldKeys) (house k : ℕ) → keyMoved way h house k .number < tableDamaged
+moved-below Down h house k =
+    either-below (isHeld h house k) (record { held = h; number = keyHeld }) (record { held = withKey h house k; number = done }) (omega arith) (omega arith)
+moved-below Up h house k =
+    either-below (isHeld h house k) (record { held = withoutKey h house k; number = done }) (record { held = h; number = keyNotHeld }) (omega arith) (omega arith)
+
 module _ (t : Tables) where
   made-below : (house : ℕ) (d : Desk) (ks : List ℕ) {unfound : ℕ} → unfound < tableDamaged → lastNumber unfound (madeFrom t house d ks) < tableDamaged
   unfolding madeFrom callOn
@@ -77,18 +89,6 @@ module _ (t : Tables) where
   step-below : (house : ℕ) (d : Desk) (x : Sought) {unfound : ℕ} → unfound < tableDamaged → triggered t house d x unfound .number < tableDamaged
   unfolding triggered
   step-below house d x h = let z = struck t (d .active) x in made-below house (withActive (z .active) d) (z .calls) h
-
-  moved-below : (way : Way) (h : HeldKeys) (house k : ℕ) → keyMoved way h house k .number < tableDamaged
-  moved-below Down h house k = go (isHeld h house k)
-    where
-      go : (held : Bool) → cond held keyHeld done < tableDamaged
-      go true = omega arith
-      go false = omega arith
-  moved-below Up h house k = go (isHeld h house k)
-    where
-      go : (held : Bool) → cond held done keyNotHeld < tableDamaged
-      go true = omega arith
-      go false = omega arith
 
   move-below : (way : Way) (house : ℕ) (d : Desk) (k : ℕ) → moveStep t way house d k .number < tableDamaged
   unfolding moveStep
