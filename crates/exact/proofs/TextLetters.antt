@@ -21,12 +21,14 @@ use Rattle.program.proofs.AllowedText.{accepted-allowed}
 use Rattle.filling.specs.Tables.{triggerCode, rowOf, tablesOf}
 use Rattle.mutabor.proofs.Filled.{tonesBefore, changesBefore, ordersBefore}
 use Rattle.mutabor.proofs.Decoded.{rows-counted, row-decoded, past-decoded, logic-triggers, logic-calls}
+use Rattle.frames.specs.Frames.{inside}
+use Rattle.frames.proofs.Ranges.{frame-inside, letter-ranges}
 use Rattle.protocol.specs.declared.Active.{Active}
 use Rattle.protocol.specs.declared.Active.the-variants as active
 use Rattle.protocol.specs.Triggers as protocol
 use Rattle.protocol.specs.declared.Chord.{Chord}
 use Rattle.protocol.specs.Triggers.{Sought, itself, matching, matchesAs, answersTo, Struck, firstLogic, firstOrder, orderOf, callsAs, called, elseOrder, struck}
-use Rattle.exact.specs.TextLetters.{harmonyMatches, soughtBy, Asked, passes, logicIn, orderIn, orderBy, activeOrder, callsIn, unlessNone, elseActive, struckIn, LettersOfText}
+use Rattle.exact.specs.TextLetters.{harmonyMatches, soughtBy, Asked, passes, logicIn, orderIn, orderBy, activeOrder, callsIn, unlessNone, elseActive, struckIn, FramesAsk, LettersOfText}
 
 -- of a row: whether it is a logic whose trigger passes, and what a call of it calls
 abbrev testedRow : (ℕ → Bool) → Row → Bool
@@ -68,8 +70,8 @@ module _ (p : Program) where
 
   -- ---- triggers: the code in the tables answers where the trigger does
   answers : (x : Sought) → Asked x → (c : Trigger) → FitTrigger p c → answersTo (tablesOf p) x (triggerCode c) ≡ soughtBy p x c
-  answers (itself letter) l (byLetter c) w = refl
-  answers (itself letter) l (byHarmony k) w = ne-eqb (harmonyBase + k) letter (λ e. omega (arith, l .most))
+  answers (itself x) l (byLetter c) w = refl
+  answers (itself x) l (byHarmony k) w = ne-eqb (harmonyBase + k) x (λ e. omega (arith, l .most))
   answers (matching x) l (byLetter c) w = rw (lt-leb harmonyBase c (omega (arith, w .most)))
   answers (matching x) l (byHarmony k) w =
       let n : harmonyBase + k - harmonyBase ≡ k = omega arith in
@@ -182,6 +184,12 @@ module _ (p : Program) where
   struck-here allowed a x l =
       let q = soughtBy p x in
       ap (called (tablesOf p) a) (found p allowed (answersTo (tablesOf p) x) q (answers p x l) a) ∙ by-name a (elseActive p a q (logicIn q 0 p))
+
+pub frames-ask : FramesAsk
+unfolding FramesAsk
+frames-ask line house c e =
+    let r = letter-ranges house c (sym (ap inside e) ∙ frame-inside line) in
+    record { least = r .2; most = r .3 }
 
 pub letters-of-text : LettersOfText
 unfolding LettersOfText

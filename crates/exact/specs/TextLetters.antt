@@ -14,6 +14,7 @@ use Rattle.program.specs.Meaning.{declarationAt}
 use Rattle.program.specs.Allowed.{Letter}
 use Rattle.program.specs.Text.{accepted, readText}
 use Rattle.filling.specs.Tables.{tablesOf}
+use Rattle.frames.specs.Frames.{letter, frameOf}
 use Rattle.protocol.specs.declared.Active.{Active}
 use Rattle.protocol.specs.declared.Active.the-variants as active
 use Rattle.protocol.specs.declared.Chord.{Chord}
@@ -28,8 +29,8 @@ harmonyMatches x no-harmony = false
 harmonyMatches x (a-harmony ks) = matches (x .positions) (x .width) (harmonyOf ks)
 
 abbrev pub soughtBy : Program → Sought → Trigger → Bool
-soughtBy p (itself letter) (byLetter c) = eqb c letter
-soughtBy p (itself letter) (byHarmony k) = false
+soughtBy p (itself l) (byLetter c) = eqb c l
+soughtBy p (itself l) (byHarmony k) = false
 soughtBy p (matching x) (byLetter c) = false
 soughtBy p (matching x) (byHarmony k) = harmonyMatches x (asHarmony (declarationAt p k))
 
@@ -82,8 +83,11 @@ struckIn p a q = unlessNone p a (elseActive p a q (logicIn q 0 p))
 
 -- what a frame looks for: a letter from A to Z, or any chord
 abbrev pub Asked : Sought → Type 0
-Asked (itself letter) = Letter letter
+Asked (itself c) = Letter c
 Asked (matching x) = Unit
+
+unfoldable pub FramesAsk : Type 0
+FramesAsk = (line : List ℕ) (house c : ℕ) → frameOf line ≡ letter house c → Asked (itself c)
 
 unfoldable pub LettersOfText : Type 0
 LettersOfText =
