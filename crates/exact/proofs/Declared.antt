@@ -10,7 +10,7 @@ use lib.IntN.{ℤ, _+ℤ_, *ℤ-comm, +ℤ-idl, +ℤ-idr}
 use lib.ListN.{length, getD, List·getD-map}
 use Rattle.cents.specs.Measure as measures
 use Rattle.grammar.specs.declared.Kind.{Kind}
-use Rattle.grammar.specs.declared.Kind.the-variants.{Interval, Tone, System, Retuning, Logic, Order as AnOrder}
+use Rattle.grammar.specs.declared.Kind.the-variants.{Interval, Tone, System, Retuning, Logic, Order as AnOrder, Harmony}
 use Rattle.grammar.specs.Moves.{kinds, kindNumber}
 use Rattle.names.proofs.Searching.{kind-back}
 use Rattle.values.specs.declared.Outcome.the-variants.{Done}
@@ -65,6 +65,7 @@ Entered ds System e z = Unit
 Entered ds Retuning e z = Unit
 Entered ds Logic e z = Unit
 Entered ds AnOrder e z = Unit
+Entered ds Harmony e z = Unit
 
 number-at : (p : Program) (i : ℕ) (d : Declaration) → declarationAt p i ≡ d → getD (declaredIn p) i none ≡ declaredBy d
 number-at p i d e = List·getD-map (λ (x : Placed). declaredBy (x .is)) p i nothing ∙ ap declaredBy e
@@ -106,6 +107,7 @@ module _ (p : Program) (allowed : Allowed p) (done : valued p ≡ Done) where
   one-entered of i l (text.onwardPeriod ts) e w h = tt
   one-entered of i l (text.tones ps) e w h = tt
   one-entered of i l (text.logic c s os) e w h = tt
+  one-entered of i l (text.harmony ks) e w h = tt
 
   -- along the references, no chain of which is as long as there are declarations
   entered-within : (k i : ℕ) → i < length p → shallow (refsOf (own p)) k i ≡ true → EntryAt (entryWithin p k) i
@@ -144,6 +146,7 @@ number-in-range p (text.freshPeriod ts) w l h = passing h
 number-in-range p (text.onwardPeriod ts) w l h = passing h
 number-in-range p (text.tones ps) w l h = passing h
 number-in-range p (text.logic c s os) w l h = passing h
+number-in-range p (text.harmony ks) w l h = passing h
 
 numbers-in-range : (p l : Program) → Each (λ (d : Placed). Fits p (d .is)) l → AllInRange (declaredIn l)
 numbers-in-range p [] w = no-more

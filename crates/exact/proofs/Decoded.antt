@@ -43,6 +43,7 @@ module _ (value : ℕ → ℤ) where
   cappedOf i (text.onwardPeriod ts) = some (periodTo (onward (sum value ts)))
   cappedOf i (text.tones l) = some (tonesTo (map cappedPosition l))
   cappedOf i (text.logic c s os) = none
+  cappedOf i (text.harmony ks) = none
 
   -- what is heard of the tones, and what the changes say
   tones-heard : (l : List (Option ℕ)) → map heard (map (toneOf value) l) ≡ map (systemPositionOf cents value value) l
@@ -87,3 +88,4 @@ action-decoded p k h = ap (actionBy (tablesOf p)) (row-decoded p k h) ∙ by-for
         ap (λ (ys : List (PositionTo cents)). some (tonesTo ys))
         (listed-meant cs ∙ ap (map toneMeant) (retuning-changes p k h l e) ∙ changes-said (valueOf p) l)
     by-form (text.logic c s os) e = refl
+    by-form (text.harmony ks) e = refl

@@ -21,3 +21,4 @@ pub mod TextCalls
 pub mod TextLetters
 pub mod DemandThree
 pub mod TwoLogics
+pub mod Chords

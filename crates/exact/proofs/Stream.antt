@@ -4,7 +4,7 @@ use mathlib.Core.Bool.{Bool, true, false, cond}
 use mathlib.Core.List.{List, [], _∷_, _++_}
 use mathlib.Core.Option.{Option, some, none}
 use Prim.Native.Nat.{ℕ}
-use lib.Dec.{ltb}
+use lib.Dec.{eqb, ltb}
 use lib.ListN.{length}
 use Rattle.tuning.specs.Tuning.{Tuning, Action}
 use Rattle.tuning.specs.Desk.{cents, Called, called}
@@ -14,13 +14,15 @@ use Rattle.tuning.proofs.Held.{ValidTuning, held-coded, length-coded, valid-cod
 use Rattle.tuning.proofs.Laws.{ValidAction, valid-stays}
 use Rattle.tables.specs.Layout.{Tables}
 use Rattle.program.specs.Program.{Program}
-use Rattle.frames.specs.Frames.{Frame, bad, letter, key, dump, frameOf}
+use Rattle.keys.specs.declared.HeldKeys.{HeldKeys}
+use Rattle.frames.specs.declared.Way.{Way}
+use Rattle.frames.specs.Frames.{Frame, bad, letter, key, dump, move, frameOf}
 use Rattle.answers.specs.Answer.{smallestBuffer}
-use Rattle.status.specs.Status.{bufferTooSmall, letterUnbound, tableDamaged}
+use Rattle.status.specs.Status.{done, bufferTooSmall, letterUnbound, tableDamaged}
 use Rattle.protocol.specs.declared.Desk.{Desk}
-use Rattle.protocol.specs.Triggers.{Sought, itself, actionAt, struck}
-use Rattle.protocol.specs.Steps.{withActive, Made, byAction, callOn, deskFrom, madeFrom, triggered}
-use Rattle.protocol.specs.Answers.{Outcome, letterOutcome, keyOutcome, frameOutcome, validDesk, unchanged, answerOf}
+use Rattle.protocol.specs.Triggers.{Sought, itself, matching, actionAt, struck}
+use Rattle.protocol.specs.Steps.{withActive, withKeys, Made, byAction, callOn, deskFrom, madeFrom, Step, triggered, chordOn, analysed, keyMoved, moveStep}
+use Rattle.protocol.specs.Answers.{Outcome, letterOutcome, moveOutcome, keyOutcome, frameOutcome, validDesk, unchanged, answerOf}
 use Rattle.protocol.specs.Streams.{Lent, deskAfter, madeIn}
 use Rattle.exact.specs.Book as book
 use Rattle.exact.specs.Book.{Declared, entries, bookFrom}
@@ -113,21 +115,35 @@ module _ (t : Tables) (p : Program) (matches : AllMatch t p) where
       (calls-kept house ks (r .desk) (bookFrom b (ifCalled (bookAction p k) (r .number) []))
       (call-kept (declaredIn p) house d b h (matches (held (d .tuning)) (held-valid (declaredIn p) (d .tuning) b h) k)))
 
+  -- what is kept after a step
+  abbrev Leaves : Tuning entries → Step → Type 0
+  Leaves b s = Kept (declaredIn p) (s .desk .tuning) (bookFrom b (fedBy p (s .made)))
+
   step-kept : (house : ℕ) (d : Desk) (x : Sought) (unfound : ℕ) (b : Tuning entries) → Kept (declaredIn p) (d .tuning) b
-      → let s = triggered t house d x unfound in Kept (declaredIn p) (s .desk .tuning) (bookFrom b (fedBy p (s .made)))
+      → Leaves b (triggered t house d x unfound)
   unfolding triggered
   step-kept house d x unfound b h = let z = struck t (d .active) x in calls-kept house (z .calls) (withActive (z .active) d) b h
+
+  -- a key that goes down or up: the book knows no held keys, and follows the calls that were made
+  move-kept : (way : Way) (house : ℕ) (d : Desk) (k : ℕ) (b : Tuning entries) → Kept (declaredIn p) (d .tuning) b → Leaves b (moveStep t way house d k)
+  unfolding moveStep fedBy bookFrom
+  move-kept way house d k b h = let c = keyMoved way (d .keys) house k in go (eqb (c .number) done) (c .number) (c .held)
+    where
+      go : (moved : Bool) (n : ℕ) (ks : HeldKeys) → Leaves b (cond moved (analysed t house (withKeys ks d)) (record { desk = d; number = n; made = [] }))
+      go true n ks = step-kept house (withKeys ks d) (matching (chordOn (withKeys ks d))) done b h
+      go false n ks = h
 
   -- what is kept after a frame
   abbrev After : Tuning entries → Outcome → Type 0
   After b o = Kept (declaredIn p) (o .desk .tuning) (bookFrom b (fedBy p (o .made)))
 
   frame-kept : (d : Desk) (b : Tuning entries) → Kept (declaredIn p) (d .tuning) b → (f : Frame) → After b (frameOutcome t d f)
-  unfolding frameOutcome letterOutcome keyOutcome fedBy bookFrom
+  unfolding frameOutcome letterOutcome moveOutcome keyOutcome fedBy bookFrom
   frame-kept d b h bad = h
   frame-kept d b h (letter house c) = step-kept house d (itself c) letterUnbound b h
   frame-kept d b h (key house k) = h
   frame-kept d b h (dump house) = h
+  frame-kept d b h (move way house k) = move-kept way house d k b h
 
   answer-kept : (d : Desk) (b : Tuning entries) → Kept (declaredIn p) (d .tuning) b → (frame : List ℕ) (room : ℕ) → After b (answerOf t d frame room)
   unfolding fedBy bookFrom

@@ -9,3 +9,4 @@ pub mod Claim
 pub mod Soundness
 pub mod CaseS
 pub mod TwoLogics
+pub mod Chords

@@ -1,41 +1,64 @@
--- What a letter calls, by the declarations of the text. Document 01, "Frames": "Letter: logics are tried in declared order; the first with this letter
+-- What a trigger calls, by the declarations of the text. Document 01, "Frames": "Letter: logics are tried in declared order; the first with this letter
 -- becomes active and its start is called, and the search ends. Else the active logic's orders in declared order, the first with it being called; a called
--- logic becomes active, its start called."
+-- logic becomes active, its start called." Document 02, 5/13: a harmony's "bare name is a trigger beside `KEY letter`, in logics and orders; triggers are tried
+-- in declared order, logics first".
 use mathlib.Core.Path.{_≡_}
 use mathlib.Core.Bool.{Bool, true, false}
 use mathlib.Core.List.{List, [], _∷_}
 use mathlib.Core.Option.{Option, some, none}
 use Prim.Native.Nat.{ℕ, suc}
-use Rattle.program.specs.Program.{Order, AsLogic, no-logic, a-logic, asLogic, Program}
+use lib.Dec.{eqb}
+use Rattle.harmonies.specs.Harmonies.{matches, harmonyOf}
+use Rattle.program.specs.Program.{Trigger, byLetter, byHarmony, Order, AsLogic, no-logic, a-logic, asLogic, AsHarmony, no-harmony, a-harmony, asHarmony, Program}
 use Rattle.program.specs.Meaning.{declarationAt}
+use Rattle.program.specs.Allowed.{Letter}
+use Rattle.program.specs.Text.{accepted, readText}
 use Rattle.filling.specs.Tables.{tablesOf}
+use Rattle.frames.specs.Frames.{letter, frameOf}
 use Rattle.protocol.specs.declared.Active.{Active}
 use Rattle.protocol.specs.declared.Active.the-variants as active
-use Rattle.protocol.specs.Triggers.{Sought, answersTo, Struck, struck}
+use Rattle.protocol.specs.declared.Chord.{Chord}
+use Rattle.protocol.specs.Triggers.{Sought, itself, matching, Struck, struck}
+
+-- ---- which triggers of the text answer: those with the letter that is pressed, or those that name a harmony which matches the chord of the held keys
+
+-- "A harmony matches when exactly its numbers are held, starred ones apart; one naming a number at or above the width, starred or not, never matches."
+-- (`Matching` of harmonies/specs/Meaning.antt)
+abbrev pub harmonyMatches : Chord → AsHarmony → Bool
+harmonyMatches x no-harmony = false
+harmonyMatches x (a-harmony ks) = matches (x .positions) (x .width) (harmonyOf ks)
+
+abbrev pub soughtBy : Program → Sought → Trigger → Bool
+soughtBy p (itself l) (byLetter c) = eqb c l
+soughtBy p (itself l) (byHarmony k) = false
+soughtBy p (matching x) (byLetter c) = false
+soughtBy p (matching x) (byHarmony k) = harmonyMatches x (asHarmony (declarationAt p k))
+
+-- ---- what is called, by a test of the triggers
 
 -- "logics are tried in declared order": the first whose trigger passes the test, of declarations that are numbered from i on
-abbrev pub passes : (ℕ → Bool) → AsLogic → Bool
+abbrev pub passes : (Trigger → Bool) → AsLogic → Bool
 passes q no-logic = false
 passes q (a-logic c s os) = q c
 
-unfoldable pub logicIn : (ℕ → Bool) → ℕ → Program → Option ℕ
+unfoldable pub logicIn : (Trigger → Bool) → ℕ → Program → Option ℕ
 logicIn q i [] = none
 logicIn q i (d ∷ ds) = elim (passes q (asLogic (d .is))) [ true ↦ some i | false ↦ logicIn q (suc i) ds ]
 
 -- "Else the active logic's orders in declared order, the first with it being called"
-unfoldable pub orderIn : (ℕ → Bool) → List Order → Option ℕ
+unfoldable pub orderIn : (Trigger → Bool) → List Order → Option ℕ
 orderIn q [] = none
-orderIn q (o ∷ os) = elim (q (o .letter)) [ true ↦ some (o .calls) | false ↦ orderIn q os ]
+orderIn q (o ∷ os) = elim (q (o .trigger)) [ true ↦ some (o .calls) | false ↦ orderIn q os ]
 
-abbrev pub orderBy : (ℕ → Bool) → AsLogic → Option ℕ
+abbrev pub orderBy : (Trigger → Bool) → AsLogic → Option ℕ
 orderBy q no-logic = none
 orderBy q (a-logic c s os) = orderIn q os
 
-abbrev pub activeOrder : Program → (ℕ → Bool) → Active → Option ℕ
+abbrev pub activeOrder : Program → (Trigger → Bool) → Active → Option ℕ
 activeOrder p q active.Nothing = none
 activeOrder p q (active.Logic i) = orderBy q (asLogic (declarationAt p i))
 
-abbrev pub elseActive : Program → Active → (ℕ → Bool) → Option ℕ → Option ℕ
+abbrev pub elseActive : Program → Active → (Trigger → Bool) → Option ℕ → Option ℕ
 elseActive p a q none = activeOrder p q a
 elseActive p a q (some i) = some i
 
@@ -53,9 +76,20 @@ abbrev pub unlessNone : Program → Active → Option ℕ → Struck
 unlessNone p a none = record { active = a; calls = [] }
 unlessNone p a (some k) = callsIn a k (asLogic (declarationAt p k))
 
-unfoldable pub struckIn : Program → Active → (ℕ → Bool) → Struck
+unfoldable pub struckIn : Program → Active → (Trigger → Bool) → Struck
 struckIn p a q = unlessNone p a (elseActive p a q (logicIn q 0 p))
 
--- what the tables of a text give for what is looked for, a letter for one, is what its declarations say
+-- ---- what the tables of an accepted text call for a letter or for a chord is what its declarations say
+
+-- what a frame looks for: a letter from A to Z, or any chord
+abbrev pub Asked : Sought → Type 0
+Asked (itself c) = Letter c
+Asked (matching x) = Unit
+
+unfoldable pub FramesAsk : Type 0
+FramesAsk = (line : List ℕ) (house c : ℕ) → frameOf line ≡ letter house c → Asked (itself c)
+
 unfoldable pub LettersOfText : Type 0
-LettersOfText = (p : Program) (a : Active) (x : Sought) → struck (tablesOf p) a x ≡ struckIn p a (answersTo (tablesOf p) x)
+LettersOfText =
+    (text : List ℕ) (p : Program) → readText text ≡ accepted p → (a : Active) (x : Sought) → Asked x
+    → struck (tablesOf p) a x ≡ struckIn p a (soughtBy p x)
