@@ -16,9 +16,8 @@ use Rattle.tuning.proofs.Lists.{both}
 use Rattle.tables.specs.declared.Row.{Row as TableRow}
 use Rattle.tables.specs.declared.Row.the-variants.{Unused, Interval, Tone, System, Retuning, Logic, Harmony}
 use Rattle.tables.specs.Layout.{Tables, rowCount, orderCount, rowAt, readAt, rowOf, harmonyBase, asLogic, asHarmony}
-use Rattle.tables.specs.Values.{FieldsFit}
 use Rattle.validity.specs.Valid.{isCapital, validTables}
-use Rattle.validity.proofs.Laws.{valid-of, ValidRow, ValidTrigger, of-letter, of-harmony, row-valid, fields-fit, order-trigger}
+use Rattle.validity.proofs.Laws.{valid-of, ValidRow, ValidTrigger, of-letter, of-harmony, row-valid, order-trigger}
 use Rattle.protocol.specs.Triggers.{firstOrder}
 use Rattle.protocol.proofs.Records.{past}
 use Rattle.protocol.specs.Inner.{isTrigger, firstOf, SetsFit, Audible, AudibleLogic, AudibleRows}
@@ -36,13 +35,10 @@ module _ (t : Tables) (v : validTables t ≡ true) where
   sets-fit (Harmony needed named) h = (h .needed, h .named)
 
   pub audible : (c : ℕ) → ValidTrigger t c → Audible (t .rows) c
-  audible c (of-letter h) =
+  audible c (of-letter h) k =
       let l = leb-true c lastLetter (both (leb firstLetter c) (leb c lastLetter) h .1) in
-      record { fields = λ k. absurd (omega (arith, k, l)); sets = λ k. absurd (omega (arith, k, l)) }
-  audible c (of-harmony h r is) = record {
-    fields = λ k. fields-fit t v (c - harmonyBase) (r .within);
-    sets = λ k. sets-fit (rowAt t (c - harmonyBase)) (row-valid t v (c - harmonyBase) (r .within));
-  }
+      absurd (omega (arith, k, l))
+  audible c (of-harmony h r is) k = sets-fit (rowAt t (c - harmonyBase)) (row-valid t v (c - harmonyBase) (r .within))
 
   logic-audible : (r : TableRow) → ValidRow t r → AudibleLogic (t .rows) (asLogic r)
   logic-audible Unused h = tt
@@ -54,10 +50,7 @@ module _ (t : Tables) (v : validTables t ≡ true) where
   logic-audible (Harmony needed named) h = tt
 
   pub audible-rows : AudibleRows (t .rows) (rowCount t)
-  audible-rows = record {
-    fields = λ i h. fields-fit t v i h;
-    triggers = λ i h. logic-audible (rowAt t i) (row-valid t v i h);
-  }
+  audible-rows i h = logic-audible (rowAt t i) (row-valid t v i h)
 
   pub audible-orders : (to : ℕ) → to ≤ orderCount t → (i : ℕ) → i < to → Audible (t .rows) (getD (t .triggers) i 0)
   audible-orders to h i l = audible (getD (t .triggers) i 0) (order-trigger t v i (omega arith))

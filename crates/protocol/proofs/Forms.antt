@@ -1,7 +1,7 @@
 -- What a row is, by its form: its kind, and whether it is a logic. Assumes nothing.
 use mathlib.Core.Path.{_≡_, refl}
-use mathlib.Core.Bool.{cond, _&&_}
-use Prim.Native.Nat.{ℕ, _<_}
+use mathlib.Core.Bool.{Bool, false, cond, _&&_}
+use Prim.Native.Nat.{ℕ, _+_, _*_, _<_}
 use native.Mathlib.Omega.{arith}
 use borrow.Author.Tests.{ne-eqb, le-leb, lt-leb}
 use lib.Dec.{eqb, leb}
@@ -11,7 +11,7 @@ use Rattle.orders.specs.declared.Kind.the-variants as kind
 use Rattle.tables.specs.declared.Numbers.{Numbers}
 use Rattle.tables.specs.declared.Row.{Row}
 use Rattle.tables.specs.declared.Row.the-variants.{Unused}
-use Rattle.tables.specs.Layout.{numbers, rowOf, asLogic, systemForm, anchorForm, tonesForm, logicForm, harmonyForm}
+use Rattle.tables.specs.Layout.{numbers, rowOf, asLogic, AsHarmony, no-harmony, a-harmony, asHarmony, halfSet, systemForm, anchorForm, tonesForm, logicForm, harmonyForm}
 use Rattle.tables.proofs.Forms.{by-form, no-row}
 use Rattle.validity.specs.Valid.{isLogic}
 use Rattle.protocol.specs.Triggers.{passes}
@@ -35,6 +35,23 @@ module _ (n : Numbers) where
   logic-by trigger =
       by-form (λ f. eqb f logicForm && eqb (up (n .first)) trigger ≡ passes (isTrigger trigger) (asLogic (row f))) refl refl refl refl refl refl refl refl refl refl
       (λ f h. rw (none f h, ne-eqb f logicForm (omega arith))) (n .form)
+
+  -- a logic whose trigger passes a test, by the form
+  pub passes-by : (p : ℕ → Bool) → cond (eqb (n .form) logicForm) (p (up (n .first))) false ≡ passes p (asLogic (rowOf n))
+  unfolding rowOf
+  passes-by p =
+      by-form (λ f. cond (eqb f logicForm) (p (up (n .first))) false ≡ passes p (asLogic (row f))) refl refl refl refl refl refl refl refl refl refl
+      (λ f h. rw (none f h, ne-eqb f logicForm (omega arith))) (n .form)
+
+  -- the harmony that the numbers are, were they one
+  abbrev pub harmony : AsHarmony
+  harmony = a-harmony (up (n .first) + up (n .second) * halfSet) (n .from + n .to * halfSet)
+
+  pub harmony-by : cond (eqb (n .form) harmonyForm) harmony no-harmony ≡ asHarmony (rowOf n)
+  unfolding rowOf
+  harmony-by =
+      by-form (λ f. cond (eqb f harmonyForm) harmony no-harmony ≡ asHarmony (row f)) refl refl refl refl refl refl refl refl refl refl
+      (λ f h. rw (none f h, ne-eqb f harmonyForm (omega arith))) (n .form)
 
   pub logic-is : eqb (n .form) logicForm ≡ isLogic (rowOf n)
   unfolding rowOf

@@ -247,19 +247,17 @@ abbrev pub SetsFit : AsHarmony → Type 0
 SetsFit no-harmony = Unit
 SetsFit (a-harmony n m) = (n < 2 ^ mostPositions) × (m < 2 ^ mostPositions)
 
--- the row of a trigger that is a harmony can be read
-pub record Audible (rows : List ℤ) (code : ℕ) : Type 0 where
-  pub fields : harmonyBase ≤ code → FieldsFit (readAt rows (code - harmonyBase))
-  pub sets : harmonyBase ≤ code → SetsFit (asHarmony (rowOf (readAt rows (code - harmonyBase))))
+-- so are those of a trigger that is a harmony
+abbrev pub Audible : List ℤ → ℕ → Type 0
+Audible rows code = harmonyBase ≤ code → SetsFit (asHarmony (rowOf (readAt rows (code - harmonyBase))))
 
 abbrev pub AudibleLogic : List ℤ → AsLogic → Type 0
 AudibleLogic rows no-logic = Unit
 AudibleLogic rows (a-logic c s from to) = Audible rows c
 
--- the rows can be read, and the triggers of those that are logics
-pub record AudibleRows (rows : List ℤ) (count : ℕ) : Type 0 where
-  pub fields : (i : ℕ) → i < count → FieldsFit (readAt rows i)
-  pub triggers : (i : ℕ) → i < count → AudibleLogic rows (asLogic (rowOf (readAt rows i)))
+-- and those of the triggers of logics
+abbrev pub AudibleRows : List ℤ → ℕ → Type 0
+AudibleRows rows count = (i : ℕ) → i < count → AudibleLogic rows (asLogic (rowOf (readAt rows i)))
 
 -- ---- of frames
 

@@ -11,6 +11,9 @@ use status::DONE;
 use tables::CODES;
 use tables::Counts;
 use tables::HARMONY_BASE;
+use tables::HARMONY_FORM;
+use tables::LOGIC_FORM;
+use tables::Numbers;
 use tables::ORDER_WIDTH;
 use tables::ORDERS_AT;
 use tables::Row;
@@ -23,13 +26,12 @@ ghost use Prim.Native.Nat.{ℕ, _<_};
 ghost use lib.ListN.{getD};
 ghost use lib.Seq.{slice};
 ghost use Rattle.tuning.specs.State.{validState};
-ghost use Rattle.tables.specs.Layout.{tablesIn, triggersIn, callsIn, rowOf, readAt, asLogic};
-ghost use Rattle.tables.specs.Values.{FieldsFit};
+ghost use Rattle.tables.specs.Layout.{tablesIn, triggersIn, callsIn, rowOf, readAt, asLogic, asHarmony};
 ghost use Rattle.validity.specs.Valid.{validTables};
-ghost use Rattle.protocol.specs.Triggers.{matching, passes, firstLogic, firstOrder};
+ghost use Rattle.protocol.specs.Triggers.{matching, matchesAs, passes, firstLogic, firstOrder};
 ghost use Rattle.protocol.specs.Steps.{chordOn, analysed};
 ghost use Rattle.protocol.specs.Answers.{activeRight, validDesk};
-ghost use Rattle.protocol.specs.Inner.{found, calledIn, calledBy, soundsIn, firstOf, codeOf, stepLeaves, ChordFits, Audible, AudibleLogic, AudibleRows, OrderPart};
+ghost use Rattle.protocol.specs.Inner.{found, calledIn, calledBy, soundsIn, firstOf, codeOf, stepLeaves, ChordFits, SetsFit, Audible, AudibleLogic, AudibleRows, OrderPart};
 
 // A trigger's code, where there is one.
 enum Code {
@@ -49,40 +51,47 @@ fn chord_of(desk: Desk) -> Chord
     Chord { positions, width }
 }
 
-// Whether a trigger is a harmony that the chord matches.
-fn is_sounding(rows: &[i32], trigger: u16, chord: Chord) -> bool
-    requires { ⌜ Audible (now rows) trigger ⌝ }
+// Whether a row is a harmony that the chord matches. (Only its numbers are read: there is one such test for each trigger.)
+fn is_matched(n: Numbers, chord: Chord) -> bool
+    requires { ⌜ SetsFit (asHarmony (rowOf n)) ⌝ }
     requires { ⌜ ChordFits chord ⌝ }
-    ensures { λ r. ⌜ r ≡ soundsIn (now (rows .entry)) chord trigger ⌝ }
+    ensures { λ r. ⌜ r ≡ matchesAs chord (asHarmony (rowOf n)) ⌝ }
 {
-    if trigger < HARMONY_BASE {
+    let form = n.form;
+    if form != HARMONY_FORM {
         return false;
     }
-    let k = trigger - HARMONY_BASE;
-    let Row::Harmony { needed, named } = decode::row_at(rows, k as usize) else {
-        return false;
-    };
+    let needed = decode::set_of(decode::natural(n.first), decode::natural(n.second));
+    let named = decode::set_of(n.from, n.to);
     let harmony = Harmony { needed, named };
     harmonies::matches_chord(harmony, chord.positions, chord.width)
 }
 
+// Whether a trigger is a harmony that the chord matches.
+fn is_sounding(rows: &[i32], trigger: u32, chord: Chord) -> bool
+    requires { ⌜ Audible (now rows) trigger ⌝ }
+    requires { ⌜ ChordFits chord ⌝ }
+    ensures { λ r. ⌜ r ≡ soundsIn (now (rows .entry)) chord trigger ⌝ }
+{
+    if trigger < HARMONY_BASE as u32 {
+        return false;
+    }
+    let k = trigger - HARMONY_BASE as u32;
+    is_matched(decode::numbers_at(rows, k as usize), chord)
+}
+
 // Whether row i is a logic whose trigger the chord matches.
 fn is_sounding_logic(rows: &[i32], i: usize, chord: Chord) -> bool
-    requires { ⌜ FieldsFit (readAt (now rows) i) ⌝ }
     requires { ⌜ AudibleLogic (now rows) (asLogic (rowOf (readAt (now rows) i))) ⌝ }
     requires { ⌜ ChordFits chord ⌝ }
     ensures { λ r. ⌜ r ≡ passes (soundsIn (now (rows .entry)) chord) (asLogic (rowOf (readAt (now (rows .entry)) i))) ⌝ }
 {
-    let Row::Logic {
-        trigger,
-        start: _,
-        from: _,
-        to: _,
-    } = decode::row_at(rows, i)
-    else {
+    let n = decode::numbers_at(rows, i);
+    let form = n.form;
+    if form != LOGIC_FORM {
         return false;
-    };
-    is_sounding(rows, trigger, chord)
+    }
+    is_sounding(rows, decode::natural(n.first), chord)
 }
 
 // The first of the rows that is a logic whose trigger the chord matches.
@@ -108,7 +117,7 @@ fn find_sounding(rows: &[i32], orders: &[u16], from: usize, to: usize, chord: Ch
 {
     for i in from..to {
         let trigger = orders[ORDER_WIDTH * i];
-        if is_sounding(rows, trigger, chord) {
+        if is_sounding(rows, trigger as u32, chord) {
             return Code::Trigger(trigger);
         }
     }

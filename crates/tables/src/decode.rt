@@ -126,7 +126,7 @@ fn retuning_row(retuning: Retuning, from: u32, to: u32) -> Row
 }
 
 // A set of key numbers by its lower thirty bits and the others.
-fn set_of(low: u32, high: u32) -> u64
+pub fn set_of(low: u32, high: u32) -> u64
     ensures { λ r. ⌜ r ≡ low + high * halfSet ⌝ }
 {
     low as u64 + high as u64 * HALF_SET

@@ -26,7 +26,7 @@ is-sounding-logic-requires : tie.Need-is-sounding-logic-requires Inv-loop μ-loo
 is-sounding-logic-requires c κs =
     let a = c .before .before in
     let i = c .before .loop .i in
-    (a .pre .0 .fields i (c .loop-test .taken), (a .pre .0 .triggers i (c .loop-test .taken), a .pre .1))
+    (a .pre .0 i (c .loop-test .taken), a .pre .1)
 
 returns : tie.Need-returns Inv-loop μ-loop
 returns c =

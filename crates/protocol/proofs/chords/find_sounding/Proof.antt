@@ -2,11 +2,11 @@
 -- Assumes nothing.
 use mathlib.Core.Path.{_≡_, refl, sym, ap, _∙_, subst}
 use mathlib.Core.Option.{some}
-use Prim.Native.Nat.{ℕ, _-_, _≤_}
+use Prim.Native.Nat.{_*_, _-_}
 use native.Mathlib.Omega.{arith}
 use lib.Seq.{slice}
-use Rattle.tables.specs.Layout.{triggersIn, callsIn}
-use Rattle.tables.proofs.Columns.{trigger-at, columns-length}
+use Rattle.tables.specs.Layout.{orderWidth, triggersIn}
+use Rattle.tables.proofs.Columns.{trigger-at}
 use Rattle.protocol.specs.Inner.{soundsIn, firstOf, codeOf, Audible}
 use Rattle.protocol.proofs.Audible.{sounds-here, sounds-on, sounds-none}
 use Rattle.protocol.proofs.Records.{codes-there}
@@ -32,6 +32,9 @@ mul-trigger-2 c = let a = c .before .before .before in omega (arith, codes-there
 
 shared-slice-read-trigger : tie.Need-shared-slice-read-trigger Inv-loop μ-loop
 shared-slice-read-trigger c = let a = c .before .before .before .before in omega (arith, codes-there (a .args .orders .now) (a .pre .0))
+
+cast-is-sounding : tie.Need-cast-is-sounding Inv-loop μ-loop
+cast-is-sounding c = omega (arith, c .shared-slice-known2 .given (orderWidth * c .before .before .loop .i))
 
 is-sounding-requires : tie.Need-is-sounding-requires Inv-loop μ-loop
 is-sounding-requires c κs =
@@ -86,6 +89,7 @@ find-sounding-spec =
     mul-trigger
     mul-trigger-2
     shared-slice-read-trigger
+    cast-is-sounding
     is-sounding-requires
     returns
     add-i

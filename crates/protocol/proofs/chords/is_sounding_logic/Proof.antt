@@ -1,54 +1,74 @@
--- `protocol::chords::is_sounding_logic` meets its contract, by the row. Assumes nothing.
-use mathlib.Core.Path.{_≡_, refl, sym, ap, _∙_, subst}
-use mathlib.Core.Bool.{Bool, false}
+-- `protocol::chords::is_sounding_logic` meets its contract, by the row's form. Assumes nothing.
+use mathlib.Core.Path.{_≡_, sym, ap, _∙_, subst}
+use mathlib.Core.Bool.{Bool, cond, false}
 use Prim.Native.Nat.{ℕ}
-use types.Run.{OneOf, miss}
-use denote.Enum.Declared.{tagOf}
-use Rattle.tables.specs.declared.Row.{Row as TableRow}
-use Rattle.tables.specs.declared.Row.the-variants.{Unused, Interval, Tone, System, Retuning, Logic, Harmony}
-use Rattle.tables.specs.Layout.{asLogic}
-use Rattle.tables.proofs.Row as variants
-use Rattle.protocol.specs.Triggers.{passes}
-use Rattle.protocol.specs.Inner.{soundsIn, AudibleLogic}
-use Rattle.protocol.proofs.Presses.{noLogic}
 use borrow.Author.Needs.{needs}
+use borrow.Author.Tests.{eq-eqb, ne-eqb}
+use mir.Facts.{toZ-ofZ}
+use mir.Syntax.{w32}
+use mir.Val.{SFits}
+use Rattle.integers.specs.Parts.{up}
+use Rattle.tables.specs.declared.Numbers.{Numbers}
+use Rattle.tables.specs.declared.Row.{Row as TableRow}
+use Rattle.tables.specs.Layout.{rowOf, asLogic, logicForm}
+use Rattle.tables.proofs.Rows.{form-row}
+use Rattle.protocol.specs.Triggers.{passes}
+use Rattle.protocol.specs.Inner.{soundsIn, Audible, AudibleLogic}
+use Rattle.protocol.proofs.Forms.{passes-by}
 use Rattle.protocol.proofs.chords.is_sounding_logic.Statement.{statement}
 use Rattle.protocol.proofs.chords.is_sounding_logic.Tie as tie
 
-no-logic-passes : (p : ℕ → Bool) (r : TableRow) → OneOf noLogic (tagOf variants.the-type r) → false ≡ passes p (asLogic r)
-no-logic-passes p Unused h = refl
-no-logic-passes p (Interval d) h = refl
-no-logic-passes p (Tone f) h = refl
-no-logic-passes p (System a P from to) h = refl
-no-logic-passes p (Retuning r from to) h = refl
-no-logic-passes p (Logic c s from to) h = absurd (miss noLogic 5 tt h)
-no-logic-passes p (Harmony needed named) h = refl
+numbers-at-requires : tie.Need-numbers-at-requires
+numbers-at-requires c κs = search needs
 
-row-at-requires : tie.Need-row-at-requires
-row-at-requires c κs = search needs
+-- by the form of the numbers that were read
+module _ (p : ℕ → Bool) (n : Numbers) where
+  no-logic : (n .form ≡ logicForm → ⊥) → false ≡ passes p (asLogic (rowOf n))
+  no-logic h = sym (ap (λ (b : Bool). cond b (p (up (n .first))) false) (ne-eqb (n .form) logicForm h)) ∙ passes-by n p
 
-enum-known-trigger : tie.Need-enum-known-trigger
-enum-known-trigger c = search needs
+  a-logic : n .form ≡ logicForm → p (up (n .first)) ≡ passes p (asLogic (rowOf n))
+  a-logic h = sym (ap (λ (b : Bool). cond b (p (up (n .first))) false) (eq-eqb (n .form) logicForm h)) ∙ passes-by n p
 
 returns : tie.Need-returns
 returns c =
     let a = c .before .before in
     let p = soundsIn (a .args .rows .now) (a .args .chord) in
-    no-logic-passes p (c .before .row-at .result) (c .match .keys2) ∙ ap (λ (r : TableRow). passes p (asLogic r)) (c .before .row-at .ensures)
+    no-logic p (c .before .numbers-at .result) (c .if1 .taken) ∙ ap (λ (n : Numbers). passes p (asLogic (rowOf n))) (c .before .numbers-at .ensures)
+
+natural-requires : tie.Need-natural-requires
+natural-requires c κs = search needs
+
+-- the trigger that is read
+first-fits : (c : tie.After-natural) → SFits w32 (c .before .before .before .numbers-at .result .first)
+first-fits c = search needs
+
+first-natural : (c : tie.After-natural) → c .natural .result ≡ up (c .before .before .before .numbers-at .result .first)
+first-natural c = let f = first-fits c in simp toZ-ofZ at (c .natural .ensures)
 
 is-sounding-requires : tie.Need-is-sounding-requires
+unfolding rowOf
 is-sounding-requires c κs =
-    let a = c .before .before .before .before in
-    let e = sym (c .before .before .before .row-at .ensures) ∙ c .before .trigger .given .1 in
-    (subst (λ (r : TableRow). AudibleLogic (a .args .rows .now) (asLogic r)) e (a .pre .1 .0), a .pre .1 .1)
+    let e = c .before .before in
+    let r = e .before in
+    let a = r .before in
+    let n = r .numbers-at .result in
+    let logical = subst (λ (m : Numbers). AudibleLogic (a .args .rows .now) (asLogic (rowOf m))) (sym (r .numbers-at .ensures)) (a .pre .0) in
+    let heard = subst (λ (x : TableRow). AudibleLogic (a .args .rows .now) (asLogic x)) (sym (form-row n logicForm (e .if1 .left))) logical in
+    (subst (Audible (a .args .rows .now)) (sym (first-natural c)) heard, a .pre .1)
 
 returns-2 : tie.Need-returns-2
 returns-2 c =
-    let a = c .before .before .before .before .before in
+    let m = c .before in
+    let e = m .before .before in
+    let r = e .before in
+    let a = r .before in
     let p = soundsIn (a .args .rows .now) (a .args .chord) in
     c .is-sounding .ensures
-    ∙ ap (λ (r : TableRow). passes p (asLogic r)) (sym (c .before .before .trigger .given .1) ∙ c .before .before .before .before .row-at .ensures)
+    ∙ ap p (first-natural m)
+    ∙ a-logic p (r .numbers-at .result) (e .if1 .left)
+    ∙ ap (λ (n : Numbers). passes p (asLogic (rowOf n))) (r .numbers-at .ensures)
 
 pub is-sounding-logic-spec : {M : Type 1} → statement M
 is-sounding-logic-spec =
-    tie.close (tie.spec row-at-requires enum-known-trigger returns is-sounding-requires returns-2)
+    tie.close
+    (tie.spec numbers-at-requires returns natural-requires is-sounding-requires returns-2)
