@@ -10,9 +10,12 @@ use crate::tally::Tally;
 use cents::Interval;
 use cents::KeyNumber;
 use cents::Pitch;
+use keys::HeldKeys;
+use keys::KEYS;
 use tuning::PLACES;
 use tuning::State;
 use tuning::Tone;
+ghost use Prim.Native.Nat.{_≤_};
 
 const WIDTH_AT_START: u8 = 12;
 
@@ -72,7 +75,35 @@ pub fn report_active() {
     report(b"active logic", active);
 }
 
-// "For a frame: 19, 23, 22, then the rest."
+// All keys of a house go down.
+fn press_all(held: HeldKeys, house: u8) -> HeldKeys
+    requires { ⌜ (1 ≤ house) × (house ≤ 2) ⌝ }
+{
+    let mut keys = held;
+    let mut k: u8 = 0;
+    while k < KEYS as u8 {
+        let key = KeyNumber(k);
+        let changed = keys.press(house, key);
+        keys = changed.held;
+        k += 1;
+    }
+    keys
+}
+
+// Held keys cannot be out of range: none, all of the one house, of the other, and of both are right.
+pub fn report_keys() {
+    let none = HeldKeys::none();
+    let first = press_all(none, 1);
+    let held = Tally::new()
+        .try_held(none)
+        .try_held(first)
+        .try_held(press_all(none, 2))
+        .try_held(press_all(first, 2));
+    report(b"held keys", held);
+}
+
+// "For a frame: 19, 23, 22, then the rest." With the keys of house 1 held, one of either house goes down or up: 23 before 17 and 18, and the same
+// keys are held.
 pub fn report_order_of_checks() {
     report(
         b"damaged tables, buffer under 512 bytes",
@@ -82,4 +113,11 @@ pub fn report_order_of_checks() {
         b"damaged tables, bad frame",
         Tally::new().try_beginnings(b"010245"),
     );
+    let first = press_all(HeldKeys::none(), 1);
+    let moves = Tally::new()
+        .try_move(first, b"01053C")
+        .try_move(first, b"01063C")
+        .try_move(first, b"02053C")
+        .try_move(first, b"02063C");
+    report(b"damaged tables, key down or up", moves);
 }

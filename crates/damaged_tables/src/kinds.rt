@@ -30,6 +30,8 @@ const RETUNINGS: usize = 5;
 
 const LOGICS: usize = 1;
 
+const HARMONIES: usize = 1;
+
 const MOST_INTERVALS: usize = 256;
 
 const MOST_TONES: usize = 256;
@@ -39,6 +41,8 @@ const MOST_SYSTEMS: usize = 32;
 const MOST_RETUNINGS: usize = 128;
 
 const MOST_LOGICS: usize = 32;
+
+const MOST_HARMONIES: usize = 64;
 
 // Where a row's bounds stand.
 const FROM: usize = 3;
@@ -56,26 +60,32 @@ enum Kind {
     System,
     Retuning,
     Logic,
+    Harmony,
 }
 
-// Stores the n-th row that is added: a tone system with a muted position of its own, a logic without orders.
+// The n-th tone system that is added has a muted position of its own.
+fn store_system(rows: &mut [i32], at: usize, n: usize)
+    requires { ⌜ n ≤ 256 ⌝ }
+{
+    let from = (POSITIONS + n) as u32;
+    let system = Row::System {
+        anchor: KeyNumber(60),
+        period: Interval(0),
+        from,
+        to: from + 1,
+    };
+    encode::store_row(rows, at, system);
+}
+
+// Stores the n-th row that is added: a logic has no orders, a harmony only number 0.
 fn store_added(rows: &mut [i32], kind: Kind, n: usize)
     requires { ⌜ n ≤ 256 ⌝ }
 {
     let at = USED_ROWS + n;
-    let from = (POSITIONS + n) as u32;
     match kind {
         Kind::Interval => encode::store_row(rows, at, Row::Interval(Interval(0))),
         Kind::Tone => encode::store_row(rows, at, Row::Tone(Pitch(0))),
-        Kind::System => {
-            let system = Row::System {
-                anchor: KeyNumber(60),
-                period: Interval(0),
-                from,
-                to: from + 1,
-            };
-            encode::store_row(rows, at, system)
-        }
+        Kind::System => store_system(rows, at, n),
         Kind::Retuning => {
             let retuning = Row::Retuning {
                 retuning: Retuning::Anchor(Amount::Kept),
@@ -86,12 +96,19 @@ fn store_added(rows: &mut [i32], kind: Kind, n: usize)
         }
         Kind::Logic => {
             let logic = Row::Logic {
-                letter: b'Z',
+                trigger: b'Z' as u16,
                 start: 0,
                 from: USED_ORDERS as u32,
                 to: USED_ORDERS as u32,
             };
             encode::store_row(rows, at, logic)
+        }
+        Kind::Harmony => {
+            let harmony = Row::Harmony {
+                needed: 1,
+                named: 1,
+            };
+            encode::store_row(rows, at, harmony)
         }
     }
 }
@@ -164,11 +181,16 @@ pub fn report_kinds() {
         MOST_RETUNINGS - RETUNINGS,
     );
     report_kind(b"logics, 32 and 33", Kind::Logic, MOST_LOGICS - LOGICS);
+    report_kind(
+        b"harmonies, 64 and 65",
+        Kind::Harmony,
+        MOST_HARMONIES - HARMONIES,
+    );
 }
 
 // A row whose part stands elsewhere.
 fn with_part(row: usize, from: usize, to: usize) -> Lent
-    requires { ⌜ (row ≤ 704) × (from ≤ 704) × (to ≤ 704) ⌝ }
+    requires { ⌜ (row ≤ 768) × (from ≤ 768) × (to ≤ 768) ⌝ }
 {
     Lent::sample()
         .with_number(Table::Rows, ROW_WIDTH * row + FROM, from as i32)
@@ -177,7 +199,7 @@ fn with_part(row: usize, from: usize, to: usize) -> Lent
 
 // Positions that two rows share, positions between two rows that belong to none, and a last one that does.
 fn try_parts(row: usize) -> Tally
-    requires { ⌜ row ≤ 704 ⌝ }
+    requires { ⌜ row ≤ 768 ⌝ }
 {
     Tally::new()
         .try_damaged(with_part(row, 1, POSITIONS - 1))

@@ -8,6 +8,7 @@ use tables::CHANGES_AT;
 use tables::CODES;
 use tables::COUNTS;
 use tables::Counts;
+use tables::HARMONY_BASE;
 use tables::KINDS_AT;
 use tables::NUMBERS;
 use tables::ORDER_WIDTH;
@@ -51,9 +52,11 @@ pub const SHORT_TONES: usize = 7;
 
 pub const LONG_TONES: usize = 8;
 
-pub const LOGIC: usize = 9;
+pub const HARMONY: usize = 9;
 
-pub const USED_ROWS: usize = 10;
+pub const LOGIC: usize = 10;
+
+pub const USED_ROWS: usize = 11;
 
 // How many positions the short list has, and how many both lists have, in tones as in changes. The last one is muted.
 pub const SHORT: usize = 2;
@@ -62,13 +65,18 @@ pub const POSITIONS: usize = 62;
 
 pub const MUTED: usize = POSITIONS - 1;
 
-pub const USED_ORDERS: usize = 2;
+pub const USED_ORDERS: usize = 3;
 
 const OCTAVE: i32 = 1_200_000;
 
 const FIFTH: i32 = 701_955;
 
 const A: i32 = 6_900_000;
+
+// Sets of key numbers: bit k for number k.
+const ZERO_AND_LAST: u64 = 1 + (1 << 59);
+
+const ZERO_FOUR_AND_LAST: u64 = ZERO_AND_LAST + (1 << 4);
 
 // The tables that the two slices hold.
 pub enum Table {
@@ -77,7 +85,7 @@ pub enum Table {
     Tones,
     Kinds,
     Changes,
-    Letters,
+    Triggers,
     Calls,
     Counts,
 }
@@ -142,7 +150,7 @@ fn store_retunings(rows: &mut [i32]) {
     encode::store_row(rows, PERIOD, period);
 }
 
-// The two tones retunings, and a logic with a start and two orders.
+// The two tones retunings, a harmony { 0, *4, 59 }, and a logic with a start and three orders.
 fn store_lists(rows: &mut [i32]) {
     let short = Row::Retuning {
         retuning: Retuning::Tones,
@@ -154,14 +162,19 @@ fn store_lists(rows: &mut [i32]) {
         from: SHORT as u32,
         to: POSITIONS as u32,
     };
+    let harmony = Row::Harmony {
+        needed: ZERO_AND_LAST,
+        named: ZERO_FOUR_AND_LAST,
+    };
     let logic = Row::Logic {
-        letter: b'M',
+        trigger: b'M' as u16,
         start: SHORT_SYSTEM as u32 + 1,
         from: 0,
         to: USED_ORDERS as u32,
     };
     encode::store_row(rows, SHORT_TONES, short);
     encode::store_row(rows, LONG_TONES, long);
+    encode::store_row(rows, HARMONY, harmony);
     encode::store_row(rows, LOGIC, logic);
 }
 
@@ -183,8 +196,9 @@ fn store_changes(kinds: &mut [u16], changes: &mut [i32]) {
 }
 
 fn store_orders(orders: &mut [u16]) {
-    encode::store_order(orders, 0, b'U', ANCHOR as u16);
-    encode::store_order(orders, 1, b'W', WIDTH as u16);
+    encode::store_order(orders, 0, b'U' as u16, ANCHOR as u16);
+    encode::store_order(orders, 1, b'W' as u16, WIDTH as u16);
+    encode::store_order(orders, 2, HARMONY_BASE + HARMONY as u16, PERIOD as u16);
 }
 
 fn store_used(counts: &mut [u16])
@@ -201,14 +215,14 @@ fn store_used(counts: &mut [u16])
 
 // Each lends its tables' sections.
 fn lend_tones(numbers: &mut [i32], codes: &mut [u16])
-    requires { ⌜ (length (now numbers) ≡ 13_121) × (length (now codes) ≡ 10_629) ⌝ }
+    requires { ⌜ (length (now numbers) ≡ 13_441) × (length (now codes) ≡ 10_629) ⌝ }
 {
     let sounding = &mut codes[SOUNDING_AT..KINDS_AT];
     store_tones(sounding, &mut numbers[TONES_AT..CHANGES_AT]);
 }
 
 fn lend_changes(numbers: &mut [i32], codes: &mut [u16])
-    requires { ⌜ (length (now numbers) ≡ 13_121) × (length (now codes) ≡ 10_629) ⌝ }
+    requires { ⌜ (length (now numbers) ≡ 13_441) × (length (now codes) ≡ 10_629) ⌝ }
 {
     let kinds = &mut codes[KINDS_AT..ORDERS_AT];
     store_changes(kinds, &mut numbers[CHANGES_AT..NUMBERS]);
@@ -296,7 +310,7 @@ impl Lent {
             Table::Tones => self.with_number_at(place_in(TONES_AT, TONES, at), wrong),
             Table::Kinds => self.with_code_at(place_in(KINDS_AT, CHANGES, at), code),
             Table::Changes => self.with_number_at(place_in(CHANGES_AT, CHANGES, at), wrong),
-            Table::Letters => self.with_code_at(place_of_order(0, at), code),
+            Table::Triggers => self.with_code_at(place_of_order(0, at), code),
             Table::Calls => self.with_code_at(place_of_order(1, at), code),
             Table::Counts => self.with_code_at(place_in(0, COUNTS, at), code),
         }

@@ -2,6 +2,7 @@
 use crate::lent::POSITIONS;
 use crate::lent::SHORT;
 use tables::DIVIDE_CODE;
+use tables::HALF_SET;
 use tables::MINUS_CODE;
 use tables::ONWARD_CODE;
 use tables::SET_CODE;
@@ -26,6 +27,9 @@ pub const ABOVE_AMOUNTS: i32 = 10_000;
 pub const BELOW_LETTERS: i32 = 0x40;
 
 pub const ABOVE_LETTERS: i32 = 0x5B;
+
+// One above half a set of key numbers: it would have number 30 or 60.
+pub const ABOVE_SETS: i32 = HALF_SET as i32;
 
 // One above the codes of anchors, widths, periods, tones and changes.
 pub const ABOVE_ANCHORS: i32 = MINUS_CODE as i32 + 1;

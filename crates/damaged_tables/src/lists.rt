@@ -1,4 +1,5 @@
 // Damaged lists of tones, changes and orders, and damaged counts.
+use crate::lent::HARMONY;
 use crate::lent::INTERVAL;
 use crate::lent::MUTED;
 use crate::lent::POSITIONS;
@@ -68,20 +69,25 @@ pub fn report_changes() {
 }
 
 pub fn report_orders() {
+    let letters = Tally::new()
+        .try_places(Table::Triggers, 0, USED_ORDERS, BELOW_LETTERS)
+        .try_places(Table::Triggers, 0, USED_ORDERS, ABOVE_LETTERS);
     let triggers = Tally::new()
-        .try_places(Table::Letters, 0, USED_ORDERS, BELOW_LETTERS)
-        .try_places(Table::Letters, 0, USED_ORDERS, ABOVE_LETTERS);
+        .try_triggers(Table::Triggers, 0)
+        .try_triggers(Table::Triggers, USED_ORDERS - 1);
     let calls = Tally::new()
         .try_places(Table::Calls, 0, USED_ORDERS, INTERVAL as i32)
         .try_places(Table::Calls, 0, USED_ORDERS, TONE as i32)
+        .try_places(Table::Calls, 0, USED_ORDERS, HARMONY as i32)
         .try_places(Table::Calls, 0, USED_ORDERS, USED_ROWS as i32)
         .try_places(Table::Calls, 0, USED_ORDERS, -1);
     let unused = Tally::new()
-        .try_places(Table::Letters, USED_ORDERS, ORDERS, 1)
+        .try_places(Table::Triggers, USED_ORDERS, ORDERS, 1)
         .try_places(Table::Calls, USED_ORDERS, ORDERS, 1);
-    report(b"orders, letter out of range", triggers);
+    report(b"orders, letter out of range", letters);
+    report(b"orders, trigger of no letter and no harmony", triggers);
     report(
-        b"orders, call of nothing, of an interval or of a tone",
+        b"orders, call of nothing, of an interval, a tone or a harmony",
         calls,
     );
     report(b"orders, unused places", unused);

@@ -14,7 +14,7 @@ pub fn report(name: &[u8], tally: Tally) {
 
 // `wrong` has one number below and one above the range of the row's first, its second, `from` and `to`.
 pub fn report_row(name: &[u8], row: usize, wrong: [i32; 8])
-    requires { ⌜ row ≤ 704 ⌝ }
+    requires { ⌜ row ≤ 768 ⌝ }
 {
     report(name, Tally::new().try_row(row, wrong));
 }

@@ -1,5 +1,6 @@
 // Damaged rows.
 use crate::lent::ANCHOR;
+use crate::lent::HARMONY;
 use crate::lent::INTERVAL;
 use crate::lent::LOGIC;
 use crate::lent::LONG_SYSTEM;
@@ -19,6 +20,7 @@ use crate::limits::ABOVE_CHANGES;
 use crate::limits::ABOVE_KEYS;
 use crate::limits::ABOVE_LETTERS;
 use crate::limits::ABOVE_PERIODS;
+use crate::limits::ABOVE_SETS;
 use crate::limits::ABOVE_SUMS;
 use crate::limits::ABOVE_TONES;
 use crate::limits::ABOVE_WIDTHS;
@@ -96,6 +98,26 @@ pub fn report_retunings() {
     report_row(b"tones retuning of 60 positions", LONG_TONES, long);
 }
 
+// A harmony's four numbers are its needed key numbers, and all that it names, each in two halves: one with a number past the half's last.
+pub fn report_harmony() {
+    let wrong = [
+        -1,
+        ABOVE_SETS,
+        -1,
+        ABOVE_SETS,
+        -1,
+        ABOVE_SETS,
+        -1,
+        ABOVE_SETS,
+    ];
+    let at = ROW_WIDTH * HARMONY + FIRST;
+    let all = Tally::new()
+        .try_right_places(Table::Rows, at, at + 4, 0)
+        .try_right_places(Table::Rows, at, at + 4, ABOVE_SETS - 1);
+    report_row(b"harmony", HARMONY, wrong);
+    report(b"harmony, sets with no key number and with all", all);
+}
+
 // A start past the count; orders turned round, and past the used ones.
 pub fn report_logic() {
     let past = USED_ORDERS as i32 + 1;
@@ -121,12 +143,13 @@ fn try_turned() -> Tally {
         .try_number(Table::Rows, ROW_WIDTH * LONG_TONES + TO, SHORT_END - 1)
 }
 
-// A start that is an interval, a tone, or the logic itself.
+// A start that is an interval, a tone, a harmony, or the logic itself.
 fn try_starts() -> Tally {
     let at = ROW_WIDTH * LOGIC + SECOND;
     Tally::new()
         .try_number(Table::Rows, at, INTERVAL as i32 + 1)
         .try_number(Table::Rows, at, TONE as i32 + 1)
+        .try_number(Table::Rows, at, HARMONY as i32 + 1)
         .try_number(Table::Rows, at, LOGIC as i32 + 1)
 }
 
@@ -135,6 +158,11 @@ fn try_bare() -> Tally {
     Tally::new()
         .try_number(Table::Rows, ROW_WIDTH * ANCHOR + FIRST, 0)
         .try_number(Table::Rows, ROW_WIDTH * WIDTH + FIRST, 0)
+}
+
+// The logic's trigger that is no letter, and no harmony.
+fn try_logic_triggers() -> Tally {
+    Tally::new().try_triggers(Table::Rows, ROW_WIDTH * LOGIC + FIRST)
 }
 
 pub fn report_rows() {
@@ -146,6 +174,10 @@ pub fn report_rows() {
     report(b"rows, least and greatest number", extremes);
     report(b"rows, bounds turned round", try_turned());
     report(b"rows, start at no tone system or retuning", try_starts());
+    report(
+        b"rows, trigger of no letter and no harmony",
+        try_logic_triggers(),
+    );
     report(b"rows, bare @ with a number", try_bare());
     report(b"rows, unused places", unused);
 }

@@ -1,4 +1,5 @@
 // Damages tried, and how many of them were answered as they must be. Each is made in the sample, one number at a time.
+use crate::lent::HARMONY;
 use crate::lent::Lent;
 use crate::lent::SLICES;
 use crate::lent::TOO_LONG;
@@ -6,14 +7,17 @@ use crate::lent::TOO_SHORT;
 use crate::lent::Table;
 use crate::trial::send_frame;
 use answers::SMALLEST_BUFFER;
+use keys::HeldKeys;
 use protocol::Active;
 use protocol::Desk;
 use status::BUFFER_TOO_SMALL;
 use status::DONE;
 use status::TABLE_DAMAGED;
 use std::num::wrapping_add_u64;
-use tables::LOGIC_FORM;
+use tables::HARMONY_BASE;
+use tables::HARMONY_FORM;
 use tables::ROW_WIDTH;
+use tables::ROWS;
 use tables::UNUSED_FORM;
 use tuning::PLACES;
 use tuning::Position;
@@ -21,10 +25,10 @@ use tuning::State;
 use tuning::Tone;
 ghost use Prim.Native.Nat.{_≤_};
 
-// The forms go from 1 to 8.
+// The forms go from 1 to 9.
 const BELOW_FORMS: i32 = UNUSED_FORM as i32;
 
-const ABOVE_FORMS: i32 = LOGIC_FORM as i32 + 1;
+const ABOVE_FORMS: i32 = HARMONY_FORM as i32 + 1;
 
 // How many wrong numbers a row is given besides those of its form: two for each of its other four numbers.
 const WRONG: usize = 8;
@@ -36,6 +40,17 @@ pub struct Tally {
 
 fn one_if(right: bool) -> u64 {
     if right { 1 } else { 0 }
+}
+
+// The start, with such keys held.
+fn holding(keys: HeldKeys) -> Desk {
+    let tuning = State::start();
+    let active = Active::Nothing;
+    Desk {
+        tuning,
+        active,
+        keys,
+    }
 }
 
 impl Tally {
@@ -87,9 +102,40 @@ impl Tally {
         tally
     }
 
+    // Another number at each place from `from` to `to` that is right there.
+    pub fn try_right_places(self, table: Table, from: usize, to: usize, number: i32) -> Tally {
+        let mut tally = self;
+        let mut at = from;
+        while at < to {
+            tally = tally.try_right(Lent::sample().with_number(table, at, number));
+            at += 1;
+        }
+        tally
+    }
+
+    // Each number from `from` to `to` at one place.
+    fn try_numbers(self, table: Table, at: usize, from: u16, to: u16) -> Tally {
+        let mut tally = self;
+        let mut wrong = from;
+        while wrong < to {
+            tally = tally.try_number(table, at, wrong as i32);
+            wrong += 1;
+        }
+        tally
+    }
+
+    // Triggers that are no letter and name no harmony: the one below those of all rows, each but the harmony's, the one above, and the greatest.
+    pub fn try_triggers(self, table: Table, at: usize) -> Tally {
+        let harmony = HARMONY_BASE + HARMONY as u16;
+        let end = HARMONY_BASE + ROWS as u16;
+        self.try_numbers(table, at, HARMONY_BASE - 1, harmony)
+            .try_numbers(table, at, harmony + 1, end + 1)
+            .try_number(table, at, u16::MAX as i32)
+    }
+
     // Two wrong numbers for each number of a row: its form's, then those given for the first, the second, `from` and `to`.
     pub fn try_row(self, row: usize, wrong: [i32; WRONG]) -> Tally
-        requires { ⌜ row ≤ 704 ⌝ }
+        requires { ⌜ row ≤ 768 ⌝ }
     {
         let form = ROW_WIDTH * row;
         let mut tally = self.try_number(Table::Rows, form, BELOW_FORMS)
@@ -119,7 +165,25 @@ impl Tally {
 
     pub fn try_tuning(self, tuning: State) -> Tally {
         let active = Active::Nothing;
-        self.try_key(Lent::sample(), Desk { tuning, active })
+        let keys = HeldKeys::none();
+        let desk = Desk {
+            tuning,
+            active,
+            keys,
+        };
+        self.try_key(Lent::sample(), desk)
+    }
+
+    // A key's frame with such keys held, which has to be answered.
+    pub fn try_held(self, keys: HeldKeys) -> Tally {
+        let outcome = send_frame(Lent::sample(), holding(keys), b"010245", SMALLEST_BUFFER);
+        self.add(outcome.number == DONE)
+    }
+
+    // Damaged tables, and a key that goes down or up: 23, and the same keys are held.
+    pub fn try_move(self, keys: HeldKeys, frame: &[u8]) -> Tally {
+        let t = Lent::damaged();
+        self.try_frame(t, holding(keys), frame, SMALLEST_BUFFER, TABLE_DAMAGED)
     }
 
     // The start with another tone at each position from `from` to `to`.
@@ -141,7 +205,13 @@ impl Tally {
     pub fn try_active(self, i: u32) -> Tally {
         let tuning = State::start();
         let active = Active::Logic(i);
-        self.try_key(Lent::sample(), Desk { tuning, active })
+        let keys = HeldKeys::none();
+        let desk = Desk {
+            tuning,
+            active,
+            keys,
+        };
+        self.try_key(Lent::sample(), desk)
     }
 
     // Each of the first `n` declarations as the active logic.

@@ -2,6 +2,7 @@
 use crate::lent::Lent;
 use crate::lent::SLICES;
 use answers::SMALLEST_BUFFER;
+use keys::HeldKeys;
 use protocol::Active;
 use protocol::Answered;
 use protocol::Desk;
@@ -84,12 +85,23 @@ fn same_active(a: Active, b: Active) -> bool {
     }
 }
 
+fn same_keys(a: HeldKeys, b: HeldKeys) -> bool {
+    a.held_in_half(1, 0) == b.held_in_half(1, 0)
+        && a.held_in_half(1, 1) == b.held_in_half(1, 1)
+        && a.held_in_half(2, 0) == b.held_in_half(2, 0)
+        && a.held_in_half(2, 1) == b.held_in_half(2, 1)
+}
+
 fn same_desk(a: Desk, b: Desk) -> bool {
     let tuning_before = a.tuning;
     let tuning_after = b.tuning;
     let active_before = a.active;
     let active_after = b.active;
-    same_tuning(tuning_before, tuning_after) && same_active(active_before, active_after)
+    let keys_before = a.keys;
+    let keys_after = b.keys;
+    same_tuning(tuning_before, tuning_after)
+        && same_active(active_before, active_after)
+        && same_keys(keys_before, keys_after)
 }
 
 fn least(a: usize, b: usize) -> usize
