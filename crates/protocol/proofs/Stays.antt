@@ -23,13 +23,15 @@ use Rattle.tables.specs.declared.Row.the-variants.{Unused, Interval, Tone, Syst
 use Rattle.tables.specs.Layout.{Tables, rowCount, rowAt, asLogic}
 use Rattle.validity.specs.Valid.{validTables}
 use Rattle.frames.specs.Frames.{Frame, bad, letter, key, dump, frameOf, move}
+use Rattle.frames.specs.declared.Decoded.{Decoded}
+use Rattle.frames.specs.declared.Decoded.the-variants.{Bad, Letter, Key, Dump, Move}
 use Rattle.answers.specs.Answer.{smallestBuffer}
 use Rattle.protocol.specs.declared.Active.{Active}
 use Rattle.protocol.specs.declared.Desk.{Desk}
 use Rattle.protocol.specs.Triggers.{Sought, itself, actionAt, callsAs, called, struck, matching}
 use Rattle.protocol.specs.Steps.{withActive, withKeys, byAction, callOn, deskFrom, Step, triggered, chordOn, analysed, keyMoved, moveStep}
 use Rattle.protocol.specs.Answers.{startDesk, Outcome, letterOutcome, moveOutcome, keyOutcome, frameOutcome, activeRight, validDesk, answerOf}
-use Rattle.protocol.specs.Inner.{tuned, Within}
+use Rattle.protocol.specs.Inner.{tuned, stepOf, Within}
 use Rattle.protocol.specs.Streams.{Lent, deskAfter}
 use Rattle.protocol.proofs.Presses.{named}
 use Rattle.protocol.proofs.Pressable.{named-within, struck-within}
@@ -97,6 +99,13 @@ module _ (t : Tables) (v : validTables t ≡ true) where
       go false m h = r
 
   module _ (d : Desk) (r : Right d) where
+    pub change-right : (f : Decoded) → Right (stepOf t d f .desk)
+    change-right Bad = r
+    change-right (Letter house c) = step-right d r house (itself c) letterUnbound
+    change-right (Key house k) = r
+    change-right (Dump house) = r
+    change-right (Move way house k) = move-right d r way house (k .0)
+
     frame-right : (f : Frame) → Right (frameOutcome t d f .desk)
     unfolding frameOutcome letterOutcome moveOutcome keyOutcome
     frame-right bad = r

@@ -1,6 +1,6 @@
 -- The ways through a frame. Assumes nothing.
 use mathlib.Core.Path.{_≡_, refl, sym, ap, ap₂, _∙_, subst}
-use mathlib.Core.Bool.{Bool, true, false, _&&_}
+use mathlib.Core.Bool.{Bool, true, false, _&&_, false≢true}
 use mathlib.Core.List.{List, [], _∷_}
 use Prim.Native.Nat.{ℕ, _≤_, _<_}
 use native.Mathlib.Omega.{arith}
@@ -15,24 +15,22 @@ use Rattle.tuning.proofs.Lists.{both}
 use Rattle.tuning.proofs.Held.{heard-tone}
 use Rattle.tables.specs.Layout.{Tables}
 use Rattle.validity.specs.Valid.{validTables}
-use Rattle.frames.specs.Frames.{Frame, bad, letter, key, dump, move, frameOf, inside, isHouse, isKey, lastKey, decodedAs, wayKind}
-use Rattle.frames.specs.declared.Way.{Way}
-use Rattle.cents.specs.declared.KeyNumber.{KeyNumber}
+use Rattle.frames.specs.Frames.{Frame, bad, letter, key, dump, move, frameOf, inside, isHouse, isKey, lastKey, decodedAs}
 use Rattle.frames.specs.declared.Decoded.{Decoded}
 use Rattle.frames.specs.declared.Decoded.the-variants.{Bad, Letter, Key, Dump, Move}
-use Rattle.hexadecimal.specs.Lines.{lineOf}
 use Rattle.frames.proofs.Decoded as variants
-use Rattle.frames.proofs.Decoding.{letter-decoded, move-decoded}
-use Rattle.frames.proofs.Ranges.{move-ranges}
-use Rattle.answers.specs.Answer.{changeBytes, letterBytes, keyBytes, smallestBuffer}
+use Rattle.cents.specs.declared.KeyNumber.{KeyNumber}
+use Rattle.hexadecimal.specs.Lines.{lineOf}
+use Rattle.frames.proofs.Ranges.{letter-ranges, move-ranges}
+use Rattle.answers.specs.Answer.{changeBytes, keyBytes, smallestBuffer}
 use Rattle.protocol.specs.declared.Desk.{Desk}
 use Rattle.protocol.specs.declared.Answered.{Answered}
 use Rattle.protocol.specs.declared.Told.{Told}
 use Rattle.protocol.specs.declared.Stepped.{Stepped}
-use Rattle.protocol.specs.Steps.{letterStep, moveStep}
+use Rattle.protocol.specs.declared.Head.{Head}
 use Rattle.protocol.specs.Answers.{Outcome, letterOutcome, moveOutcome, soundAt, keyNumber, keyOutcome, frameOutcome}
 use Rattle.protocol.specs.Answers.{activeRight, validDesk, unchanged, answerOf, Gives}
-use Rattle.protocol.specs.Inner.{stepLeaves, Ready, KeyInside, toldOutcome, Tells}
+use Rattle.protocol.specs.Inner.{stepLeaves, Ready, FrameInside, mayChange, headOf, stepOf, changeOutcome, toldOutcome, Tells}
 
 -- what gives an outcome gives an equal one
 pub gives : {r : Answered} {before after : List ℕ} {o q : Outcome} → o ≡ q → Gives o r before after → Gives q r before after
@@ -86,25 +84,27 @@ module _ (t : Tables) (d : Desk) (frame : List ℕ) (room : ℕ) where
 
 -- ---- by the frame
 
-pub key-inside : (f : Frame) {r : Decoded} → r ≡ decodedAs f → inside f ≡ true → KeyInside r
-key-inside f e h = subst KeyInside (sym e) (go f h)
+pub frame-inside : (f : Frame) {r : Decoded} → r ≡ decodedAs f → inside f ≡ true → FrameInside r
+frame-inside f e h = subst FrameInside (sym e) (go f h)
   where
-    go : (f : Frame) → inside f ≡ true → KeyInside (decodedAs f)
+    go : (f : Frame) → inside f ≡ true → FrameInside (decodedAs f)
     go bad h = tt
-    go (letter house c) h = tt
+    go (letter house c) h = omega (arith, letter-ranges house c h .3)
     go (key house k) h = leb-true k lastKey (both (isHouse house) (isKey k) h .1)
     go (dump house) h = tt
     go (move way house k) h = let r = move-ranges way house k h in record { first = r .0; last = r .1; high = omega (arith, r .2) }
 
-pub on-letter : (t : Tables) (d : Desk) (f : Frame) {r : Decoded} → r ≡ decodedAs f → (house c : ℕ) → r ≡ Letter house c
-    → letterOutcome t d house c ≡ frameOutcome t d f
-unfolding frameOutcome
-on-letter t d f e house c h = ap (frameOutcome t d) (sym (letter-decoded f (sym e ∙ h)))
-
-pub on-move : (t : Tables) (d : Desk) (f : Frame) {r : Decoded} → r ≡ decodedAs f → (way : Way) (house : ℕ) (k : KeyNumber) → r ≡ Move way house k
-    → moveOutcome t d way house (k .0) ≡ frameOutcome t d f
-unfolding frameOutcome
-on-move t d f e way house k h = ap (frameOutcome t d) (sym (move-decoded f (sym e ∙ h)))
+-- a frame that may change the desk
+pub on-change : (t : Tables) (d : Desk) (f : Frame) {q : Decoded} → q ≡ decodedAs f → mayChange q ≡ true → changeOutcome t d q ≡ frameOutcome t d f
+unfolding frameOutcome letterOutcome moveOutcome
+on-change t d f e h = ap (changeOutcome t d) e ∙ go f (ap mayChange (sym e) ∙ h)
+  where
+    go : (f : Frame) → mayChange (decodedAs f) ≡ true → changeOutcome t d (decodedAs f) ≡ frameOutcome t d f
+    go bad h = absurd (false≢true h)
+    go (letter house c) h = refl
+    go (key house k) h = absurd (false≢true h)
+    go (dump house) h = absurd (false≢true h)
+    go (move way house k) h = refl
 
 -- ---- what a frame is told that changes nothing
 
@@ -114,6 +114,25 @@ outcome-tells {r = r} {before = before} {after = after} e h = subst (λ (x : Out
 pub tells : (d : Desk) {f g : Decoded} {r : Told} {before after : List ℕ} → f ≡ g → Tells (toldOutcome d g) r before after → Tells (toldOutcome d f) r before after
 tells d e h = outcome-tells (ap (toldOutcome d) (sym e)) h
 
+-- what is told is what the frame does
+abbrev pub toldBy : Desk → Told → Answered
+toldBy d r = record { desk = d; number = r .number; length = r .length }
+
+pub told-gives : (t : Tables) (d : Desk) (f : Frame) {q : Decoded} {r : Told} {before after : List ℕ} → q ≡ decodedAs f → mayChange q ≡ false
+    → Tells (toldOutcome d q) r before after → Gives (frameOutcome t d f) (toldBy d r) before after
+unfolding frameOutcome keyOutcome
+told-gives t d f {q} {r} {before} {after} e h g =
+    go f (ap mayChange (sym e) ∙ h) (subst (λ (x : Decoded). Tells (toldOutcome d x) r before after) e g)
+  where
+    go : (f : Frame) → mayChange (decodedAs f) ≡ false → Tells (toldOutcome d (decodedAs f)) r before after → Gives (frameOutcome t d f) (toldBy d r) before after
+    go bad h g = record { desk = refl; number = g .number; size = g .size; buffer = g .buffer }
+    go (letter house c) h g = absurd (false≢true (sym h))
+    go (key house n) h g = record { desk = refl; number = g .number; size = g .size; buffer = g .buffer }
+    go (dump house) h g = record { desk = refl; number = g .number; size = g .size; buffer = g .buffer }
+    go (move way house n) h g = absurd (false≢true (sym h))
+
+-- ---- a frame that may change the desk, and one that may not
+
 -- the variants of a frame that is no letter, and of one that moves no key
 abbrev pub noLetter : List ℕ
 noLetter = 0 ∷ 2 ∷ 3 ∷ 4 ∷ []
@@ -121,59 +140,28 @@ noLetter = 0 ∷ 2 ∷ 3 ∷ 4 ∷ []
 abbrev pub noMove : List ℕ
 noMove = 0 ∷ 1 ∷ 2 ∷ 3 ∷ []
 
--- what is told is what the frame does
-abbrev pub toldBy : Desk → Told → Answered
-toldBy d r = record { desk = d; number = r .number; length = r .length }
+-- what holds of those that are neither
+pub of-other : (P : Decoded → Type 0) → P Bad → ((house : ℕ) (k : KeyNumber) → P (Key house k)) → ((house : ℕ) → P (Dump house)) → (f : Decoded)
+    → OneOf noLetter (tagOf variants.the-type f) → OneOf noMove (tagOf variants.the-type f) → P f
+of-other P b k d Bad h m = b
+of-other P b k d (Letter house c) h m = absurd (miss noLetter 1 tt h)
+of-other P b k d (Key house x) h m = k house x
+of-other P b k d (Dump house) h m = d house
+of-other P b k d (Move way house x) h m = absurd (miss noMove 4 tt m)
 
-pub told-gives : (t : Tables) (d : Desk) (f : Frame) {q : Decoded} {r : Told} {before after : List ℕ} → q ≡ decodedAs f
-    → OneOf noLetter (tagOf variants.the-type q) → OneOf noMove (tagOf variants.the-type q)
-    → Tells (toldOutcome d q) r before after → Gives (frameOutcome t d f) (toldBy d r) before after
-unfolding frameOutcome keyOutcome
-told-gives t d f {q} {r} {before} {after} e h k g =
-    go f (subst (λ (x : Decoded). OneOf noLetter (tagOf variants.the-type x)) e h) (subst (λ (x : Decoded). OneOf noMove (tagOf variants.the-type x)) e k)
-    (subst (λ (x : Decoded). Tells (toldOutcome d x) r before after) e g)
-  where
-    go : (f : Frame) → OneOf noLetter (tagOf variants.the-type (decodedAs f)) → OneOf noMove (tagOf variants.the-type (decodedAs f))
-        → Tells (toldOutcome d (decodedAs f)) r before after → Gives (frameOutcome t d f) (toldBy d r) before after
-    go bad h k g = record { desk = refl; number = g .number; size = g .size; buffer = g .buffer }
-    go (letter house c) h k g = absurd (miss noLetter 1 tt h)
-    go (key house n) h k g = record { desk = refl; number = g .number; size = g .size; buffer = g .buffer }
-    go (dump house) h k g = record { desk = refl; number = g .number; size = g .size; buffer = g .buffer }
-    go (move way house n) h k g = absurd (miss noMove 4 tt k)
-
--- ---- a letter
-
-module _ (t : Tables) (d : Desk) (house c : ℕ) where
-  -- by the desk and the number that the step leaves
-  abbrev pub outcome : Stepped → Outcome
-  outcome r =
+module _ (t : Tables) (d : Desk) (f : Decoded) where
+  -- by its bytes, and the desk and the number that the step leaves
+  abbrev pub changed : Head → Stepped → Outcome
+  changed h r =
       record {
         desk = r .desk;
         number = r .number;
-        made = letterStep t house d c .made;
-        line = lineOf (letterBytes house c (r .number) (held (r .desk .tuning)));
+        made = stepOf t d f .made;
+        line = lineOf (changeBytes (h .house) (h .kind) (h .value) (r .number) (held (r .desk .tuning)));
       }
 
-  pub letter-gives : {r : Stepped} → r ≡ stepLeaves (letterStep t house d c) → outcome r ≡ letterOutcome t d house c
-  unfolding letterOutcome
-  letter-gives e = ap outcome e
-
--- ---- a key that goes down or up
-
-module _ (t : Tables) (d : Desk) (way : Way) (house k : ℕ) where
-  -- by the kind that is answered, and the desk and the number that the step leaves
-  abbrev pub moved : ℕ → Stepped → Outcome
-  moved kind r =
-      record {
-        desk = r .desk;
-        number = r .number;
-        made = moveStep t way house d k .made;
-        line = lineOf (changeBytes house kind k (r .number) (held (r .desk .tuning)));
-      }
-
-  pub move-gives : {kind : ℕ} {r : Stepped} → kind ≡ wayKind way → r ≡ stepLeaves (moveStep t way house d k) → moved kind r ≡ moveOutcome t d way house k
-  unfolding moveOutcome
-  move-gives f e = ap₂ moved f e
+  pub change-gives : {h : Head} {r : Stepped} → h ≡ headOf f → r ≡ stepLeaves (stepOf t d f) → changed h r ≡ changeOutcome t d f
+  change-gives e g = ap₂ changed e g
 
 -- ---- a key
 

@@ -15,7 +15,7 @@ use Rattle.orders.specs.Orders.{noOrder}
 use Rattle.status.specs.Status.{done}
 use Rattle.tuning.specs.Tuning.{Action}
 use Rattle.tuning.specs.Desk.{cents}
-use Rattle.tuning.specs.State.{replied, validState}
+use Rattle.tuning.specs.State.{held, replied, validState}
 use Rattle.tuning.specs.declared.Reply.{Reply}
 use Rattle.tuning.specs.declared.State.{State}
 use Rattle.tables.specs.declared.Row.{Row as TableRow}
@@ -26,12 +26,12 @@ use Rattle.tables.specs.Layout.{Tables, logicForm, rowCount, readAt, rowOf, row
 use Rattle.tables.specs.Values.{FieldsFit}
 use Rattle.validity.specs.Valid.{validTables}
 use Rattle.validity.specs.Inner.{ValidSystem, ValidRetuning}
-use Rattle.frames.specs.Frames.{lastKey}
+use Rattle.frames.specs.Frames.{lastKey, letterKind, wayKind}
 use Rattle.frames.specs.declared.Decoded.{Decoded}
 use Rattle.frames.specs.declared.Decoded.the-variants.{Bad, Letter, Key, Dump, Move}
 use Rattle.keys.specs.Keys.{Place}
-use Rattle.hexadecimal.specs.Lines.{begunWith}
-use Rattle.answers.specs.Answer.{smallestBuffer}
+use Rattle.hexadecimal.specs.Lines.{lineOf, begunWith}
+use Rattle.answers.specs.Answer.{changeBytes, smallestBuffer}
 use Rattle.protocol.specs.declared.Active.{Active}
 use Rattle.protocol.specs.declared.Active.the-variants as active
 use Rattle.protocol.specs.declared.Callee.{Callee}
@@ -39,6 +39,8 @@ use Rattle.protocol.specs.declared.Callee.the-variants.{Nothing, Row}
 use Rattle.protocol.specs.declared.Desk.{Desk}
 use Rattle.protocol.specs.declared.Told.{Told}
 use Rattle.protocol.specs.declared.Stepped.{Stepped}
+use Rattle.protocol.specs.declared.Search.{Search}
+use Rattle.protocol.specs.declared.Head.{Head}
 use Rattle.protocol.specs.declared.triggers.Press.{Press}
 use Rattle.protocol.specs.declared.triggers.Called.{Called}
 use Rattle.protocol.specs.declared.triggers.Called.the-variants as called
@@ -47,8 +49,8 @@ use Rattle.protocol.specs.declared.chords.Code.the-variants as code
 use Rattle.protocol.specs.declared.Chord.{Chord}
 use Rattle.limits.specs.Limits.{mostPositions}
 use Rattle.protocol.specs.Triggers.{Sought, answersTo, actionAt, Struck, firstLogic, elseOrder, matchesAs, startCalls}
-use Rattle.protocol.specs.Steps.{deskFrom, madeFrom, lastNumber, Step, withActive}
-use Rattle.protocol.specs.Answers.{activeRight, Outcome, unchanged, keyOutcome, dumpOutcome, badOutcome}
+use Rattle.protocol.specs.Steps.{deskFrom, madeFrom, lastNumber, Step, withActive, withKeys, letterStep, moveStep}
+use Rattle.protocol.specs.Answers.{activeRight, Outcome, answered, unchanged, keyOutcome, dumpOutcome, badOutcome}
 
 -- ---- the code's values
 
@@ -268,13 +270,54 @@ pub record Ready (t : Tables) (d : Desk) (buffer : List ℕ) : Type 0 where
   pub active : activeRight t (d .active) ≡ true
   pub room : smallestBuffer ≤ length buffer
 
--- the key that is asked for, or moves, is one of the keyboard, and its house one of the two
-abbrev pub KeyInside : Decoded → Type 0
-KeyInside Bad = Unit
-KeyInside (Letter house letter) = Unit
-KeyInside (Key house key) = key .0 ≤ lastKey
-KeyInside (Dump house) = Unit
-KeyInside (Move way house key) = Place house (key .0)
+-- a letter is one of the codes; the key that is asked for, or moves, is one of the keyboard, and its house one of the two
+abbrev pub FrameInside : Decoded → Type 0
+FrameInside Bad = Unit
+FrameInside (Letter house letter) = letter < triggerCodes
+FrameInside (Key house key) = key .0 ≤ lastKey
+FrameInside (Dump house) = Unit
+FrameInside (Move way house key) = Place house (key .0)
+
+-- a frame may change the desk
+abbrev pub mayChange : Decoded → Bool
+mayChange Bad = false
+mayChange (Letter house letter) = true
+mayChange (Key house key) = false
+mayChange (Dump house) = false
+mayChange (Move way house key) = true
+
+abbrev pub head : ℕ → ℕ → ℕ → Head
+head house kind value = record { house = house; kind = kind; value = value }
+
+-- the bytes that its answer repeats; of one that may not, zeros
+abbrev pub headOf : Decoded → Head
+headOf Bad = head 0 0 0
+headOf (Letter house letter) = head house letterKind letter
+headOf (Key house key) = head 0 0 0
+headOf (Dump house) = head 0 0 0
+headOf (Move way house key) = head house (wayKind way) (key .0)
+
+-- its step; one that may not does nothing
+abbrev pub still : Desk → Step
+still d = record { desk = d; number = done; made = [] }
+
+abbrev pub stepOf : Tables → Desk → Decoded → Step
+stepOf t d Bad = still d
+stepOf t d (Letter house letter) = letterStep t house d letter
+stepOf t d (Key house key) = still d
+stepOf t d (Dump house) = still d
+stepOf t d (Move way house key) = moveStep t way house d (key .0)
+
+abbrev pub changeOutcome : Tables → Desk → Decoded → Outcome
+changeOutcome t d f =
+    let s = stepOf t d f in
+    let h = headOf f in
+    answered s (lineOf (changeBytes (h .house) (h .kind) (h .value) (s .number) (held (s .desk .tuning))))
+
+-- what a search finds comes to a step once it is called, and can be called
+pub record Finds (t : Tables) (house : ℕ) (d : Desk) (s : Step) (r : Search) : Type 0 where
+  pub within : Within t (struckIn t (withKeys (r .keys) d) (r .found) .calls)
+  pub leaves : struckLeaves t house (withKeys (r .keys) d) (struckIn t (withKeys (r .keys) d) (r .found)) (r .unfound) ≡ stepLeaves s
 
 -- what a frame is told that changes nothing; a letter, or a key that moves, nothing
 abbrev pub toldOutcome : Desk → Decoded → Outcome

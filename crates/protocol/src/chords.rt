@@ -3,10 +3,14 @@ use crate::Active;
 use crate::Callee;
 use crate::Chord;
 use crate::Desk;
-use crate::Stepped;
+use crate::Search;
 use crate::triggers;
 use crate::triggers::Called;
+use cents::KeyNumber;
+use frames::Way;
 use harmonies::Harmony;
+use keys::Changed;
+use keys::HeldKeys;
 use status::DONE;
 use tables::CODES;
 use tables::Counts;
@@ -26,12 +30,13 @@ ghost use Prim.Native.Nat.{ℕ, _<_};
 ghost use lib.ListN.{getD};
 ghost use lib.Seq.{slice};
 ghost use Rattle.tuning.specs.State.{validState};
+ghost use Rattle.keys.specs.Keys.{Place};
 ghost use Rattle.tables.specs.Layout.{tablesIn, triggersIn, callsIn, rowOf, readAt, asLogic, asHarmony};
 ghost use Rattle.validity.specs.Valid.{validTables};
 ghost use Rattle.protocol.specs.Triggers.{matching, matchesAs, passes, firstLogic, firstOrder};
-ghost use Rattle.protocol.specs.Steps.{chordOn, analysed};
+ghost use Rattle.protocol.specs.Steps.{chordOn, keyMoved, moveStep};
 ghost use Rattle.protocol.specs.Answers.{activeRight, validDesk};
-ghost use Rattle.protocol.specs.Inner.{found, calledIn, calledBy, soundsIn, firstOf, codeOf, stepLeaves, ChordFits, SetsFit, Audible, AudibleLogic, AudibleRows, OrderPart};
+ghost use Rattle.protocol.specs.Inner.{found, calledIn, calledBy, soundsIn, firstOf, codeOf, Finds, ChordFits, SetsFit, Audible, AudibleLogic, AudibleRows, OrderPart};
 
 // A trigger's code, where there is one.
 enum Code {
@@ -165,13 +170,47 @@ fn find_called(numbers: &[i32], codes: &[u16], active: Active, chord: Chord) -> 
     find_order(rows, orders, from as usize, to as usize, chord)
 }
 
-// What the held keys come to, from a frame of this house: their chord is looked for among the triggers.
-pub fn analyse(numbers: &[i32], codes: &[u16], desk: Desk, house: u8) -> Stepped
-    requires { ⌜ validDesk (tablesIn (now numbers) (now codes)) desk ≡ true ⌝ }
-    ensures { λ r. ⌜ r ≡ stepLeaves (analysed (tablesIn (now (numbers .entry)) (now (codes .entry))) house desk) ⌝ }
+// A key goes down or up: the held keys then, and the number.
+fn move_key(held: HeldKeys, way: Way, house: u8, key: KeyNumber) -> Changed
+    requires { ⌜ Place house (key .0) ⌝ }
+    ensures { λ r. ⌜ r ≡ keyMoved way held house (key .0) ⌝ }
 {
+    match way {
+        Way::Down => held.press(house, key),
+        Way::Up => held.release(house, key),
+    }
+}
+
+// What a key that goes down or up finds: its chord is looked for after it has changed.
+pub fn search_key(
+    numbers: &[i32],
+    codes: &[u16],
+    desk: Desk,
+    way: Way,
+    house: u8,
+    key: KeyNumber,
+) -> Search
+    requires { ⌜ validDesk (tablesIn (now numbers) (now codes)) desk ≡ true ⌝ }
+    requires { ⌜ Place house (key .0) ⌝ }
+    ensures { λ r. ⌜ Finds (tablesIn (now (numbers .entry)) (now (codes .entry))) house desk (moveStep (tablesIn (now (numbers .entry)) (now (codes .entry))) way house desk (key .0)) r ⌝ }
+{
+    let before = desk.keys;
     let active = desk.active;
-    let chord = chord_of(desk);
+    let moved = move_key(before, way, house, key);
+    let number = moved.number;
+    if number != DONE {
+        return Search {
+            keys: before,
+            found: Called::Nothing,
+            unfound: number,
+        };
+    }
+    let keys = moved.held;
+    let chord = chord_of(desk.with_keys(keys));
     let found = find_called(numbers, codes, active, chord);
-    triggers::strike(numbers, codes, desk, house, found, DONE)
+    Search {
+        keys,
+        found,
+        unfound: DONE,
+    }
 }

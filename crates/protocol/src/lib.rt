@@ -3,23 +3,20 @@ mod chords;
 mod triggers;
 
 use answers::SMALLEST_BUFFER;
-use cents::KeyNumber;
 use frames::Decoded;
 use frames::LETTER_KIND;
-use frames::Way;
-use keys::Changed;
 use keys::HeldKeys;
 use status::BAD_FRAME;
 use status::BUFFER_TOO_SMALL;
 use status::DONE;
 use status::KEY_SILENT;
-use status::LETTER_UNBOUND;
 use status::TABLE_DAMAGED;
 use tables::Counts;
 use tables::LOGIC_FORM;
 use tables::SOUNDING_AT;
 use tables::TONES_AT;
 use tables::decode;
+use triggers::Called;
 use tuning::State;
 use tuning::Tone;
 use validity::valid_tables;
@@ -30,13 +27,11 @@ ghost use lib.ListN.{length, getD};
 ghost use Rattle.tuning.specs.State.{heard, validState};
 ghost use Rattle.tables.specs.Layout.{tablesIn};
 ghost use Rattle.tables.specs.Values.{Slices};
-ghost use Rattle.keys.specs.Keys.{Place};
 ghost use Rattle.frames.specs.Frames.{frameOf};
 ghost use Rattle.answers.specs.Answer.{smallestBuffer};
-ghost use Rattle.protocol.specs.Triggers.{itself};
-ghost use Rattle.protocol.specs.Steps.{withTuning, withActive, withKeys, keyMoved, moveStep};
-ghost use Rattle.protocol.specs.Answers.{startDesk, letterOutcome, moveOutcome, keyNumber, frameOutcome, activeRight, validDesk, answerOf, Gives};
-ghost use Rattle.protocol.specs.Inner.{found, decoded, triggerCodes, logicFor, IndexOf, Ready, KeyInside, stepLeaves, toldOutcome, Tells};
+ghost use Rattle.protocol.specs.Steps.{withTuning, withActive, withKeys};
+ghost use Rattle.protocol.specs.Answers.{startDesk, keyNumber, frameOutcome, activeRight, validDesk, answerOf, Gives};
+ghost use Rattle.protocol.specs.Inner.{found, decoded, triggerCodes, IndexOf, Ready, FrameInside, mayChange, headOf, stepOf, changeOutcome, Finds, toldOutcome, Tells};
 
 // How many codes of triggers there are. A letter's code is its byte; from 256 on there is room for each declaration that a text can have.
 pub const TRIGGERS: usize = 1024;
@@ -77,6 +72,20 @@ pub struct Told {
 pub struct Stepped {
     pub desk: Desk,
     pub number: u8,
+}
+
+// What a frame finds, before that is called: the keys that are held then, what is called, and the number where that is nothing.
+pub struct Search {
+    pub keys: HeldKeys,
+    pub found: Called,
+    pub unfound: u8,
+}
+
+// The bytes of a frame.
+struct Head {
+    pub house: u8,
+    pub kind: u8,
+    pub value: u8,
 }
 
 // A declaration's number, where there is one.
@@ -197,90 +206,108 @@ fn refuse(desk: Desk, number: u8) -> Answered
     }
 }
 
-// A letter: what it calls is called, and the state after it answered. `logic` is the first logic with the letter.
-pub fn answer_letter(
-    numbers: &[i32],
-    codes: &[u16],
-    desk: Desk,
-    house: u8,
-    letter: u8,
-    logic: Callee,
-    buffer: &mut [u8],
-) -> Answered
-    requires { ⌜ Ready (tablesIn (now numbers) (now codes)) desk (now buffer) ⌝ }
-    requires { ⌜ logic ≡ logicFor (tablesIn (now numbers) (now codes)) (itself letter) ⌝ }
-    ensures gives { λ r. ⌜ Gives (letterOutcome (tablesIn (now (numbers .entry)) (now (codes .entry))) desk house letter) r (now (buffer .entry)) (now (buffer .exit)) ⌝ }
-    ensures stays { λ r. ⌜ validDesk (tablesIn (now (numbers .entry)) (now (codes .entry))) (r .desk) ≡ true ⌝ }
+// Whether a frame may change the desk: a letter, or a key that goes down or up.
+pub fn may_change(frame: Decoded) -> bool
+    ensures { λ r. ⌜ r ≡ mayChange frame ⌝ }
 {
-    let code = letter as u16;
-    let step = triggers::trigger(numbers, codes, desk, house, code, logic, LETTER_UNBOUND);
-    let next = step.desk;
-    let tuning = next.tuning;
-    let length = answers::answer_change(buffer, house, LETTER_KIND, letter, step.number, tuning);
-    Answered {
-        desk: next,
-        number: step.number,
-        length,
+    match frame {
+        Decoded::Bad => false,
+        Decoded::Letter {
+            house: _,
+            letter: _,
+        } => true,
+        Decoded::Key { house: _, key: _ } => false,
+        Decoded::Dump { house: _ } => false,
+        Decoded::Move {
+            way: _,
+            house: _,
+            key: _,
+        } => true,
     }
 }
 
-// A key goes down or up: the held keys then, and the number.
-fn move_key(held: HeldKeys, way: Way, house: u8, key: KeyNumber) -> Changed
-    requires { ⌜ Place house (key .0) ⌝ }
-    ensures { λ r. ⌜ r ≡ keyMoved way held house (key .0) ⌝ }
-{
-    match way {
-        Way::Down => held.press(house, key),
-        Way::Up => held.release(house, key),
-    }
-}
-
-// What a key that goes down or up does: its harmonies are looked for after it has changed.
-fn step_key(
+// What such a frame finds; any other finds nothing.
+fn search_frame(
     numbers: &[i32],
     codes: &[u16],
+    index: &[u32; TRIGGERS],
     desk: Desk,
-    way: Way,
-    house: u8,
-    key: KeyNumber,
-) -> Stepped
+    frame: Decoded,
+) -> Search
     requires { ⌜ validDesk (tablesIn (now numbers) (now codes)) desk ≡ true ⌝ }
-    requires { ⌜ Place house (key .0) ⌝ }
-    ensures { λ r. ⌜ r ≡ stepLeaves (moveStep (tablesIn (now (numbers .entry)) (now (codes .entry))) way house desk (key .0)) ⌝ }
+    requires { ⌜ IndexOf (tablesIn (now numbers) (now codes)) (now index) ⌝ }
+    requires { ⌜ FrameInside frame ⌝ }
+    ensures { λ r. ⌜ Finds (tablesIn (now (numbers .entry)) (now (codes .entry))) (headOf frame .house) desk (stepOf (tablesIn (now (numbers .entry)) (now (codes .entry))) desk frame) r ⌝ }
 {
-    let held = desk.keys;
-    let moved = move_key(held, way, house, key);
-    let number = moved.number;
-    if number != DONE {
-        return Stepped { desk, number };
+    if let Decoded::Letter { house: _, letter } = frame {
+        return triggers::search_letter(numbers, codes, index, desk, letter);
     }
-    let keys = moved.held;
-    chords::analyse(numbers, codes, desk.with_keys(keys), house)
+    if let Decoded::Move { way, house, key } = frame {
+        return chords::search_key(numbers, codes, desk, way, house, key);
+    }
+    let keys = desk.keys;
+    Search {
+        keys,
+        found: Called::Nothing,
+        unfound: DONE,
+    }
 }
 
-// A key that goes down or up, and the state after it answered.
-pub fn answer_move(
+// The bytes of such a frame, which its answer repeats; of any other, zeros.
+fn head_of(frame: Decoded) -> Head
+    ensures { λ r. ⌜ r ≡ headOf frame ⌝ }
+{
+    if let Decoded::Letter { house, letter } = frame {
+        return Head {
+            house,
+            kind: LETTER_KIND,
+            value: letter,
+        };
+    }
+    if let Decoded::Move { way, house, key } = frame {
+        return Head {
+            house,
+            kind: frames::kind_of(way),
+            value: key.0,
+        };
+    }
+    Head {
+        house: 0,
+        kind: 0,
+        value: 0,
+    }
+}
+
+// A letter, or a key that goes down or up: what it finds is called, and the state after it answered. (One way for both: the compiler then keeps the
+// desk in its place.)
+pub fn answer_changing(
     numbers: &[i32],
     codes: &[u16],
+    index: &[u32; TRIGGERS],
     desk: Desk,
-    way: Way,
-    house: u8,
-    key: KeyNumber,
+    frame: Decoded,
     buffer: &mut [u8],
 ) -> Answered
     requires { ⌜ Ready (tablesIn (now numbers) (now codes)) desk (now buffer) ⌝ }
-    requires { ⌜ Place house (key .0) ⌝ }
-    ensures gives { λ r. ⌜ Gives (moveOutcome (tablesIn (now (numbers .entry)) (now (codes .entry))) desk way house (key .0)) r (now (buffer .entry)) (now (buffer .exit)) ⌝ }
+    requires { ⌜ IndexOf (tablesIn (now numbers) (now codes)) (now index) ⌝ }
+    requires { ⌜ FrameInside frame ⌝ }
+    ensures gives { λ r. ⌜ Gives (changeOutcome (tablesIn (now (numbers .entry)) (now (codes .entry))) desk frame) r (now (buffer .entry)) (now (buffer .exit)) ⌝ }
     ensures stays { λ r. ⌜ validDesk (tablesIn (now (numbers .entry)) (now (codes .entry))) (r .desk) ≡ true ⌝ }
 {
-    let step = step_key(numbers, codes, desk, way, house, key);
+    let searched = search_frame(numbers, codes, index, desk, frame);
+    let head = head_of(frame);
+    let house = head.house;
+    let keys = searched.keys;
+    let found = searched.found;
+    let unfound = searched.unfound;
+    let step = triggers::strike(numbers, codes, desk.with_keys(keys), house, found, unfound);
     let next = step.desk;
     let tuning = next.tuning;
-    let kind = frames::kind_of(way);
-    let length = answers::answer_change(buffer, house, kind, key.0, step.number, tuning);
+    let number = step.number;
+    let length = answers::answer_change(buffer, house, head.kind, head.value, number, tuning);
     Answered {
         desk: next,
-        number: step.number,
+        number,
         length,
     }
 }
@@ -296,7 +323,7 @@ fn key_number(tone: Tone) -> u8
 
 // The answer to a frame that changes nothing. A letter, or a key that moves, is told nothing.
 pub fn tell(desk: Desk, frame: Decoded, buffer: &mut [u8]) -> Told
-    requires { ⌜ (validState (desk .tuning) ≡ true) × (smallestBuffer ≤ length (now buffer)) × KeyInside frame ⌝ }
+    requires { ⌜ (validState (desk .tuning) ≡ true) × (smallestBuffer ≤ length (now buffer)) × FrameInside frame ⌝ }
     ensures { λ r. ⌜ Tells (toldOutcome desk frame) r (now (buffer .entry)) (now (buffer .exit)) ⌝ }
 {
     let s = desk.tuning;
@@ -345,12 +372,9 @@ fn take_frame(
     ensures { λ r. ⌜ Gives (frameOutcome (tablesIn (now (numbers .entry)) (now (codes .entry))) desk (frameOf (now (frame .entry)))) r (now (buffer .entry)) (now (buffer .exit)) ⌝ }
 {
     let taken = frames::decode(frame);
-    if let Decoded::Letter { house, letter } = taken {
-        let logic = triggers::first_logic(numbers, codes, letter as u16);
-        return answer_letter(numbers, codes, desk, house, letter, logic, buffer);
-    }
-    if let Decoded::Move { way, house, key } = taken {
-        return answer_move(numbers, codes, desk, way, house, key, buffer);
+    if may_change(taken) {
+        let index = index_logics(numbers, codes);
+        return answer_changing(numbers, codes, &index, desk, taken, buffer);
     }
     let told = tell(desk, taken, buffer);
     Answered {

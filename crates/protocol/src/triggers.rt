@@ -2,16 +2,18 @@
 use crate::Active;
 use crate::Callee;
 use crate::Desk;
+use crate::Search;
 use crate::Stepped;
 use crate::TRIGGERS;
+use crate::find_indexed;
 use orders::Kind;
 use orders::Order;
 use orders::PART;
 use status::DONE;
+use status::LETTER_UNBOUND;
 use tables::ANCHOR_FORM;
 use tables::CHANGES_AT;
 use tables::CODES;
-use tables::Counts;
 use tables::KINDS_AT;
 use tables::LOGIC_FORM;
 use tables::NUMBERS;
@@ -31,15 +33,15 @@ use tuning::State;
 ghost use mathlib.Core.Path.{_≡_};
 ghost use mathlib.Core.Bool.{true};
 ghost use mathlib.Core.List.{[], _∷_};
-ghost use Prim.Native.Nat.{_+_, _≤_, min};
+ghost use Prim.Native.Nat.{ℕ, _+_, _≤_, _<_, min};
 ghost use lib.Seq.{slice};
 ghost use Rattle.tuning.specs.State.{validState};
-ghost use Rattle.tables.specs.Layout.{tablesIn, triggersIn, callsIn, rowOf, asLogic};
+ghost use Rattle.tables.specs.Layout.{tablesIn, triggersIn, callsIn};
 ghost use Rattle.tables.specs.Values.{Slices};
-ghost use Rattle.protocol.specs.Triggers.{itself, passes, firstLogic, firstOrder, startCalls};
-ghost use Rattle.protocol.specs.Steps.{triggered};
+ghost use Rattle.protocol.specs.Triggers.{itself, firstOrder, startCalls};
+ghost use Rattle.protocol.specs.Steps.{letterStep};
 ghost use Rattle.protocol.specs.Answers.{validDesk};
-ghost use Rattle.protocol.specs.Inner.{found, isTrigger, logicFor, logicTrigger, Indexed, kindAt, calledIn, calledBy, partSize, gathered, callsOf, struckBy, tunedBy, foundTuned, callsLeave, stepLeaves, OrderPart, ActiveReadable, Callable, CallableFound, struckAs, struckIn, struckLeaves, Within};
+ghost use Rattle.protocol.specs.Inner.{isTrigger, triggerCodes, logicFor, logicTrigger, Indexed, IndexOf, Finds, kindAt, calledIn, calledBy, partSize, gathered, callsOf, struckBy, tunedBy, foundTuned, callsLeave, OrderPart, ActiveReadable, Callable, CallableFound, struckAs, struckIn, struckLeaves, Within};
 
 // What is no trigger.
 const NO_TRIGGER: u32 = 1024;
@@ -55,36 +57,6 @@ pub enum Called {
 struct Press {
     pub active: Active,
     pub called: Callee,
-}
-
-// Whether a row is a logic with this trigger.
-fn is_logic(n: Numbers, trigger: u16) -> bool
-    ensures { λ r. ⌜ r ≡ passes (isTrigger trigger) (asLogic (rowOf n)) ⌝ }
-{
-    let form = n.form;
-    let key = decode::natural(n.first);
-    (form == LOGIC_FORM) & (key == trigger as u32)
-}
-
-// The first of the rows that is a logic with this trigger.
-fn find_logic(rows: &[i32], count: u32, trigger: u16) -> Callee
-    ensures { λ r. ⌜ r ≡ found (firstLogic (now (rows .entry)) (isTrigger trigger) 0 count) ⌝ }
-{
-    for i in 0..count {
-        if is_logic(decode::numbers_at(rows, i as usize), trigger) {
-            return Callee::Row(i);
-        }
-    }
-    Callee::Nothing
-}
-
-// The first logic with this trigger, from the rows.
-pub fn first_logic(numbers: &[i32], codes: &[u16], trigger: u16) -> Callee
-    requires { ⌜ Slices (now numbers) (now codes) ⌝ }
-    ensures { λ r. ⌜ r ≡ logicFor (tablesIn (now (numbers .entry)) (now (codes .entry))) (itself trigger) ⌝ }
-{
-    let used = Counts::read(&codes[0..SOUNDING_AT]);
-    find_logic(&numbers[0..TONES_AT], used.rows, trigger)
 }
 
 // The trigger of a row that is a logic; what is no trigger, of any other row.
@@ -367,21 +339,27 @@ pub fn strike(
     )
 }
 
-// What a trigger does, from a frame of this house. `logic` is the first logic with it; the number is `unfound` where nothing has it.
-pub fn trigger(
+// What a letter finds, by the index of logics.
+pub fn search_letter(
     numbers: &[i32],
     codes: &[u16],
+    index: &[u32; TRIGGERS],
     desk: Desk,
-    house: u8,
-    trigger: u16,
-    logic: Callee,
-    unfound: u8,
-) -> Stepped
+    letter: u8,
+) -> Search
     requires { ⌜ validDesk (tablesIn (now numbers) (now codes)) desk ≡ true ⌝ }
-    requires { ⌜ logic ≡ logicFor (tablesIn (now numbers) (now codes)) (itself trigger) ⌝ }
-    ensures { λ r. ⌜ r ≡ stepLeaves (triggered (tablesIn (now (numbers .entry)) (now (codes .entry))) house desk (itself trigger) unfound) ⌝ }
+    requires { ⌜ IndexOf (tablesIn (now numbers) (now codes)) (now index) ⌝ }
+    requires { ⌜ letter < triggerCodes ⌝ }
+    ensures { λ r. ⌜ ((house : ℕ) → Finds (tablesIn (now (numbers .entry)) (now (codes .entry))) house desk (letterStep (tablesIn (now (numbers .entry)) (now (codes .entry))) house desk letter) r) ⌝ }
 {
+    let code = letter as u16;
+    let logic = find_indexed(index, code);
     let active = desk.active;
-    let found = find_called(numbers, codes, active, trigger, logic);
-    strike(numbers, codes, desk, house, found, unfound)
+    let keys = desk.keys;
+    let found = find_called(numbers, codes, active, code, logic);
+    Search {
+        keys,
+        found,
+        unfound: LETTER_UNBOUND,
+    }
 }

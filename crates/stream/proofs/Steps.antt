@@ -1,32 +1,24 @@
 -- One byte further in a stream: a byte that is held, and a line that is answered.
 use Prim.Native.Nat.{ℕ, _+_, _≤_, _<_}
 use mathlib.Core.Path.{_≡_, refl, sym, ap, _∙_}
-use mathlib.Core.Bool.{true}
+use mathlib.Core.Bool.{true, false}
 use mathlib.Core.List.{List, [], _∷_, _++_, append-assoc, append-nil}
 use native.Mathlib.Numerals.{add-one}
 use native.Mathlib.Omega.{arith}
 use borrow.Author.Tests.{le-ltb, eq-eqb, ne-eqb}
-use types.Run.{OneOf}
-use denote.Enum.Declared.{tagOf}
 use lib.ListN.{length, getD, take, drop, set, take-append-drop, length-append, length-take, length-drop}
 use lib.Seq.{drop-cons, take-suc-set, take-all, take-at, drop-at, drop-drop, drop-append-le, length-take-le}
 use Rattle.hexadecimal.specs.Lines.{lineFeed}
-use Rattle.frames.specs.Frames.{frameOf, inside, decodedAs, enough}
+use Rattle.frames.specs.Frames.{frameOf, decodedAs, enough}
 use Rattle.frames.specs.declared.Decoded.{Decoded}
-use Rattle.frames.specs.declared.Way.{Way}
-use Rattle.frames.specs.declared.Decoded.the-variants.{Letter, Move}
-use Rattle.cents.specs.declared.KeyNumber.{KeyNumber}
-use Rattle.frames.proofs.Decoded as variants
-use Rattle.frames.proofs.Decoding.{letter-decoded}
-use Rattle.frames.proofs.Ranges.{letter-ranges}
 use Rattle.answers.specs.Answer.{smallestBuffer}
 use Rattle.tables.specs.Layout.{Tables}
 use Rattle.protocol.specs.declared.Desk.{Desk}
 use Rattle.protocol.specs.declared.Answered.{Answered}
 use Rattle.protocol.specs.declared.Told.{Told}
-use Rattle.protocol.specs.Answers.{Outcome, letterOutcome, moveOutcome, validDesk, answerOf, Gives}
-use Rattle.protocol.specs.Inner.{triggerCodes, toldOutcome, Tells}
-use Rattle.protocol.proofs.Ways.{gives, damaged, taken, on-letter, on-move, noLetter, noMove, toldBy, told-gives}
+use Rattle.protocol.specs.Answers.{Outcome, validDesk, answerOf, Gives}
+use Rattle.protocol.specs.Inner.{mayChange, changeOutcome, toldOutcome, Tells}
+use Rattle.protocol.proofs.Ways.{gives, damaged, taken, on-change, toldBy, told-gives}
 use Rattle.stream.specs.Feed.{Fed, feed, fedByte, fed, finished, streamed, SameStream}
 use Rattle.stream.specs.Inner.{SameLine, SameSkipped}
 use Rattle.stream.proofs.Whole.{enough-held}
@@ -135,21 +127,11 @@ module _ (chunk : List ℕ) (i : ℕ) (k : i < length chunk) where
       ∙ ap (λ (o : Outcome). streamed t (feed (o .desk) [] (out ++ o .line)) rest) (damaged t d l smallestBuffer (omega arith) refl v)
       ∙ sym (ap (finished t) (fed-on t (feed d l out) more ∙ rw (eq-eqb (getD chunk i 0) lineFeed b)))
 
--- ---- the answer to a frame, by its kind
+-- ---- the answer to a frame, whether it may change the desk or not
 
-module _ (line : List ℕ) {f : Decoded} (e : f ≡ decodedAs (frameOf line)) where
-  pub letter-byte : (house c : ℕ) → f ≡ Letter house c → inside (frameOf line) ≡ true → c < triggerCodes
-  letter-byte house c h i = omega (arith, letter-ranges house c (ap inside (sym (letter-decoded (frameOf line) (sym e ∙ h))) ∙ i) .3)
+module _ (line : List ℕ) {f : Decoded} (e : f ≡ decodedAs (frameOf line)) (t : Tables) (d : Desk) (room : ℕ) (m : smallestBuffer ≤ room) (v : validDesk t d ≡ true) where
+  pub change-answered : {r : Answered} {before after : List ℕ} → mayChange f ≡ true → Gives (changeOutcome t d f) r before after → Gives (answerOf t d line room) r before after
+  change-answered h g = gives (on-change t d (frameOf line) e h ∙ taken t d line room m refl v) g
 
-  module _ (t : Tables) (d : Desk) (room : ℕ) (m : smallestBuffer ≤ room) (v : validDesk t d ≡ true) where
-    pub letter-answered : (house c : ℕ) {r : Answered} {before after : List ℕ} → f ≡ Letter house c
-        → Gives (letterOutcome t d house c) r before after → Gives (answerOf t d line room) r before after
-    letter-answered house c h g = gives (on-letter t d (frameOf line) e house c h ∙ taken t d line room m refl v) g
-
-    pub move-answered : (way : Way) (house : ℕ) (k : KeyNumber) {r : Answered} {before after : List ℕ} → f ≡ Move way house k
-        → Gives (moveOutcome t d way house (k .0)) r before after → Gives (answerOf t d line room) r before after
-    move-answered way house k h g = gives (on-move t d (frameOf line) e way house k h ∙ taken t d line room m refl v) g
-
-    pub told-answered : {r : Told} {before after : List ℕ} → OneOf noLetter (tagOf variants.the-type f) → OneOf noMove (tagOf variants.the-type f)
-        → Tells (toldOutcome d f) r before after → Gives (answerOf t d line room) (toldBy d r) before after
-    told-answered h k r = gives (taken t d line room m refl v) (told-gives t d (frameOf line) e h k r)
+  pub told-answered : {r : Told} {before after : List ℕ} → mayChange f ≡ false → Tells (toldOutcome d f) r before after → Gives (answerOf t d line room) (toldBy d r) before after
+  told-answered h r = gives (taken t d line room m refl v) (told-gives t d (frameOf line) e h r)

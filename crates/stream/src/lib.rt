@@ -1,15 +1,13 @@
 // Bytes of standard input cut into lines, each line a frame, and the answers to it.
 use answers::SMALLEST_BUFFER;
-use frames::Decoded;
 use frames::ENOUGH;
 use hexadecimal::LINE_FEED;
 use protocol::Desk;
 use protocol::TRIGGERS;
-use protocol::answer_letter;
-use protocol::answer_move;
-use protocol::find_indexed;
+use protocol::answer_changing;
 use protocol::index_logics;
 use protocol::is_valid;
+use protocol::may_change;
 use protocol::tell;
 ghost use mathlib.Core.Path.{_≡_};
 ghost use mathlib.Core.Bool.{true};
@@ -127,13 +125,8 @@ pub fn fill_ready(
             break;
         }
         let frame = frames::decode(&held[..n]);
-        if let Decoded::Letter { house, letter } = frame {
-            let logic = find_indexed(index, letter as u16);
-            let r = answer_letter(numbers, codes, d, house, letter, logic, &mut out[used..]);
-            d = r.desk;
-            used += r.length;
-        } else if let Decoded::Move { way, house, key } = frame {
-            let r = answer_move(numbers, codes, d, way, house, key, &mut out[used..]);
+        if may_change(frame) {
+            let r = answer_changing(numbers, codes, index, d, frame, &mut out[used..]);
             d = r.desk;
             used += r.length;
         } else {

@@ -1,82 +1,66 @@
--- `protocol::take_frame` meets its contract: a letter, a key that goes down or up, or a frame that changes nothing. Assumes nothing.
-use mathlib.Core.Path.{subst}
+-- `protocol::take_frame` meets its contract: a frame that may change the desk, or one that may not. Assumes nothing.
+use mathlib.Core.Path.{sym, _∙_}
 use borrow.Author.Needs.{needs}
 use Rattle.frames.specs.Frames.{frameOf}
 use Rattle.validity.proofs.Laws.{slices-valid}
-use Rattle.protocol.specs.Inner.{KeyInside}
-use Rattle.protocol.proofs.Ways.{gives, key-inside, on-letter, on-move, told-gives}
+use Rattle.protocol.proofs.Ways.{gives, frame-inside, on-change, told-gives}
 use Rattle.protocol.proofs.take_frame.Statement.{statement}
 use Rattle.protocol.proofs.take_frame.Tie as tie
 
 decode-requires : tie.Need-decode-requires
 decode-requires c κs = search needs
 
-enum-known-taken : tie.Need-enum-known-taken
-enum-known-taken c = search needs
+may-change-requires : tie.Need-may-change-requires
+may-change-requires c κs = search needs
 
-cast-first-logic : tie.Need-cast-first-logic
-cast-first-logic c = search needs
+index-logics-requires : tie.Need-index-logics-requires
+index-logics-requires c κs =
+    let a = c .before .before .before .before .before .before in
+    slices-valid (a .args .numbers .now) (a .args .codes .now) (a .pre .tables)
 
-first-logic-requires : tie.Need-first-logic-requires
-first-logic-requires c κs = slices-valid (c .before .before .before .before .before .before .before .args .numbers .now) (c .before .before .before .before .before .before .before .args .codes .now) (c .before .before .before .before .before .before .before .pre .tables)
-
-answer-letter-requires : tie.Need-answer-letter-requires
-answer-letter-requires c κs = (c .before .before .before .before .before .before .before .before .before .pre, c .before .first-logic .ensures)
+answer-changing-requires : tie.Need-answer-changing-requires
+answer-changing-requires c κs =
+    let i = c .before .before in
+    let d = i .before .before .before in
+    let a = d .before .before .before .before in
+    (a .pre, (i .index-logics .ensures, frame-inside (frameOf (a .args .frame .now)) (d .decode .ensures .0) (d .decode .ensures .1)))
 
 same-length : tie.Need-same-length
 same-length c = search needs
 
 returns : tie.Need-returns
-returns c = gives (on-letter _ _ _ (c .before .before .before .before .before .before .before .before .decode .ensures .0) _ _ (c .before .before .before .before .before .before .taken .given .1)) (c .before .before .answer-letter .ensures .0)
-
-enum-known-taken-2 : tie.Need-enum-known-taken-2
-enum-known-taken-2 c = search needs
-
-answer-move-requires : tie.Need-answer-move-requires
-answer-move-requires c κs =
-    let m = c .before .before in
-    let d = m .before .before .before in
+returns c =
+    let m = c .before .before .before .before .before .before in
+    let d = m .before .before in
     let a = d .before .before .before .before in
-    (a .pre, subst KeyInside (m .taken2 .given .1) (key-inside (frameOf (a .args .frame .now)) (d .decode .ensures .0) (d .decode .ensures .1)))
+    gives (on-change _ (a .args .desk) (frameOf (a .args .frame .now)) (d .decode .ensures .0) (sym (m .before .may-change .ensures) ∙ m .if1 .taken)) (c .before .before .answer-changing .ensures .0)
+
+tell-requires : tie.Need-tell-requires
+tell-requires c κs =
+    let d = c .before .before .before in
+    let a = d .before .before .before .before in
+    (a .pre .state, a .pre .room, frame-inside (frameOf (a .args .frame .now)) (d .decode .ensures .0) (d .decode .ensures .1))
 
 same-length-2 : tie.Need-same-length-2
 same-length-2 c = search needs
 
 returns-2 : tie.Need-returns-2
 returns-2 c =
-    let m = c .before .before .before .before .before in
-    gives (on-move _ _ _ (m .before .before .before .decode .ensures .0) _ _ _ (m .taken2 .given .1)) (c .before .before .answer-move .ensures .0)
-
-tell-requires : tie.Need-tell-requires
-tell-requires c κs =
-    let d = c .before .before .before in
-    let a = d .before .before .before .before in
-    (a .pre .state, a .pre .room, key-inside (frameOf (a .args .frame .now)) (d .decode .ensures .0) (d .decode .ensures .1))
-
-same-length-3 : tie.Need-same-length-3
-same-length-3 c = search needs
-
-returns-3 : tie.Need-returns-3
-returns-3 c =
-    let d = c .before .before .before .before .before .before in
-    told-gives _ (d .before .before .before .before .args .desk) _ (d .decode .ensures .0) (c .before .before .before .before .before .match .keys2)
-    (c .before .before .before .before .match2 .keys2) (c .before .before .tell .ensures)
+    let e = c .before .before .before .before in
+    let d = e .before .before in
+    told-gives _ (d .before .before .before .before .args .desk) _ (d .decode .ensures .0) (sym (e .before .may-change .ensures) ∙ e .if1 .left)
+    (c .before .before .tell .ensures)
 
 pub take-frame-spec : {M : Type 1} → statement M
 take-frame-spec =
     tie.close
     (tie.spec
     decode-requires
-    enum-known-taken
-    cast-first-logic
-    first-logic-requires
-    answer-letter-requires
+    may-change-requires
+    index-logics-requires
+    answer-changing-requires
     same-length
     returns
-    enum-known-taken-2
-    answer-move-requires
-    same-length-2
-    returns-2
     tell-requires
-    same-length-3
-    returns-3)
+    same-length-2
+    returns-2)

@@ -1,7 +1,7 @@
 -- `protocol::tell` meets its contract, by the frame's kind. Assumes nothing.
 use mathlib.Core.Path.{refl, subst}
 use native.Mathlib.Omega.{arith}
-use Rattle.protocol.specs.Inner.{KeyInside}
+use Rattle.protocol.specs.Inner.{FrameInside}
 use Rattle.protocol.proofs.Ways.{tells, outcome-tells, key-gives}
 use borrow.Author.Needs.{needs}
 use Rattle.protocol.proofs.tell.Statement.{statement}
@@ -20,7 +20,7 @@ enum-known-frame : tie.Need-enum-known-frame
 enum-known-frame c = search needs
 
 sound-of-requires : tie.Need-sound-of-requires
-sound-of-requires c κs = let within = subst KeyInside (c .before .frame .given .1) (c .before .before .before .before .before .pre .2) in (c .before .before .before .before .before .pre .0, omega arith)
+sound-of-requires c κs = let within = subst FrameInside (c .before .frame .given .1) (c .before .before .before .before .before .pre .2) in (c .before .before .before .before .before .pre .0, omega arith)
 
 key-number-requires : tie.Need-key-number-requires
 key-number-requires c κs = search needs

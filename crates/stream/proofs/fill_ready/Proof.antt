@@ -1,32 +1,25 @@
 -- `stream::fill_ready` meets its contract. The loop's invariant: what is left to do is what was to be done.
 use mathlib.Core.Logic.{_⊎_, inl, inr, ⊎-elim}
-use mathlib.Core.Path.{_≡_, refl, sym, ap, _∙_, subst}
-use mathlib.Core.Bool.{true}
+use mathlib.Core.Path.{_≡_, refl, sym, ap, _∙_}
+use mathlib.Core.Bool.{true, false}
 use mathlib.Core.List.{List, [], _++_}
 use Prim.Native.Nat.{ℕ, _+_, _-_, _≤_, _<_}
 use native.Mathlib.Omega.{arith}
 use borrow.Author.Needs.{needs}
 use borrow.Rule.Slice.PartMut.{same-len-mid}
-use types.Run.{OneOf}
-use denote.Enum.Declared.{tagOf}
 use lib.ListN.{length, take, drop, length-take, length-drop}
 use lib.Seq.{length-take-le}
 use Rattle.frames.specs.Frames.{frameOf, enough}
-use Rattle.frames.specs.declared.Way.{Way}
-use Rattle.frames.specs.declared.Decoded.the-variants.{Letter, Move}
-use Rattle.cents.specs.declared.KeyNumber.{KeyNumber}
-use Rattle.frames.proofs.Decoded as variants
 use Rattle.answers.specs.Answer.{smallestBuffer}
 use Rattle.tables.specs.Layout.{Tables, tablesIn}
 use Rattle.protocol.specs.declared.Desk.{Desk}
 use Rattle.protocol.specs.declared.Answered.{Answered}
 use Rattle.protocol.specs.declared.Told.{Told}
-use Rattle.protocol.specs.Answers.{letterOutcome, moveOutcome, validDesk, answerOf, Gives}
-use Rattle.protocol.specs.Inner.{triggerCodes, Ready, KeyInside, toldOutcome, Tells}
-use Rattle.protocol.proofs.Ways.{desk-ready, key-inside, noLetter, noMove, toldBy}
-use Rattle.protocol.proofs.Index.{indexed}
+use Rattle.protocol.specs.Answers.{validDesk, answerOf, Gives}
+use Rattle.protocol.specs.Inner.{Ready, FrameInside, mayChange, changeOutcome, toldOutcome, Tells}
+use Rattle.protocol.proofs.Ways.{desk-ready, frame-inside, toldBy}
 use Rattle.stream.specs.Feed.{Fed, feed, streamed, SameStream}
-use Rattle.stream.proofs.Steps.{answer-fits, rest-kept, drop-more, on-line, letter-byte, letter-answered, move-answered, told-answered}
+use Rattle.stream.proofs.Steps.{answer-fits, rest-kept, drop-more, on-line, change-answered, told-answered}
 use Rattle.stream.proofs.fill_ready.Statement.{statement}
 use Rattle.stream.proofs.fill_ready.Tie as tie
 
@@ -115,20 +108,17 @@ slice-aggregate-decode c = sym (length-take-le _ _ (line-held (c .before .before
 decode-requires : tie.Need-decode-requires Inv-loop μ-loop
 decode-requires c κs = search needs
 
-enum-known-frame : tie.Need-enum-known-frame Inv-loop μ-loop
-enum-known-frame c = search needs
+may-change-requires : tie.Need-may-change-requires Inv-loop μ-loop
+may-change-requires c κs = search needs
 
-cast-find-indexed : tie.Need-cast-find-indexed Inv-loop μ-loop
-cast-find-indexed c = search needs
+sub-answer-changing : tie.Need-sub-answer-changing Inv-loop μ-loop
+sub-answer-changing c = search needs
 
-sub-answer-letter : tie.Need-sub-answer-letter Inv-loop μ-loop
-sub-answer-letter c = search needs
+part-answer-changing-start : tie.Need-part-answer-changing-start Inv-loop μ-loop
+part-answer-changing-start c = search needs
 
-part-answer-letter-start : tie.Need-part-answer-letter-start Inv-loop μ-loop
-part-answer-letter-start c = search needs
-
-part-answer-letter-end : tie.Need-part-answer-letter-end Inv-loop μ-loop
-part-answer-letter-end c = search needs
+part-answer-changing-end : tie.Need-part-answer-changing-end Inv-loop μ-loop
+part-answer-changing-end c = search needs
 
 -- once the frame is read: the line feed stands within the chunk, and all is ready for its answer
 module _ (c : tie.After-decode Inv-loop μ-loop) where
@@ -163,26 +153,16 @@ module _ (c : tie.After-decode Inv-loop μ-loop) where
   ready : Ready t d₁ part
   ready = desk-ready t d₁ part (turn line .loop .inv .known) room-here
 
-  byte-here : (house letter : ℕ) → c .decode .result ≡ Letter house letter → letter < triggerCodes
-  byte-here house letter e = letter-byte bytes (c .decode .ensures .0) house letter e (c .decode .ensures .1)
+  inside-here : FrameInside (c .decode .result)
+  inside-here = frame-inside (frameOf bytes) (c .decode .ensures .0) (c .decode .ensures .1)
 
-  letter-here : (house letter : ℕ) {r : Answered} {written : List ℕ} → c .decode .result ≡ Letter house letter
-      → Gives (letterOutcome t d₁ house letter) r part written → Gives (answerOf t d₁ bytes (length part)) r part written
-  letter-here house letter e g =
-      letter-answered bytes (c .decode .ensures .0) t d₁ (length part) room-here (turn line .loop .inv .known) house letter e g
+  change-here : {r : Answered} {written : List ℕ} → mayChange (c .decode .result) ≡ true
+      → Gives (changeOutcome t d₁ (c .decode .result)) r part written → Gives (answerOf t d₁ bytes (length part)) r part written
+  change-here h g = change-answered bytes (c .decode .ensures .0) t d₁ (length part) room-here (turn line .loop .inv .known) h g
 
-  move-here : (way : Way) (house : ℕ) (k : KeyNumber) {r : Answered} {written : List ℕ} → c .decode .result ≡ Move way house k
-      → Gives (moveOutcome t d₁ way house (k .0)) r part written → Gives (answerOf t d₁ bytes (length part)) r part written
-  move-here way house k e g =
-      move-answered bytes (c .decode .ensures .0) t d₁ (length part) room-here (turn line .loop .inv .known) way house k e g
-
-  told-here : {r : Told} {written : List ℕ} → OneOf noLetter (tagOf variants.the-type (c .decode .result)) → OneOf noMove (tagOf variants.the-type (c .decode .result))
+  told-here : {r : Told} {written : List ℕ} → mayChange (c .decode .result) ≡ false
       → Tells (toldOutcome d₁ (c .decode .result)) r part written → Gives (answerOf t d₁ bytes (length part)) (toldBy d₁ r) part written
-  told-here h k r = told-answered bytes (c .decode .ensures .0) t d₁ (length part) room-here (turn line .loop .inv .known) h k r
-
-  -- the key of the frame, if it has one, is one of the keyboard
-  key-here : KeyInside (c .decode .result)
-  key-here = key-inside (frameOf bytes) (c .decode .ensures .0) (c .decode .ensures .1)
+  told-here h r = told-answered bytes (c .decode .ensures .0) t d₁ (length part) room-here (turn line .loop .inv .known) h r
 
   -- an answer ends within the output
   module _ {r : Answered} {written : List ℕ} (g : Gives (answerOf t d₁ bytes (length part)) r part written) (k : length written ≡ length part) where
@@ -222,55 +202,19 @@ module _ (c : tie.After-decode Inv-loop μ-loop) where
               ∙ line-same line more;
         }
 
-find-indexed-requires : tie.Need-find-indexed-requires Inv-loop μ-loop
-find-indexed-requires c κs = byte-here (c .before .before .before) _ _ (c .before .frame .given .1)
-
-answer-letter-requires : tie.Need-answer-letter-requires Inv-loop μ-loop
-answer-letter-requires c κs =
-    let found-here = c .before in
-    let known = found-here .before .before in
-    let decoded-here = known .before .before in (
-      ready decoded-here,
-      indexed _ _ _ (byte-here decoded-here _ _ (known .frame .given .1))
-          (call (line decoded-here) .pre .1 .1) (found-here .find-indexed .ensures),
-    )
+answer-changing-requires : tie.Need-answer-changing-requires Inv-loop μ-loop
+answer-changing-requires c κs =
+    let decoded-here = c .before .before .before in
+    (ready decoded-here, (call (line decoded-here) .pre .1 .1, inside-here decoded-here))
 
 add-used : tie.Need-add-used Inv-loop μ-loop
 add-used c =
     let answered = c .before .before .before .before in
-    let known = answered .before .before .before .before in
-    let decoded-here = known .before .before in
+    let asked = answered .before .before .before in
+    let decoded-here = asked .before in
     let l = line decoded-here in
-    let g = letter-here decoded-here _ _ (known .frame .given .1) (answered .answer-letter .ensures .0) in
-    let k = answered .answer-letter .kept .1 .1 .1 .1 .1 .1 .0 in
-    omega (arith, answer-within decoded-here g k, turn l .loop .inv .out-length, call l .good)
-
-enum-known-frame-2 : tie.Need-enum-known-frame-2 Inv-loop μ-loop
-enum-known-frame-2 c = search needs
-
-sub-answer-move : tie.Need-sub-answer-move Inv-loop μ-loop
-sub-answer-move c = search needs
-
-part-answer-move-start : tie.Need-part-answer-move-start Inv-loop μ-loop
-part-answer-move-start c = search needs
-
-part-answer-move-end : tie.Need-part-answer-move-end Inv-loop μ-loop
-part-answer-move-end c = search needs
-
-answer-move-requires : tie.Need-answer-move-requires Inv-loop μ-loop
-answer-move-requires c κs =
-    let known = c .before .before in
-    let decoded-here = known .before .before .before in
-    (ready decoded-here, subst KeyInside (known .frame2 .given .1) (key-here decoded-here))
-
-add-used-2 : tie.Need-add-used-2 Inv-loop μ-loop
-add-used-2 c =
-    let answered = c .before .before .before .before in
-    let known = answered .before .before .before in
-    let decoded-here = known .before .before .before in
-    let l = line decoded-here in
-    let g = move-here decoded-here _ _ _ (known .frame2 .given .1) (answered .answer-move .ensures .0) in
-    let k = answered .answer-move .kept .1 .1 .1 .1 .1 .1 .0 in
+    let g = change-here decoded-here (sym (asked .may-change .ensures) ∙ answered .before .before .if3 .taken) (answered .answer-changing .ensures .0) in
+    let k = answered .answer-changing .kept .1 .1 .1 .1 .1 .0 in
     omega (arith, answer-within decoded-here g k, turn l .loop .inv .out-length, call l .good)
 
 sub-tell : tie.Need-sub-tell Inv-loop μ-loop
@@ -285,39 +229,34 @@ part-tell-end c = search needs
 tell-requires : tie.Need-tell-requires Inv-loop μ-loop
 tell-requires c κs =
     let decoded-here = c .before .before .before in
-    (ready decoded-here .state, ready decoded-here .room, key-here decoded-here)
+    (ready decoded-here .state, ready decoded-here .room, inside-here decoded-here)
 
-add-used-3 : tie.Need-add-used-3 Inv-loop μ-loop
-add-used-3 c =
+add-used-2 : tie.Need-add-used-2 Inv-loop μ-loop
+add-used-2 c =
     let told = c .before .before .before in
-    let other = told .before .before in
-    let decoded-here = other .before .before in
+    let asked = told .before .before .before in
+    let decoded-here = asked .before in
     let l = line decoded-here in
-    let g = told-here decoded-here (other .before .match .keys2) (other .match2 .keys2) (told .tell .ensures) in
+    let g = told-here decoded-here (sym (asked .may-change .ensures) ∙ told .before .before .if3 .left) (told .tell .ensures) in
     omega (arith, answer-within decoded-here g (told .tell .kept .1 .1 .0), turn l .loop .inv .out-length, call l .good)
 
 add-i : tie.Need-add-i Inv-loop μ-loop
-add-i c = omega (arith, feed-within (c .before), call (line (c .before)) .good)
+add-i c = let here = c .before .before in omega (arith, feed-within here, call (line here) .good)
 
 loop-less : tie.Need-loop-less Inv-loop μ-loop
-loop-less c = omega (arith, feed-within (c .before), line (c .before) .gather .ensures .0 .1)
+loop-less c = let here = c .before .before in omega (arith, feed-within here, line here .gather .ensures .0 .1)
 
 loop-again : tie.Need-loop-again Inv-loop μ-loop
 loop-again c =
-    let here = c .before in
+    let asked = c .before in
+    let here = asked .before in
     ⊎-elim
     (λ w.
-    next here (letter-here here _ _ (w .1 .given .1) (w .5 .ensures .0)) (w .5 .kept .1 .1 .1 .1 .1 .1 .0)
-    (w .5 .ensures .1) (w .10) (w .11) (w .12))
-    (λ v.
-    ⊎-elim
+    next here (change-here here (sym (asked .may-change .ensures) ∙ w .0 .taken) (w .2 .ensures .0)) (w .2 .kept .1 .1 .1 .1 .1 .0)
+    (w .2 .ensures .1) (w .7) (w .8) (w .9))
     (λ w.
-    next here (move-here here _ _ _ (w .2 .given .1) (w .5 .ensures .0)) (w .5 .kept .1 .1 .1 .1 .1 .1 .0)
-    (w .5 .ensures .1) (w .10) (w .11) (w .12))
-    (λ w.
-    next here (told-here here (w .0 .keys2) (w .1 .keys2) (w .3 .ensures)) (w .3 .kept .1 .1 .0) (turn (line here) .loop .inv .known) (w .7) (w .8) (w .9))
-    v)
-    (c .match .came)
+    next here (told-here here (sym (asked .may-change .ensures) ∙ w .0 .left) (w .2 .ensures)) (w .2 .kept .1 .1 .0) (turn (line here) .loop .inv .known) (w .6) (w .7) (w .8))
+    (c .if3 .came)
 
 same-length : tie.Need-same-length Inv-loop μ-loop
 same-length c = search needs
@@ -369,25 +308,17 @@ fill-ready-spec =
     slice-reshare-prefix-decode
     slice-aggregate-decode
     decode-requires
-    enum-known-frame
-    cast-find-indexed
-    find-indexed-requires
-    sub-answer-letter
-    part-answer-letter-start
-    part-answer-letter-end
-    answer-letter-requires
+    may-change-requires
+    sub-answer-changing
+    part-answer-changing-start
+    part-answer-changing-end
+    answer-changing-requires
     add-used
-    enum-known-frame-2
-    sub-answer-move
-    part-answer-move-start
-    part-answer-move-end
-    answer-move-requires
-    add-used-2
     sub-tell
     part-tell-start
     part-tell-end
     tell-requires
-    add-used-3
+    add-used-2
     add-i
     loop-less
     loop-again

@@ -1,7 +1,7 @@
--- `protocol::move_key` meets its contract, by the way. Assumes nothing.
+-- `protocol::chords::move_key` meets its contract, by the way. Assumes nothing.
 use borrow.Author.Needs.{needs}
-use Rattle.protocol.proofs.move_key.Statement.{statement}
-use Rattle.protocol.proofs.move_key.Tie as tie
+use Rattle.protocol.proofs.chords.move_key.Statement.{statement}
+use Rattle.protocol.proofs.chords.move_key.Tie as tie
 
 enum-told : tie.Need-enum-told
 enum-told c = search needs
