@@ -11,3 +11,4 @@ pub mod Ways
 pub mod Stays
 pub mod Audible
 pub mod Kept
+pub mod KeysHeld

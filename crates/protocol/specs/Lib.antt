@@ -4,4 +4,5 @@ pub mod Steps
 pub mod Answers
 pub mod Streams
 pub mod Kept
+pub mod KeysHeld
 pub mod Inner
