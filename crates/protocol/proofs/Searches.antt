@@ -2,14 +2,14 @@
 use mathlib.Core.Path.{_≡_, refl, sym, ap, _∙_}
 use mathlib.Core.Bool.{Bool, true, false}
 use mathlib.Core.List.{List, [], _∷_}
-use mathlib.Core.Option.{some, none, Option·none-ne-some, Option·some-injective}
+use mathlib.Core.Option.{Option, some, none, Option·none-ne-some, Option·some-injective}
 use Prim.Native.Nat.{ℕ, zero, suc, _+_, _-_, _≤_, _<_}
 use native.Mathlib.Numerals.{add-one}
 use native.Mathlib.Omega.{arith}
 use lib.IntN.{ℤ}
 use lib.ListN.{length, getD, take}
 use lib.Seq.{slice, length-slice, getD-drop, getD-take}
-use Rattle.tables.specs.Layout.{readAt, rowOf, asLogic}
+use Rattle.tables.specs.Layout.{readAt, rowOf, AsLogic, no-logic, a-logic, asLogic}
 use Rattle.protocol.specs.Triggers.{passes, firstLogic, firstOrder}
 
 -- ---- the first logic
@@ -48,6 +48,42 @@ logic-found rows p i (suc n) {k} e = go (passes p (asLogic (rowOf (readAt rows i
         let z = Option·some-injective i k q in
         (omega arith, ap (λ (j : ℕ). passes p (asLogic (rowOf (readAt rows j)))) (sym z) ∙ h)
     go false h later q = let z = later q in (omega (arith, z .0), z .1)
+
+-- by a test that passes only what another passes: nothing stands before the first that the other passes
+module _ (rows : List ℤ) (p q : ℕ → Bool) (only : (c : ℕ) → p c ≡ false → q c ≡ false) where
+  passes-only : (l : AsLogic) → passes p l ≡ false → passes q l ≡ false
+  passes-only no-logic h = refl
+  passes-only (a-logic c s from to) h = only c h
+
+  pub none-only : (i n : ℕ) → firstLogic rows p i n ≡ none → firstLogic rows q i n ≡ none
+  unfolding firstLogic
+  none-only i zero e = refl
+  none-only i (suc n) e = go (passes p (asLogic (rowOf (readAt rows i)))) refl (none-only (suc i) n) e
+    where
+      go : (b : Bool) → passes p (asLogic (rowOf (readAt rows i))) ≡ b → (firstLogic rows p (suc i) n ≡ none → firstLogic rows q (suc i) n ≡ none) → _≡_ {A = Option ℕ} (elim b [ true ↦ some i | false ↦ firstLogic rows p (suc i) n ]) none
+          → _≡_ {A = Option ℕ} (elim (passes q (asLogic (rowOf (readAt rows i)))) [ true ↦ some i | false ↦ firstLogic rows q (suc i) n ]) none
+      go true h later f = absurd (Option·none-ne-some i (sym f))
+      go false h later f = rw (passes-only (asLogic (rowOf (readAt rows i))) h) (later f)
+
+  pub some-only : (i n : ℕ) {k : ℕ} → firstLogic rows p i n ≡ some k → (i ≤ k) × (k < i + n) × (firstLogic rows q i n ≡ firstLogic rows q k (i + n - k))
+  unfolding firstLogic
+  some-only i zero {k} e = absurd (Option·none-ne-some k e)
+  some-only i (suc n) {k} e = go (passes p (asLogic (rowOf (readAt rows i)))) refl (some-only (suc i) n) e
+    where
+      Later : ℕ → ℕ → Type 0
+      Later j m = (j ≤ k) × (k < j + m) × (firstLogic rows q j m ≡ firstLogic rows q k (j + m - k))
+
+      go : (b : Bool) → passes p (asLogic (rowOf (readAt rows i))) ≡ b → (firstLogic rows p (suc i) n ≡ some k → Later (suc i) n) → elim b [ true ↦ some i | false ↦ firstLogic rows p (suc i) n ] ≡ some k
+          → (i ≤ k) × (k < i + suc n)
+          × (elim (passes q (asLogic (rowOf (readAt rows i)))) [ true ↦ some i | false ↦ firstLogic rows q (suc i) n ] ≡ firstLogic rows q k (i + suc n - k))
+      go true h later f =
+          let z = Option·some-injective i k f in
+          let m : suc n ≡ i + suc n - i = omega arith in
+          (omega (arith, z), omega (arith, z), ap (firstLogic rows q i) m ∙ ap (λ (x : ℕ). firstLogic rows q x (i + suc n - x)) z)
+      go false h later f =
+          let r = later f in
+          let m : suc i + n - k ≡ i + suc n - k = omega arith in
+          (omega (arith, r .0), omega (arith, r .1), rw (passes-only (asLogic (rowOf (readAt rows i))) h) (r .2 ∙ ap (firstLogic rows q k) m))
 
 -- ---- the first order
 

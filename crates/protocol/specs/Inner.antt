@@ -68,7 +68,7 @@ abbrev pub decoded : ℕ → Option ℕ
 decoded zero = none
 decoded (suc k) = some k
 
--- how many codes of triggers there are
+-- what is no trigger
 abbrev pub triggerCodes : ℕ
 triggerCodes = 1024
 
@@ -80,9 +80,23 @@ logicTrigger n = cond (eqb (n .form) logicForm) (up (n .first)) triggerCodes
 abbrev pub isTrigger : ℕ → ℕ → Bool
 isTrigger trigger code = eqb code trigger
 
--- of each trigger the first logic with it
+-- a trigger that is a harmony
+abbrev pub isHarmonic : ℕ → Bool
+isHarmonic code = leb harmonyBase code
+
+-- an index of the logics: of each letter the first logic with it; and from 256 on, of each row and of the place behind the last, the first row from it on
+-- that is a logic whose trigger is a harmony
+abbrev pub indexSize : ℕ
+indexSize = 1025
+
+pub record Lettered (rows : List ℤ) (count : ℕ) (index : List ℕ) : Type 0 where
+  pub size : length index ≡ indexSize
+  pub first : (trigger : ℕ) → trigger < harmonyBase → getD index trigger 0 ≡ oneMore (firstLogic rows (isTrigger trigger) 0 count)
+  pub rest : (j : ℕ) → harmonyBase ≤ j → getD index j 0 ≡ 0
+
 pub record Indexed (rows : List ℤ) (count : ℕ) (index : List ℕ) : Type 0 where
-  pub first : (trigger : ℕ) → trigger < triggerCodes → getD index trigger 0 ≡ oneMore (firstLogic rows (isTrigger trigger) 0 count)
+  pub first : (trigger : ℕ) → trigger < harmonyBase → getD index trigger 0 ≡ oneMore (firstLogic rows (isTrigger trigger) 0 count)
+  pub next : (i : ℕ) → i ≤ count → getD index (harmonyBase + i) 0 ≡ oneMore (firstLogic rows isHarmonic i (count - i))
 
 abbrev pub IndexOf : Tables → List ℕ → Type 0
 IndexOf t index = Indexed (t .rows) (rowCount t) index
@@ -273,7 +287,7 @@ pub record Ready (t : Tables) (d : Desk) (buffer : List ℕ) : Type 0 where
 -- a letter is one of the codes; the key that is asked for, or moves, is one of the keyboard, and its house one of the two
 abbrev pub FrameInside : Decoded → Type 0
 FrameInside Bad = Unit
-FrameInside (Letter house letter) = letter < triggerCodes
+FrameInside (Letter house letter) = letter < harmonyBase
 FrameInside (Key house key) = key .0 ≤ lastKey
 FrameInside (Dump house) = Unit
 FrameInside (Move way house key) = Place house (key .0)

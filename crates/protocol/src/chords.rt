@@ -3,6 +3,7 @@ use crate::Active;
 use crate::Callee;
 use crate::Chord;
 use crate::Desk;
+use crate::INDEX_SIZE;
 use crate::Search;
 use crate::triggers;
 use crate::triggers::Called;
@@ -26,17 +27,17 @@ use tables::TONES_AT;
 use tables::decode;
 ghost use mathlib.Core.Path.{_≡_};
 ghost use mathlib.Core.Bool.{true};
-ghost use Prim.Native.Nat.{ℕ, _<_};
+ghost use Prim.Native.Nat.{ℕ, _≤_, _<_};
 ghost use lib.ListN.{getD};
 ghost use lib.Seq.{slice};
 ghost use Rattle.tuning.specs.State.{validState};
 ghost use Rattle.keys.specs.Keys.{Place};
-ghost use Rattle.tables.specs.Layout.{tablesIn, triggersIn, callsIn, rowOf, readAt, asLogic, asHarmony};
+ghost use Rattle.tables.specs.Layout.{tablesIn, triggersIn, callsIn, rowOf, readAt, asLogic, asHarmony, mostRows};
 ghost use Rattle.validity.specs.Valid.{validTables};
 ghost use Rattle.protocol.specs.Triggers.{matching, matchesAs, passes, firstLogic, firstOrder};
 ghost use Rattle.protocol.specs.Steps.{chordOn, keyMoved, moveStep};
 ghost use Rattle.protocol.specs.Answers.{activeRight, validDesk};
-ghost use Rattle.protocol.specs.Inner.{found, calledIn, calledBy, soundsIn, firstOf, codeOf, Finds, ChordFits, SetsFit, Audible, AudibleLogic, AudibleRows, OrderPart};
+ghost use Rattle.protocol.specs.Inner.{found, Indexed, IndexOf, calledIn, calledBy, soundsIn, firstOf, codeOf, Finds, ChordFits, SetsFit, Audible, AudibleLogic, AudibleRows, OrderPart};
 
 // A trigger's code, where there is one.
 enum Code {
@@ -99,16 +100,20 @@ fn is_sounding_logic(rows: &[i32], i: usize, chord: Chord) -> bool
     is_sounding(rows, decode::natural(n.first), chord)
 }
 
-// The first of the rows that is a logic whose trigger the chord matches.
-fn find_logic(rows: &[i32], count: u32, chord: Chord) -> Callee
+// The first of the rows that is a logic whose trigger the chord matches, by the index: only logics whose trigger is a harmony are tried.
+fn find_logic(rows: &[i32], index: &[u32; INDEX_SIZE], count: u32, chord: Chord) -> Callee
+    requires { ⌜ (count ≤ mostRows) × Indexed (now rows) count (now index) ⌝ }
     requires { ⌜ AudibleRows (now rows) count ⌝ }
     requires { ⌜ ChordFits chord ⌝ }
     ensures { λ r. ⌜ r ≡ found (firstLogic (now (rows .entry)) (soundsIn (now (rows .entry)) chord) 0 count) ⌝ }
 {
-    for i in 0..count {
+    let mut next = index[HARMONY_BASE as usize];
+    while next != 0 {
+        let i = next - 1;
         if is_sounding_logic(rows, i as usize, chord) {
             return Callee::Row(i);
         }
+        next = index[HARMONY_BASE as usize + next as usize];
     }
     Callee::Nothing
 }
@@ -143,15 +148,22 @@ fn find_order(rows: &[i32], orders: &[u16], from: usize, to: usize, chord: Chord
 }
 
 // What the chord calls: a logic, else by an order of the active logic.
-fn find_called(numbers: &[i32], codes: &[u16], active: Active, chord: Chord) -> Called
+fn find_called(
+    numbers: &[i32],
+    codes: &[u16],
+    index: &[u32; INDEX_SIZE],
+    active: Active,
+    chord: Chord,
+) -> Called
     requires { ⌜ validTables (tablesIn (now numbers) (now codes)) ≡ true ⌝ }
+    requires { ⌜ IndexOf (tablesIn (now numbers) (now codes)) (now index) ⌝ }
     requires { ⌜ activeRight (tablesIn (now numbers) (now codes)) active ≡ true ⌝ }
     requires { ⌜ ChordFits chord ⌝ }
     ensures { λ r. ⌜ r ≡ calledBy (tablesIn (now (numbers .entry)) (now (codes .entry))) active (matching chord) ⌝ }
 {
     let used = Counts::read(&codes[0..SOUNDING_AT]);
     let rows = &numbers[0..TONES_AT];
-    if let Callee::Row(i) = find_logic(rows, used.rows, chord) {
+    if let Callee::Row(i) = find_logic(rows, index, used.rows, chord) {
         return Called::Logic(i);
     }
     let Active::Logic(i) = active else {
@@ -185,12 +197,14 @@ fn move_key(held: HeldKeys, way: Way, house: u8, key: KeyNumber) -> Changed
 pub fn search_key(
     numbers: &[i32],
     codes: &[u16],
+    index: &[u32; INDEX_SIZE],
     desk: Desk,
     way: Way,
     house: u8,
     key: KeyNumber,
 ) -> Search
     requires { ⌜ validDesk (tablesIn (now numbers) (now codes)) desk ≡ true ⌝ }
+    requires { ⌜ IndexOf (tablesIn (now numbers) (now codes)) (now index) ⌝ }
     requires { ⌜ Place house (key .0) ⌝ }
     ensures { λ r. ⌜ Finds (tablesIn (now (numbers .entry)) (now (codes .entry))) house desk (moveStep (tablesIn (now (numbers .entry)) (now (codes .entry))) way house desk (key .0)) r ⌝ }
 {
@@ -207,7 +221,7 @@ pub fn search_key(
     }
     let keys = moved.held;
     let chord = chord_of(desk.with_keys(keys));
-    let found = find_called(numbers, codes, active, chord);
+    let found = find_called(numbers, codes, index, active, chord);
     Search {
         keys,
         found,

@@ -25,16 +25,17 @@ ghost use mathlib.Core.Bool.{true};
 ghost use Prim.Native.Nat.{_≤_, _<_};
 ghost use lib.ListN.{length, getD};
 ghost use Rattle.tuning.specs.State.{heard, validState};
-ghost use Rattle.tables.specs.Layout.{tablesIn};
+ghost use Rattle.tables.specs.Layout.{tablesIn, harmonyBase};
 ghost use Rattle.tables.specs.Values.{Slices};
+ghost use Rattle.validity.specs.Valid.{validTables};
 ghost use Rattle.frames.specs.Frames.{frameOf};
 ghost use Rattle.answers.specs.Answer.{smallestBuffer};
 ghost use Rattle.protocol.specs.Steps.{withTuning, withActive, withKeys};
 ghost use Rattle.protocol.specs.Answers.{startDesk, keyNumber, frameOutcome, activeRight, validDesk, answerOf, Gives};
-ghost use Rattle.protocol.specs.Inner.{found, decoded, triggerCodes, IndexOf, Ready, FrameInside, mayChange, headOf, stepOf, changeOutcome, Finds, toldOutcome, Tells};
+ghost use Rattle.protocol.specs.Inner.{found, decoded, IndexOf, Ready, FrameInside, mayChange, headOf, stepOf, changeOutcome, Finds, toldOutcome, Tells};
 
-// How many codes of triggers there are. A letter's code is its byte; from 256 on there is room for each declaration that a text can have.
-pub const TRIGGERS: usize = 1024;
+// The places of the index: 256 for letters, one for each declaration that a text can have, and one behind the last.
+pub const INDEX_SIZE: usize = 1025;
 
 // The active logic, by the number of its declaration.
 pub enum Active {
@@ -174,18 +175,20 @@ pub fn is_valid(numbers: &[i32], codes: &[u16], desk: Desk) -> bool
     has_logic(numbers, codes, i)
 }
 
-// Of each trigger the first logic that it calls, as 1 more than its number; 0 for none. No frame changes it, so a stream makes it once.
-pub fn index_logics(numbers: &[i32], codes: &[u16]) -> [u32; TRIGGERS]
-    requires { ⌜ Slices (now numbers) (now codes) ⌝ }
+// The index of the logics (`index_rows`, `chain_rows`). No frame changes it, so a stream makes it once.
+pub fn index_logics(numbers: &[i32], codes: &[u16]) -> [u32; INDEX_SIZE]
+    requires { ⌜ validTables (tablesIn (now numbers) (now codes)) ≡ true ⌝ }
     ensures { λ r. ⌜ IndexOf (tablesIn (now (numbers .entry)) (now (codes .entry))) r ⌝ }
 {
     let used = Counts::read(&codes[0..SOUNDING_AT]);
-    triggers::index_rows(&numbers[0..TONES_AT], used.rows)
+    let rows = &numbers[0..TONES_AT];
+    let letters = triggers::index_rows(rows, used.rows);
+    triggers::chain_rows(letters, rows, used.rows)
 }
 
-// The first logic with this trigger, from the index.
-pub fn find_indexed(index: &[u32; TRIGGERS], trigger: u16) -> Callee
-    requires { ⌜ trigger < triggerCodes ⌝ }
+// The first logic with this letter, from the index.
+pub fn find_indexed(index: &[u32; INDEX_SIZE], trigger: u16) -> Callee
+    requires { ⌜ trigger < harmonyBase ⌝ }
     ensures { λ r. ⌜ r ≡ found (decoded (getD (now (index .entry)) trigger 0)) ⌝ }
 {
     let k = index[trigger as usize];
@@ -230,7 +233,7 @@ pub fn may_change(frame: Decoded) -> bool
 fn search_frame(
     numbers: &[i32],
     codes: &[u16],
-    index: &[u32; TRIGGERS],
+    index: &[u32; INDEX_SIZE],
     desk: Desk,
     frame: Decoded,
 ) -> Search
@@ -243,7 +246,7 @@ fn search_frame(
         return triggers::search_letter(numbers, codes, index, desk, letter);
     }
     if let Decoded::Move { way, house, key } = frame {
-        return chords::search_key(numbers, codes, desk, way, house, key);
+        return chords::search_key(numbers, codes, index, desk, way, house, key);
     }
     let keys = desk.keys;
     Search {
@@ -283,7 +286,7 @@ fn head_of(frame: Decoded) -> Head
 pub fn answer_changing(
     numbers: &[i32],
     codes: &[u16],
-    index: &[u32; TRIGGERS],
+    index: &[u32; INDEX_SIZE],
     desk: Desk,
     frame: Decoded,
     buffer: &mut [u8],

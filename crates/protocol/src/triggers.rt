@@ -2,9 +2,9 @@
 use crate::Active;
 use crate::Callee;
 use crate::Desk;
+use crate::INDEX_SIZE;
 use crate::Search;
 use crate::Stepped;
-use crate::TRIGGERS;
 use crate::find_indexed;
 use orders::Kind;
 use orders::Order;
@@ -14,6 +14,7 @@ use status::LETTER_UNBOUND;
 use tables::ANCHOR_FORM;
 use tables::CHANGES_AT;
 use tables::CODES;
+use tables::HARMONY_BASE;
 use tables::KINDS_AT;
 use tables::LOGIC_FORM;
 use tables::NUMBERS;
@@ -31,17 +32,17 @@ use tables::decode;
 use tuning::Reply;
 use tuning::State;
 ghost use mathlib.Core.Path.{_≡_};
-ghost use mathlib.Core.Bool.{true};
+ghost use mathlib.Core.Bool.{true, cond};
 ghost use mathlib.Core.List.{[], _∷_};
 ghost use Prim.Native.Nat.{ℕ, _+_, _≤_, _<_, min};
 ghost use lib.Seq.{slice};
 ghost use Rattle.tuning.specs.State.{validState};
-ghost use Rattle.tables.specs.Layout.{tablesIn, triggersIn, callsIn};
+ghost use Rattle.tables.specs.Layout.{tablesIn, triggersIn, callsIn, rowOf, asLogic, mostRows, harmonyBase};
 ghost use Rattle.tables.specs.Values.{Slices};
-ghost use Rattle.protocol.specs.Triggers.{itself, firstOrder, startCalls};
+ghost use Rattle.protocol.specs.Triggers.{itself, passes, firstOrder, startCalls};
 ghost use Rattle.protocol.specs.Steps.{letterStep};
 ghost use Rattle.protocol.specs.Answers.{validDesk};
-ghost use Rattle.protocol.specs.Inner.{isTrigger, triggerCodes, logicFor, logicTrigger, Indexed, IndexOf, Finds, kindAt, calledIn, calledBy, partSize, gathered, callsOf, struckBy, tunedBy, foundTuned, callsLeave, OrderPart, ActiveReadable, Callable, CallableFound, struckAs, struckIn, struckLeaves, Within};
+ghost use Rattle.protocol.specs.Inner.{isTrigger, isHarmonic, logicFor, logicTrigger, Lettered, Indexed, IndexOf, Finds, kindAt, calledIn, calledBy, partSize, gathered, callsOf, struckBy, tunedBy, foundTuned, callsLeave, OrderPart, ActiveReadable, Callable, CallableFound, struckAs, struckIn, struckLeaves, Within};
 
 // What is no trigger.
 const NO_TRIGGER: u32 = 1024;
@@ -70,20 +71,51 @@ fn logic_trigger(n: Numbers) -> u32
     decode::natural(n.first)
 }
 
-// Of each trigger the first of the rows that is a logic with it, as 1 more than its number; 0 for none. The last rows come first.
-pub fn index_rows(rows: &[i32], count: u32) -> [u32; TRIGGERS]
-    ensures { λ r. ⌜ Indexed (now (rows .entry)) count r ⌝ }
+// Of each letter the first of the rows that is a logic with it, as 1 more than its number; 0 for none. The last rows come first.
+pub fn index_rows(rows: &[i32], count: u32) -> [u32; INDEX_SIZE]
+    ensures { λ r. ⌜ Lettered (now (rows .entry)) count r ⌝ }
 {
-    let mut index = [0u32; TRIGGERS];
+    let mut index = [0u32; INDEX_SIZE];
     let mut i = count;
     while 0 < i {
         i -= 1;
         let key = logic_trigger(decode::numbers_at(rows, i as usize));
-        if key < NO_TRIGGER {
+        if key < HARMONY_BASE as u32 {
             index[key as usize] = i + 1;
         }
     }
     index
+}
+
+// The first of row i and those behind it that is a logic whose trigger is a harmony, likewise; `next` is the first of those behind it.
+fn next_chord(n: Numbers, i: u32, next: u32) -> u32
+    requires { ⌜ i < mostRows ⌝ }
+    ensures { λ r. ⌜ r ≡ cond (passes isHarmonic (asLogic (rowOf n))) (i + 1) next ⌝ }
+{
+    let form = n.form;
+    if form != LOGIC_FORM {
+        return next;
+    }
+    if decode::natural(n.first) < HARMONY_BASE as u32 {
+        return next;
+    }
+    i + 1
+}
+
+// The same of each row, behind the letters of an index.
+pub fn chain_rows(index: [u32; INDEX_SIZE], rows: &[i32], count: u32) -> [u32; INDEX_SIZE]
+    requires { ⌜ (count ≤ mostRows) × Lettered (now rows) count index ⌝ }
+    ensures { λ r. ⌜ Indexed (now (rows .entry)) count r ⌝ }
+{
+    let mut chain = index;
+    let mut next = 0u32;
+    let mut i = count;
+    while 0 < i {
+        i -= 1;
+        next = next_chord(decode::numbers_at(rows, i as usize), i, next);
+        chain[HARMONY_BASE as usize + i as usize] = next;
+    }
+    chain
 }
 
 // The kind of declaration k.
@@ -343,13 +375,13 @@ pub fn strike(
 pub fn search_letter(
     numbers: &[i32],
     codes: &[u16],
-    index: &[u32; TRIGGERS],
+    index: &[u32; INDEX_SIZE],
     desk: Desk,
     letter: u8,
 ) -> Search
     requires { ⌜ validDesk (tablesIn (now numbers) (now codes)) desk ≡ true ⌝ }
     requires { ⌜ IndexOf (tablesIn (now numbers) (now codes)) (now index) ⌝ }
-    requires { ⌜ letter < triggerCodes ⌝ }
+    requires { ⌜ letter < harmonyBase ⌝ }
     ensures { λ r. ⌜ ((house : ℕ) → Finds (tablesIn (now (numbers .entry)) (now (codes .entry))) house desk (letterStep (tablesIn (now (numbers .entry)) (now (codes .entry))) house desk letter) r) ⌝ }
 {
     let code = letter as u16;

@@ -9,7 +9,7 @@ use libc::STDIN_FILENO;
 use libc::STDOUT_FILENO;
 use opening::open_text;
 use protocol::Desk;
-use protocol::TRIGGERS;
+use protocol::INDEX_SIZE;
 use protocol::index_logics;
 use protocol::is_valid;
 use status::DONE;
@@ -128,7 +128,7 @@ fn fail_to_write(desk: Desk) -> Served
 fn serve_chunk(
     numbers: &[i32],
     codes: &[u16],
-    index: &[u32; TRIGGERS],
+    index: &[u32; INDEX_SIZE],
     desk: Desk,
     held: &mut [u8],
     count: usize,

@@ -3,7 +3,7 @@ use answers::SMALLEST_BUFFER;
 use frames::ENOUGH;
 use hexadecimal::LINE_FEED;
 use protocol::Desk;
-use protocol::TRIGGERS;
+use protocol::INDEX_SIZE;
 use protocol::answer_changing;
 use protocol::index_logics;
 use protocol::is_valid;
@@ -95,7 +95,7 @@ fn skip_lines(held: &mut [u8], count: usize, chunk: &[u8], from: usize) -> usize
 pub fn fill_ready(
     numbers: &[i32],
     codes: &[u16],
-    index: &[u32; TRIGGERS],
+    index: &[u32; INDEX_SIZE],
     desk: Desk,
     held: &mut [u8],
     start: Cursor,

@@ -39,7 +39,7 @@ search-key-requires : tie.Need-search-key-requires
 search-key-requires c κs =
     let f = c .before in
     let a = f .before .before .before .before in
-    (a .pre .0, subst FrameInside (f .frame2 .given .1) (a .pre .1 .1))
+    (a .pre .0, (a .pre .1 .0, subst FrameInside (f .frame2 .given .1) (a .pre .1 .1)))
 
 returns-2 : tie.Need-returns-2
 returns-2 c =

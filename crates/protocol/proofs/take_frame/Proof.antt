@@ -2,7 +2,6 @@
 use mathlib.Core.Path.{sym, _∙_}
 use borrow.Author.Needs.{needs}
 use Rattle.frames.specs.Frames.{frameOf}
-use Rattle.validity.proofs.Laws.{slices-valid}
 use Rattle.protocol.proofs.Ways.{gives, frame-inside, on-change, told-gives}
 use Rattle.protocol.proofs.take_frame.Statement.{statement}
 use Rattle.protocol.proofs.take_frame.Tie as tie
@@ -15,8 +14,7 @@ may-change-requires c κs = search needs
 
 index-logics-requires : tie.Need-index-logics-requires
 index-logics-requires c κs =
-    let a = c .before .before .before .before .before .before in
-    slices-valid (a .args .numbers .now) (a .args .codes .now) (a .pre .tables)
+    c .before .before .before .before .before .before .pre .tables
 
 answer-changing-requires : tie.Need-answer-changing-requires
 answer-changing-requires c κs =

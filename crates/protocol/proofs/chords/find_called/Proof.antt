@@ -3,19 +3,19 @@ use mathlib.Core.Path.{_≡_, sym, ap, _∙_, subst}
 use mathlib.Core.Bool.{Bool, true}
 use mathlib.Core.List.{List}
 use mathlib.Core.Option.{Option, none}
-use Prim.Native.Nat.{ℕ, _*_, _<_}
+use Prim.Native.Nat.{ℕ, _*_, _≤_, _<_}
 use native.Mathlib.Omega.{arith}
 use lib.ListN.{take, drop, getD}
 use lib.Seq.{slice}
 use Rattle.tables.specs.declared.Counts.{Counts}
-use Rattle.tables.specs.Layout.{Tables, tablesIn, rowCount, rowAt, ordersAt, orderWidth, mostOrders, triggersIn, callsIn}
+use Rattle.tables.specs.Layout.{Tables, tablesIn, rowCount, rowAt, mostRows, ordersAt, orderWidth, mostOrders, triggersIn, callsIn}
 use Rattle.tables.specs.Values.{Slices}
 use Rattle.tables.proofs.Sizes.{section-last}
-use Rattle.validity.proofs.Laws.{slices-valid, ValidRow}
+use Rattle.validity.proofs.Laws.{valid-of, slices-valid, ValidRow}
 use Rattle.protocol.specs.declared.Active.the-variants as active
 use Rattle.protocol.specs.Triggers.{matching, answersTo, firstLogic, firstOrder, elseOrder}
 use Rattle.protocol.specs.Answers.{activeRight}
-use Rattle.protocol.specs.Inner.{found, calledIn, Audible, AudibleRows, OrderPart, OrdersThere, ActiveReadable}
+use Rattle.protocol.specs.Inner.{found, Indexed, calledIn, Audible, AudibleRows, OrderPart, OrdersThere, ActiveReadable}
 use Rattle.protocol.proofs.Audible.{audible-rows, audible-orders}
 use Rattle.protocol.proofs.Pressable.{active-readable, active-row}
 use Rattle.protocol.proofs.Searches.{logic-found}
@@ -63,8 +63,10 @@ find-logic-requires : tie.Need-find-logic-requires
 unfolding tablesIn
 find-logic-requires c κs =
     let r = c .before in
-    let a = r .before .before .before in
-    (subst (λ (u : Counts). AudibleRows (lent a .rows) (u .rows)) (sym (r .read .ensures)) (audible-rows (lent a) (a .pre .0)), a .pre .1 .1)
+    let a = r .before .before .before in (
+      subst (λ (u : Counts). (u .rows ≤ mostRows) × Indexed (lent a .rows) (u .rows) (a .args .index .now)) (sym (r .read .ensures)) (valid-of (lent a) (a .pre .0) .room .rows, a .pre .1 .0),
+      (subst (λ (u : Counts). AudibleRows (lent a .rows) (u .rows)) (sym (r .read .ensures)) (audible-rows (lent a) (a .pre .0)), a .pre .1 .1 .1),
+    )
 
 -- the first logic, as it was found
 looked : (c : tie.After-find-logic) → let a = c .before .before .before .before .before in
@@ -116,7 +118,7 @@ module _ (c : tie.After-active) where
   start = c .before .before .before .before .before .before .before .before .before
 
   is-active : activeRight (lent start) (active.Logic (c .active .given .0 .0)) ≡ true
-  is-active = ap (activeRight (lent start)) (sym (c .active .given .1)) ∙ start .pre .1 .0
+  is-active = ap (activeRight (lent start)) (sym (c .active .given .1)) ∙ start .pre .1 .1 .0
 
   readable : ActiveReadable (lent start) (active.Logic (c .active .given .0 .0))
   readable = active-readable (lent start) (start .pre .0) (active.Logic (c .active .given .0 .0)) is-active
@@ -174,7 +176,7 @@ find-order-requires c κs =
     let there = subst (OrdersThere t) e (readable k .1) in
     let logical = subst (ValidRow t) e (active-row t (a .pre .0) (k .active .given .0 .0) (is-active k)) in (
       subst (λ (os : List ℕ). OrderPart (triggersIn os) (callsIn os) from to) (sym (orders-all a)) there,
-      (subst (λ (os : List ℕ). (i : ℕ) → i < to → Audible (t .rows) (getD (triggersIn os) i 0)) (sym (orders-all a)) (audible-orders t (a .pre .0) to (logical .within)), a .pre .1 .1),
+      (subst (λ (os : List ℕ). (i : ℕ) → i < to → Audible (t .rows) (getD (triggersIn os) i 0)) (sym (orders-all a)) (audible-orders t (a .pre .0) to (logical .within)), a .pre .1 .1 .1),
     )
 
 returns-4 : tie.Need-returns-4

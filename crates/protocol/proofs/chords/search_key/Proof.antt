@@ -60,7 +60,7 @@ chord-of-requires c κs =
 find-called-requires : tie.Need-find-called-requires
 find-called-requires c κs =
     let a = c .before .before .before .before .before .before .before in
-    (tables-right (lent a) (a .args .desk) (a .pre .0), (right a .active, c .chord-of .ensures .1))
+    (tables-right (lent a) (a .args .desk) (a .pre .0), (a .pre .1 .0, (right a .active, c .chord-of .ensures .1)))
 
 returns-2 : tie.Need-returns-2
 unfolding triggered moveStep

@@ -30,6 +30,9 @@ numbers-at-requires c κs = search needs
 logic-trigger-requires : tie.Need-logic-trigger-requires Inv-loop μ-loop
 logic-trigger-requires c κs = search needs
 
+cast-if1 : tie.Need-cast-if1 Inv-loop μ-loop
+cast-if1 c = search needs
+
 add-index : tie.Need-add-index Inv-loop μ-loop
 add-index c = search needs
 
@@ -81,6 +84,7 @@ index-rows-spec =
     cast-numbers-at
     numbers-at-requires
     logic-trigger-requires
+    cast-if1
     add-index
     cast-index
     mul-index
