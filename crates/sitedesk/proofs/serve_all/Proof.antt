@@ -9,7 +9,6 @@ use Rattle.tables.specs.Layout.{tablesIn}
 use Rattle.frames.specs.Frames.{enough}
 use Rattle.protocol.specs.Answers.{validDesk}
 use Rattle.tuning.proofs.Lists.{both}
-use Rattle.validity.proofs.Laws.{slices-valid}
 use Rattle.protocol.proofs.Ways.{tables-right}
 use borrow.Author.Tests.{not-false}
 use borrow.Author.Needs.{needs}
@@ -39,8 +38,7 @@ tested-valid c = sym (c .before .is-valid .ensures) ∙ not-false _ (c .if1 .lef
 index-logics-requires : tie.Need-index-logics-requires Inv-loop μ-loop
 index-logics-requires c κs =
     let a = c .before .before .before in
-    slices-valid (a .args .numbers .now) (a .args .codes .now)
-    (tables-right (tablesIn (a .args .numbers .now) (a .args .codes .now)) (a .args .start) (tested-valid c))
+    tables-right (tablesIn (a .args .numbers .now) (a .args .codes .now)) (a .args .start) (tested-valid c)
 
 large-buffer-requires : tie.Need-large-buffer-requires Inv-loop μ-loop
 large-buffer-requires c κs = search needs

@@ -6,7 +6,6 @@ use native.Mathlib.Omega.{arith}
 use borrow.Author.Needs.{needs}
 use borrow.Author.Tests.{not-true, not-false}
 use Rattle.tables.specs.Layout.{Tables, tablesIn}
-use Rattle.validity.proofs.Laws.{slices-valid}
 use Rattle.protocol.specs.Answers.{validDesk}
 use Rattle.protocol.proofs.Ways.{tables-right}
 use Rattle.stream.proofs.fill.Statement.{statement}
@@ -43,7 +42,7 @@ returns c =
 index-logics-requires : tie.Need-index-logics-requires
 index-logics-requires c κs =
     let a = c .before .before .before .before .before .before in
-    slices-valid (a .args .numbers .now) (a .args .codes .now) (tables-right (tables a) (a .args .desk) (tested-valid c))
+    tables-right (tables a) (a .args .desk) (tested-valid c)
 
 fill-ready-requires : tie.Need-fill-ready-requires
 fill-ready-requires c κs =
