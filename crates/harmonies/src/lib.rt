@@ -5,6 +5,7 @@ use keys::KEYS;
 ghost use mathlib.Core.Path.{_≡_};
 ghost use mathlib.Core.Bool.{cond};
 ghost use Prim.Native.Nat.{_+_, _*_, _%_, _^_, _≤_, _<_};
+ghost use lib.Dec.{eqb};
 ghost use Rattle.limits.specs.Limits.{mostAnchor, mostPositions};
 ghost use Rattle.sets.specs.Sets.{added};
 ghost use Rattle.keys.specs.Keys.{wordSize, keyCount};
@@ -44,15 +45,13 @@ fn next_position(r: u8, width: u8) -> u8
     r + 1
 }
 
-// The chord, with position r where that is held.
-fn with_position(chord: u64, r: u8, held: bool) -> u64
+// The chord, with position r where the first of the keys is held.
+fn with_position(chord: u64, r: u8, keys: u64) -> u64
     requires { ⌜ r < 64 ⌝ }
-    ensures { λ c. ⌜ c ≡ cond held (added chord r) chord ⌝ }
+    ensures { λ c. ⌜ c ≡ cond (eqb (keys % 2) 1) (added chord r) chord ⌝ }
 {
-    if held {
-        return sets::with(chord, r);
-    }
-    chord
+    let first = keys % 2;
+    chord | (first << r)
 }
 
 // The keys of a half that either house holds.
@@ -72,7 +71,7 @@ fn join(chord: u64, keys: u64, first: u8, width: u8) -> u64
     let mut left = keys;
     let mut r = first;
     while left != 0 {
-        joined = with_position(joined, r, left % 2 == 1);
+        joined = with_position(joined, r, left);
         r = next_position(r, width);
         left = left / 2;
     }
