@@ -4,7 +4,9 @@
 //!   2^(N·(d-w))·v^1200000 ≤ u^1200000 ≤ 2^(N·(d+w))·v^1200000
 //!
 //! say the same as |1,200,000·log2(u/v)/N - d| ≤ w, and that is checked with
-//! logarithms of more than sixty decimal digits.
+//! logarithms of more than sixty decimal digits. Request 10/13 of document 02
+//! takes the exponents a hundred times and 51 of the hundred for each power:
+//! the distance is at most 0.51·w.
 
 use crate::book::{Book, Declaration, Entry, Halt};
 use crate::logarithm::Logarithm;
@@ -22,6 +24,9 @@ type Exact = Wide<7>;
 
 /// A logarithm is off by less than one unit, a measure by less than 2^23.
 const SLACK: i128 = 1 << 23;
+
+/// "51 hundredths of a thousandth suffice for each power".
+const HUNDREDTHS: u64 = 51;
 
 /// Logarithms, each computed once.
 pub struct Logarithms {
@@ -108,8 +113,19 @@ pub enum Comparison {
     Silent,
     /// w = 0: the pitch is, or is not, exactly that of the book.
     Exactly(bool),
-    /// The distance is, or is not, at most w; how large a part of w it is.
-    Within(bool, f64),
+    /// w is not 0: how far the pitch is from the book.
+    Apart(Distance),
+}
+
+/// A distance, held against both bounds.
+#[derive(Clone, Copy, Debug, PartialEq)]
+pub struct Distance {
+    /// At most w: document 01.
+    pub within: bool,
+    /// At most 51 hundredths of w: document 02, 10/13.
+    pub sharper: bool,
+    /// How large a part of w it is.
+    pub share: f64,
 }
 
 impl<'a> Page<'a> {
@@ -137,11 +153,15 @@ impl<'a> Page<'a> {
         let tone = self.tones.get(r as usize).copied().flatten().unwrap_or(Exact::ZERO);
         let size = tone + Exact::from(i128::from(q)) * self.period - self.four_forty;
         let apart = (size - whole(d.0.into())).magnitude();
-        let share = apart.to_f64(PLACES as i32) / w as f64;
-        // The bound less all that the logarithms can be off: the declared
+        // The distance and all that the logarithms can be off: the declared
         // numbers' powers, and as many of 440 again.
-        let bound = Exact::from(w) * (whole(1) - Exact::from(2 * SLACK)) - Exact::from(SLACK);
-        Ok(Comparison::Within(apart <= bound, share))
+        let most = apart + Exact::from(w) * Exact::from(2 * SLACK) + Exact::from(SLACK);
+        let bound = Exact::from(w) * whole(1);
+        Ok(Comparison::Apart(Distance {
+            within: most <= bound,
+            sharper: most.times_word(100) <= bound.times_word(HUNDREDTHS),
+            share: apart.to_f64(PLACES as i32) / w as f64,
+        }))
     }
 }
 
@@ -172,18 +192,51 @@ mod tests {
         assert_eq!(compare(&book, &tree, 61, 6_100_001), Comparison::Exactly(false));
     }
 
-    /// A fifth above 440 is 701,955.0009 exactly, and w is 2 there.
+    fn bounds(comparison: Comparison) -> (bool, bool) {
+        let Comparison::Apart(distance) = comparison else {
+            panic!("{comparison:?} where powers of declared numbers stand");
+        };
+        (distance.within, distance.sharper)
+    }
+
+    /// A fifth above 440 is 701,955.0009 exactly, and w is 2 there: what is one
+    /// off lies within 1.02, and two more within 2, but not two less.
     #[test]
     fn a_fifth() {
         let tree = text::read(CASE_S.as_bytes()).unwrap().declared;
         let mut book = Book::new(&tree).unwrap();
         book.take(Made { target: Target::System(0), number: 0 }).unwrap();
-        let Comparison::Within(true, share) = compare(&book, &tree, 70, 7_601_955) else {
-            panic!("the fifth is out of its bound");
+        let Comparison::Apart(distance) = compare(&book, &tree, 70, 7_601_955) else {
+            panic!("the fifth has no distance");
         };
-        assert!((share - 0.000_43).abs() < 0.000_01);
-        assert!(matches!(compare(&book, &tree, 70, 7_601_957), Comparison::Within(true, _)));
-        assert!(matches!(compare(&book, &tree, 70, 7_601_958), Comparison::Within(false, _)));
-        assert!(matches!(compare(&book, &tree, 70, 7_601_952), Comparison::Within(false, _)));
+        assert!((distance.share - 0.000_43).abs() < 0.000_01);
+        for (pitch, within, sharper) in [
+            (7_601_953, false, false),
+            (7_601_954, true, true),
+            (7_601_955, true, true),
+            (7_601_956, true, true),
+            (7_601_957, true, false),
+            (7_601_958, false, false),
+        ] {
+            assert_eq!(bounds(compare(&book, &tree, 70, pitch)), (within, sharper), "{pitch}");
+        }
+    }
+
+    /// 1153 hertz lie 1,667,780.50095 above 440, and are measured as 1,667,780:
+    /// with w = 1 half a thousandth would not do. One higher is nearer, one
+    /// lower too far.
+    #[test]
+    fn past_a_half() {
+        let text = b"INTERVAL o = 2 : 1 TONE d = 1153 TONESYSTEM One = 69 [ d ] o";
+        let tree = text::read(text).unwrap().declared;
+        let mut book = Book::new(&tree).unwrap();
+        book.take(Made { target: Target::System(0), number: 0 }).unwrap();
+        let Comparison::Apart(distance) = compare(&book, &tree, 69, 8_567_780) else {
+            panic!("the tone has no distance");
+        };
+        assert!(distance.sharper && (distance.share - 0.500_95).abs() < 0.000_01);
+        assert_eq!(bounds(compare(&book, &tree, 69, 8_567_781)), (true, true));
+        assert_eq!(bounds(compare(&book, &tree, 69, 8_567_782)), (false, false));
+        assert_eq!(bounds(compare(&book, &tree, 69, 8_567_779)), (false, false));
     }
 }

@@ -3,17 +3,18 @@ use mathlib.Core.Path.{_≡_, refl, sym, subst}
 use mathlib.Core.List.{List, [], _∷_, _++_}
 use mathlib.Core.Option.{Option}
 use Prim.Native.Nat.{ℕ, zero, suc}
+use native.Mathlib.Omega.{arith}
 use lib.IntN.{ℤ, _+ℤ_, _-ℤ_}
 use Rattle.integers.specs.Parts.{up, dn}
 use Rattle.integers.proofs.Signed.{signed, one, _⊕_, _⊖_, lin}
 use Rattle.cents.specs.Measure.{pitch440}
-use Rattle.cents.proofs.Near.{Close, close-lift, to-near}
+use Rattle.cents.proofs.Near.{Close, close-weaker, close-lift, to-sharp}
 use Rattle.tuning.specs.Scale.{Sound}
 use Rattle.tuning.specs.Tuning.{Tuning, Action, done}
 use Rattle.tuning.specs.Desk.{cents, ifTaken, called}
-use Rattle.exact.specs.Entry.{Entry, degrees, weight, u, v, Within}
+use Rattle.exact.specs.Entry.{Entry, degrees, weight, u, v, Sharper}
 use Rattle.exact.specs.Book.{Declared, Powers, entries, numbersOf, written, Made, bookFrom}
-use Rattle.exact.specs.Agreement.{KeyAgrees, both-silent, near, Agrees}
+use Rattle.exact.specs.Agreement.{KeyAgrees, both-silent, both-sound, Agrees}
 use Rattle.exact.proofs.Ranges.{AllInRange}
 use Rattle.exact.proofs.EntryNear.{pitch, entry-near}
 use Rattle.exact.proofs.Follows as F
@@ -27,19 +28,19 @@ less-base : (z x : ℤ) → z ≡ pitch440 +ℤ x → x ≡ z -ℤ pitch440
 less-base z x h = omega (signed, lin (one pitch440 ⊕ one x), lin (one z ⊖ one pitch440))
 
 module _ {ds : List (Option Declared)} (a : AllInRange ds) where
-  tone-within : {e : Powers} {z : ℤ} → MeasuredTone ds e z → Within (written (numbersOf ds) e) (z -ℤ pitch440)
-  tone-within {e} {z} m =
+  tone-sharper : {e : Powers} {z : ℤ} → MeasuredTone ds e z → Sharper (written (numbersOf ds) e) (z -ℤ pitch440)
+  tone-sharper {e} {z} m =
       let l : Entry = written (numbersOf ds) e in
       let d : ℤ = z -ℤ pitch440 in
       let n : Close (degrees l) (weight l) (up d) (dn d) (u l) (v l) =
       subst (λ (y : ℤ). Close (degrees l) (weight l) (up y) (dn y) (u l) (v l)) (less-base z (pitch l) (m .value)) (entry-near l (written-good e a) (m .power)) in
-      record { once = to-near d n .compared; again = λ k. to-near d (close-lift k n) .compared; sharply = to-near d n .sharply }
+      record { once = to-sharp d (close-weaker _ (omega arith) n); again = λ k. to-sharp d (close-weaker _ (omega arith) (close-lift k n)) }
 
-  key-agrees : {x : Sound Powers} {y : Sound ℤ} → Both (MeasuredTone ds) x y → KeyAgrees ds x y
+  key-agrees : {x : Sound Powers} {y : Sound ℤ} → Both (MeasuredTone ds) x y → KeyAgrees Sharper ds x y
   key-agrees F.silent = both-silent
-  key-agrees (F.heard h) = near (tone-within h)
+  key-agrees (F.heard h) = both-sound (tone-sharper h)
 
-  pub agrees : (desk : Tuning cents) (book : Tuning entries) → Agree (measure-follows ds) book desk → Agrees ds desk book
+  pub agrees : (desk : Tuning cents) (book : Tuning entries) → Agree (measure-follows ds) book desk → Agrees Sharper ds desk book
   agrees desk book h = record {
     anchor = sym (h .anchor);
     width = sym (same-length (MeasuredTone ds) (h .tones));

@@ -2,14 +2,15 @@
 use mathlib.Core.Path.{_≡_, refl, sym, _∙_, ap, ap₂}
 use mathlib.Core.List.{[], _∷_}
 use Prim.Native.Nat.{ℕ, zero, suc, _+_, _*_, _^_, _≤_, _<_}
-use native.Mathlib.Nat.{mul-comm, pow-zero, zero-mul, mul-pos, one-le-pow, mul-le-mul-left, le-of-mul-le-mul-left, eq-of-mul-eq-mul-right}
+use native.Mathlib.Nat.{mul-comm, pow-zero, zero-mul, mul-pos, one-le-pow, eq-of-mul-eq-mul-right}
 use native.Mathlib.Omega.{arith}
 use lib.IntN.{ℤ, pos, negsuc, natAbs, _+ℤ_, _*ℤ_}
 use lib.Pow.{pow-add}
-use Rattle.integers.proofs.Powers.{Under, mul-pow, pow-mul}
+use Rattle.integers.proofs.Powers.{mul-pow, pow-mul, under-ratio-pow}
 use Rattle.integers.specs.Parts.{up, dn}
 use Rattle.integers.proofs.Difference.{Is, is-self, is-add, is-pos, is-scale, is-flip, is-mul}
 use Rattle.cents.specs.Measure.{measure}
+use Rattle.cents.specs.Distance.{hundredfold}
 use Rattle.cents.proofs.Near.{Close, close-one, close-inverse, close-same, close-times, close-power, close-lift}
 use Rattle.exact.specs.Entry.{Number, Factor, Entry, degreeOf, degrees, weight, part, above, below}
 
@@ -167,23 +168,9 @@ rescaled (f ∷ l) =
 
 -- ---- the same fraction, written otherwise
 
-under-ratio : {a b x y : ℕ} (x' y' : ℕ) → zero < x → y * x' ≡ y' * x → Under a b x y → Under a b x' y'
-under-ratio {a} {b} {x} {y} x' y' p e h =
-    let A : ℕ = 2 ^ a in
-    let B : ℕ = 2 ^ b in
-    let f : x' * (A * x) ≤ x' * (B * y) = mul-le-mul-left x' (h .le) in
-    let g : B * (y * x') ≡ B * (y' * x) = ap (λ (t : ℕ). B * t) e in
-    record { le = le-of-mul-le-mul-left {k = x} (omega arith) p }
-
 near-ratio : {N w a b u v : ℕ} (u' v' : ℕ) → zero < u → zero < v → u * v' ≡ u' * v → Close N w a b u v → Close N w a b u' v'
-near-ratio {N} {w} {a} {b} {u} {v} u' v' pu pv e h =
-    let C : ℕ = 120000000 in
-    let f : u ^ 120000000 * v' ^ 120000000 ≡ u' ^ 120000000 * v ^ 120000000 = rw (← (mul-pow u v' 120000000), ← (mul-pow u' v 120000000), e) in
-    let g : v ^ 120000000 * u' ^ 120000000 ≡ v' ^ 120000000 * u ^ 120000000 = mul-comm (v ^ 120000000) (u' ^ 120000000) ∙ sym f ∙ mul-comm (u ^ 120000000) (v' ^ 120000000) in
-    record {
-      low = under-ratio (v' ^ 120000000) (u' ^ 120000000) (one-le-pow 120000000 v pv) f (h .low);
-      high = under-ratio (u' ^ 120000000) (v' ^ 120000000) (one-le-pow 120000000 u pu) g (h .high);
-    }
+near-ratio {u} {v} u' v' pu pv e h =
+    record { low = under-ratio-pow hundredfold v u v' u' pv e (h .low); high = under-ratio-pow hundredfold u v u' v' pu (omega arith) (h .high) }
 
 part-pos : (e : ℤ) (p q : ℕ) → zero < p → zero < q → zero < part e p q
 unfolding part

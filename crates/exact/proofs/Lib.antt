@@ -7,6 +7,7 @@ pub mod Along
 pub mod Measured
 pub mod Numbers
 pub mod Calls
+pub mod Agreement
 pub mod Decoded
 pub mod Capped
 pub mod Worked
@@ -22,3 +23,4 @@ pub mod TextLetters
 pub mod DemandThree
 pub mod TwoLogics
 pub mod Chords
+pub mod FarTone

@@ -1,13 +1,14 @@
 -- Case S of document 01 as a stream: its text and its frames.
 use mathlib.Core.Path.{_≡_}
 use mathlib.Core.List.{List, [], _∷_, map}
-use Prim.Native.Nat.{ℕ}
+use Prim.Native.Nat.{ℕ, _*_, _^_, _≤_}
 use Prim.Native.String.{String}
 use Rattle.ascii.specs.Ascii.{bytes}
 use Rattle.tuning.specs.Scale.{Sound, muted, sounds}
 use Rattle.tuning.specs.Tuning.{soundOf}
 use Rattle.frames.specs.Cases.{caseLines}
 use Rattle.answers.specs.Answer.{smallestBuffer}
+use Rattle.program.specs.Program.{Program}
 use Rattle.program.specs.CaseS.{text, program}
 use Rattle.program.specs.Text.{accepted, readText}
 use Rattle.filling.specs.Tables.{tablesOf}
@@ -36,11 +37,20 @@ pub record Whole : Type 0 where
   pub read : readText text ≡ accepted program
   pub answered : linesOf (tablesOf program) startDesk frames ≡ lines
 
--- the entry of a sound, of which a muted one has none
-abbrev pub entryIn : Sound Powers → Entry
-entryIn muted = []
-entryIn (sounds p) = written (numbersOf (declaredIn program)) p
+-- the entry of a sound under a program, of which a muted one has none
+abbrev pub entryIn : Program → Sound Powers → Entry
+entryIn p muted = []
+entryIn p (sounds e) = written (numbersOf (declaredIn p)) e
 
 -- what key 71 then has in the book
 unfoldable pub entry71 : Entry
-entry71 = entryIn (soundOf entries (bookAfter program frames) 71)
+entry71 = entryIn program (soundOf entries (bookAfter program frames) 71)
+
+-- a power of p/q, between two powers of 2
+pub record Between (least most p q power : ℕ) : Type 0 where
+  pub low : 2 ^ least * q ^ power ≤ p ^ power
+  pub high : p ^ power ≤ 2 ^ most * q ^ power
+
+-- document 02, 10/13, of that key: 2^140390847 ≤ (9/4)^120000000 ≤ 2^140391153, since d is 1,403,910 and w is 3
+abbrev pub Sharp71 : Type 0
+Sharp71 = Between 140390847 140391153 9 4 120000000

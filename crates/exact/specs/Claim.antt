@@ -17,6 +17,7 @@ use Rattle.answers.specs.Told.{toldBy}
 use Rattle.protocol.specs.Steps.{Made}
 use Rattle.protocol.specs.Answers.{startDesk, soundAt, keyNumber, answerOf}
 use Rattle.protocol.specs.Streams.{Lent, deskAfter, madeIn}
+use Rattle.exact.specs.Entry.{Nearness, Within, Sharper}
 use Rattle.exact.specs.Book as book
 use Rattle.exact.specs.Book.{entries, bookFrom}
 use Rattle.exact.specs.Agreement.{KeyAgrees, Agrees}
@@ -38,8 +39,15 @@ bookAfter p stream = bookFrom (start entries) (fedBy p (madeIn (tablesOf p) star
 -- what is claimed: for any text that the reader accepts as the program p, and any stream, the desk that started
 -- anew and was handed on from frame to frame agrees with the book. A stream has frames of any kind; document 02, 5/13, of those of kind 05 and 06: "Demand 3
 -- takes these frames in its streams." The book knows no held keys: it is fed the calls that such frames make
+abbrev pub StreamNear : Nearness → Program → List Lent → Type 0
+StreamNear near p stream = Agrees near (declaredIn p) (held (deskAfter (tablesOf p) startDesk stream .tuning)) (bookAfter p stream)
+
 abbrev pub StreamAgrees : Program → List Lent → Type 0
-StreamAgrees p stream = Agrees (declaredIn p) (held (deskAfter (tablesOf p) startDesk stream .tuning)) (bookAfter p stream)
+StreamAgrees = StreamNear Within
+
+-- document 02, 10/13: the same claim in the tighter comparison
+abbrev pub StreamSharper : Program → List Lent → Type 0
+StreamSharper = StreamNear Sharper
 
 -- "With d the pitch that kind 02 then answers": what a frame of kind 02 is answered after a stream is the sound of which `StreamAgrees` speaks,
 -- by its number and by the bytes of its line, whichever house asks, and however long the buffer is from 512 bytes on
@@ -52,17 +60,27 @@ pub record KeyAnswered (p : Program) (stream : List Lent) (house key room : ℕ)
   pub told : toldBy (answerOf (tablesOf p) (deskAfter (tablesOf p) startDesk stream) (keyFrame house key) room .line)
       ≡ some (soundAt (deskAfter (tablesOf p) startDesk stream) key)
 
--- what that line tells agrees with the book's entry of the key: silent in both, or at most w away, d being what the bytes say
-pub record AnswerAgrees (p : Program) (stream : List Lent) (house key room : ℕ) : Type 0 where
+-- what that line tells agrees with the book's entry of the key: silent in both, or near, d being what the bytes say
+pub record AnswerAgrees (near : Nearness) (p : Program) (stream : List Lent) (house key room : ℕ) : Type 0 where
   pub sound : Sound ℤ
   pub told : toldBy (answerOf (tablesOf p) (deskAfter (tablesOf p) startDesk stream) (keyFrame house key) room .line) ≡ some sound
-  pub agrees : KeyAgrees (declaredIn p) (soundOf entries (bookAfter p stream) key) sound
+  pub agrees : KeyAgrees near (declaredIn p) (soundOf entries (bookAfter p stream) key) sound
+
+-- the claim about one stream: of the desk as it is held, and of the answer's bytes
+pub record Demand3 (near : Nearness) (p : Program) (stream : List Lent) : Type 0 where
+  pub state : StreamNear near p stream
+  pub answer : (house key room : ℕ) → firstHouse ≤ house → house ≤ secondHouse → key ≤ lastKey → smallestBuffer ≤ room
+      → AnswerAgrees near p stream house key room
+
+-- and about all
+abbrev pub Claimed : Nearness → Type 0
+Claimed near = (text : List ℕ) (p : Program) → readText text ≡ accepted p → (stream : List Lent) → Demand3 near p stream
 
 -- **demand 3**: "Over any stream under an accepted text, the desk and the exact book have the same anchor, width and silent keys, and each sounding key
 -- differs from its exact frequency by at most a thousandth of a cent for each power of a declared number" -- and it is the answer's bytes that say so
-pub record Demand3 (p : Program) (stream : List Lent) : Type 0 where
-  pub state : StreamAgrees p stream
-  pub answer : (house key room : ℕ) → firstHouse ≤ house → house ≤ secondHouse → key ≤ lastKey → smallestBuffer ≤ room → AnswerAgrees p stream house key room
-
 unfoldable pub DemandThree : Type 0
-DemandThree = (text : List ℕ) (p : Program) → readText text ≡ accepted p → (stream : List Lent) → Demand3 p stream
+DemandThree = Claimed Within
+
+-- **document 02, 10/13**: "51 hundredths of a thousandth suffice for each power"
+unfoldable pub TighterDistance : Type 0
+TighterDistance = Claimed Sharper

@@ -56,8 +56,22 @@ u l = above l
 abbrev pub v : Entry → ℕ
 v l = below l * 440 ^ degrees l
 
--- "With d the pitch that kind 02 then answers, less 6,900,000, a distance of at most w": at N, at every multiple of N, and in the sharp form
-pub record Within (l : Entry) (d : ℤ) : Type 0 where
-  pub once : Compared (degrees l) (weight l) (u l) (v l) d
-  pub again : (k : ℕ) → Compared (degrees l * k) (weight l) (u l ^ k) (v l ^ k) d
-  pub sharply : Sharply (degrees l) (weight l) (u l) (v l) d
+-- a comparison over whole numbers, of N, w, u, v and d; and what it makes of an entry and d
+abbrev pub Comparison : Type 1
+Comparison = ℕ → ℕ → ℕ → ℕ → ℤ → Type 0
+
+abbrev pub Nearness : Type 1
+Nearness = Entry → ℤ → Type 0
+
+-- the comparison holds at N and at every multiple of N
+pub record Holds (compared : Comparison) (l : Entry) (d : ℤ) : Type 0 where
+  pub once : compared (degrees l) (weight l) (u l) (v l) d
+  pub again : (k : ℕ) → compared (degrees l * k) (weight l) (u l ^ k) (v l ^ k) d
+
+-- "With d the pitch that kind 02 then answers, less 6,900,000, a distance of at most w"
+abbrev pub Within : Nearness
+Within = Holds Compared
+
+-- document 02, 10/13: "51 hundredths of a thousandth suffice for each power, in document 01's comparison with a hundred times the exponents"
+abbrev pub Sharper : Nearness
+Sharper = Holds Sharply

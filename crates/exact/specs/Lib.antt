@@ -10,3 +10,4 @@ pub mod Soundness
 pub mod CaseS
 pub mod TwoLogics
 pub mod Chords
+pub mod FarTone

@@ -4,7 +4,7 @@ use Prim.Native.Nat.{ℕ, zero, suc, _+_, _*_, _^_, _≤_, _<_}
 use native.Mathlib.Nat.{pow-suc, pow-zero, mul-le-mul, mul-le-mul-left, mul-le-mul-right, mul-comm, mul-assoc, mul-one, le-trans, le-of-eq, one-le-pow, mul-mul-mul-comm, pow-le-pow-left, pow-le-pow-right, pow-lt-pow-left, lt-of-not-le, not-le-of-lt, le-of-mul-le-mul-left, mul-zero, zero-mul, mul-add, add-mul, one-mul, mul-suc, mul-lt-mul-of-pos-right, lt-of-mul-lt-mul-left}
 use native.Mathlib.Decide.{decLe}
 use native.Mathlib.Omega.{arith}
-use lib.Pow.{pow-add, pow-mono, pow-pos}
+use lib.Pow.{pow-add, pow-mono, pow-lt, pow-pos}
 
 -- (M+1)^j · t ≤ (M+1) · M^j where j + t = M+1
 pub bernoulli : (M j t : ℕ) → j + t ≡ suc M → suc M ^ j * t ≤ suc M * M ^ j
@@ -95,3 +95,23 @@ under-less {a} {b} {x} {y} {a'} {b'} e h =
     let g : A' * B * x ≤ A * B' * x = mul-le-mul-right x f in
     let i : B' * (A * x) ≤ B' * (B * y) = mul-le-mul-left B' (h .le) in
     record { le = le-of-mul-le-mul-left {k = B} (omega arith) (pow-pos b) }
+
+-- The same fraction y/x, written otherwise; and a power of it.
+pub under-ratio : {a b x y : ℕ} (x' y' : ℕ) → zero < x → y * x' ≡ y' * x → Under a b x y → Under a b x' y'
+under-ratio {a} {b} {x} {y} x' y' p e h =
+    let A : ℕ = 2 ^ a in
+    let B : ℕ = 2 ^ b in
+    let f : x' * (A * x) ≤ x' * (B * y) = mul-le-mul-left x' (h .le) in
+    let g : B * (y * x') ≡ B * (y' * x) = ap (λ (t : ℕ). B * t) e in
+    record { le = le-of-mul-le-mul-left {k = x} (omega arith) p }
+
+pub under-ratio-pow : {a b : ℕ} (k x y x' y' : ℕ) → zero < x → y * x' ≡ y' * x → Under a b (x ^ k) (y ^ k) → Under a b (x' ^ k) (y' ^ k)
+under-ratio-pow k x y x' y' p e h = under-ratio (x' ^ k) (y' ^ k) (one-le-pow k x p) (rw (← (mul-pow y x' k), ← (mul-pow y' x k), e)) h
+
+-- 2^a ≤ y/x ≤ 2^b
+pub under-both : {a b x y : ℕ} → zero < x → Under a 0 x y → Under 0 b y x → a ≤ b
+under-both {a} {b} {x} {y} p h k =
+    elim (decLe a b) [
+      | yes l ↦ l
+      | no n ↦ let f : 2 ^ b * x < 2 ^ a * x = mul-lt-mul-of-pos-right (pow-lt (lt-of-not-le n)) p in absurd (omega (arith, h .le, k .le))
+    ]

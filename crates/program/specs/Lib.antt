@@ -6,4 +6,5 @@ pub mod Text
 pub mod CaseS
 pub mod TwoLogics
 pub mod Chords
+pub mod FarTone
 pub mod Verdicts

@@ -9,6 +9,11 @@ use crate::random::Random;
 use crate::state::{PERIODS, VALUES};
 use std::num::NonZeroU32;
 
+/// Numbers whose measure is more than half a thousandth of a cent from the
+/// truth: in hertz, above it, and as a ratio, above it or below it.
+const FAR_FREQUENCIES: [u64; 4] = [11_530_000, 23_060_000, 46_120_000, 52_690_000];
+const FAR_RATIOS: [(u64, u64); 4] = [(77, 69), (69, 77), (123, 14), (14, 123)];
+
 /// How many declarations of each kind a text shall have, and orders in each
 /// logic, at most.
 #[derive(Clone, Copy, Debug)]
@@ -25,6 +30,8 @@ pub struct Plan {
     pub terms: usize,
     /// Whether numbers are such as make music, rather than any.
     pub musical: bool,
+    /// Whether those that are measured worst are among them.
+    pub far: bool,
 }
 
 /// The symbols of a text by this plan.
@@ -210,9 +217,11 @@ impl<'a> Composer<'a> {
 
     fn ratio(&mut self) -> (Vec<Token>, Interval) {
         let known = [(2, 1), (3, 2), (5, 4), (6, 5), (7, 4), (81, 80), (64, 63), (1, 1), (2, 3)];
-        let (p, q) = if self.random.percent(if self.plan.musical { 80 } else { 30 }) {
-            let (p, q) = self.random.one_of(known);
-            (decimal_of(10_000 * p), decimal_of(10_000 * q))
+        let of_wholes = |(p, q)| (decimal_of(10_000 * p), decimal_of(10_000 * q));
+        let (p, q) = if self.plan.far && self.random.percent(5) {
+            of_wholes(self.random.one_of(FAR_RATIOS))
+        } else if self.random.percent(if self.plan.musical { 80 } else { 30 }) {
+            of_wholes(self.random.one_of(known))
         } else {
             (self.any_decimal(), self.any_decimal())
         };
@@ -289,6 +298,9 @@ impl<'a> Composer<'a> {
             }
         }
         let frequency = match self.random.below(4) {
+            _ if self.plan.far && self.random.percent(20) => {
+                decimal_of(self.random.one_of(FAR_FREQUENCIES))
+            }
             0 if !self.plan.musical => self.any_decimal(),
             0 | 1 => measure::CONCERT_FREQUENCY,
             _ => decimal_of(self.random.between(1_000_000, 9_000_000) as u64),
@@ -567,4 +579,22 @@ fn listed(open: &str, items: Vec<Vec<Token>>, close: &str) -> Vec<Token> {
     }
     tokens.push(Token::mark(close));
     tokens
+}
+
+#[cfg(test)]
+mod tests {
+    use super::*;
+    use crate::accuracy::Accuracy;
+    use crate::records::MeasureCase;
+
+    #[test]
+    fn far_numbers_are_past_a_half() {
+        let ratio = |(p, q)| MeasureCase::Ratio(decimal_of(10_000 * p), decimal_of(10_000 * q));
+        let frequencies = FAR_FREQUENCIES.map(|f| MeasureCase::Frequency(decimal_of(f)));
+        let accuracy = Accuracy::new();
+        for case in frequencies.into_iter().chain(FAR_RATIOS.map(ratio)) {
+            let finding = accuracy.judge(case);
+            assert!(finding.holds && finding.distance > 0.5, "{case:?}: {}", finding.distance);
+        }
+    }
 }

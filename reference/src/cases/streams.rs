@@ -62,6 +62,7 @@ fn plan(random: &mut Random) -> Plan {
             positions: [12, 16, 24, 60][between(0, 3)],
             terms: 6,
             musical: true,
+            far: true,
         };
     }
     Plan {
@@ -75,6 +76,7 @@ fn plan(random: &mut Random) -> Plan {
         positions: between(1, 14),
         terms: between(1, 6),
         musical: between(0, 4) > 0,
+        far: true,
     }
 }
 

@@ -52,6 +52,7 @@ fn plan(random: &mut Random) -> Plan {
         positions: upto(12) + 1,
         terms: upto(15) + 1,
         musical: upto(1) == 0,
+        far: false,
     }
 }
 

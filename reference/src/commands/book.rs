@@ -4,7 +4,7 @@
 use super::{note, output, verdict, Outcome};
 use crate::book::{Book, Halt};
 use crate::cases::streams;
-use crate::comparison::{Comparison, Logarithms, Page, Sizes};
+use crate::comparison::{Comparison, Distance, Logarithms, Page, Sizes};
 use crate::frames::{frame_bytes, Desk, Made};
 use crate::measure::{Pitch, CONCERT_PITCH};
 use crate::numbers;
@@ -14,7 +14,7 @@ use std::io::Write;
 const KEYS: i64 = 128;
 
 /// Follows the streams of a seed and checks demand 3 at every key, at the start
-/// and after every frame.
+/// and after every frame, by document 01's bound and by request 10/13's.
 pub fn check(seed: u64, count: u64) -> Outcome {
     let mut logarithms = Logarithms::new();
     let mut tally = Tally::default();
@@ -30,7 +30,10 @@ pub fn check(seed: u64, count: u64) -> Outcome {
     let mut output = output();
     writeln!(output, "{tally}")?;
     output.flush()?;
-    Ok(verdict(tally.failed == 0))
+    if tally.past_half == 0 {
+        note(format_args!("no key is past 0.5 w: 51 hundredths could not be told from 50"));
+    }
+    Ok(verdict(tally.failed == 0 && tally.past_half > 0))
 }
 
 fn follow(
@@ -92,7 +95,9 @@ struct Tally {
     by_harmonies: u64,
     silent: u64,
     exact: u64,
-    within: u64,
+    apart: u64,
+    /// Those that half a thousandth for each power would not have held.
+    past_half: u64,
     failed: u64,
     worst: f64,
 }
@@ -117,10 +122,11 @@ impl Tally {
                 self.exact += 1;
                 holds && pitch.is_some()
             }
-            Comparison::Within(holds, share) => {
-                self.within += 1;
+            Comparison::Apart(Distance { within, sharper, share }) => {
+                self.apart += 1;
+                self.past_half += u64::from(share > 0.5);
                 self.worst = self.worst.max(share);
-                holds && pitch.is_some()
+                within && sharper && pitch.is_some()
             }
         };
         if !holds {
@@ -148,8 +154,9 @@ impl std::fmt::Display for Tally {
         )?;
         writeln!(
             f,
-            "keys: {} silent in both, {} exact (w = 0), {} within w; worst distance {:.6} w",
-            self.silent, self.exact, self.within, self.worst
+            "keys: {} silent in both, {} exact (w = 0), {} within w and within 0.51 w, \
+             {} of these past 0.5 w; worst distance {:.6} w",
+            self.silent, self.exact, self.apart, self.past_half, self.worst
         )?;
         write!(f, "{} failed", self.failed)
     }
@@ -168,7 +175,7 @@ mod tests {
             follow(&pair.text, &pair.frames, &mut logarithms, &mut tally).unwrap();
         }
         assert_eq!(tally.failed, 0);
-        assert!(tally.exact > 0 && tally.within > 0);
+        assert!(tally.exact > 0 && tally.apart > 0);
         assert!(tally.by_harmonies > 0 && tally.calls > tally.by_harmonies);
     }
 }

@@ -1,0 +1,35 @@
+-- What is nearer in one comparison is near in another: then so is all that is claimed of a stream.
+use mathlib.Core.List.{List}
+use mathlib.Core.Option.{Option}
+use lib.IntN.{ℤ}
+use Rattle.cents.proofs.Near.{suffices}
+use Rattle.tuning.specs.Scale.{Sound}
+use Rattle.tuning.specs.Tuning.{Tuning}
+use Rattle.tuning.specs.Desk.{cents}
+use Rattle.program.specs.Program.{Program}
+use Rattle.protocol.specs.Streams.{Lent}
+use Rattle.exact.specs.Entry.{Entry, Nearness, Within, Sharper}
+use Rattle.exact.specs.Book.{Declared, Powers, entries}
+use Rattle.exact.specs.Agreement.{KeyAgrees, both-silent, both-sound, Agrees}
+use Rattle.exact.specs.Claim.{Demand3, Claimed}
+
+-- document 02, 10/13: the tighter comparison suffices for document 01's
+pub sharper-within : (l : Entry) (d : ℤ) → Sharper l d → Within l d
+sharper-within l d h = record { once = suffices d (h .once); again = λ k. suffices d (h .again k) }
+
+module _ (near far : Nearness) (by : (l : Entry) (d : ℤ) → near l d → far l d) where
+  key-by : {ds : List (Option Declared)} {x : Sound Powers} {y : Sound ℤ} → KeyAgrees near ds x y → KeyAgrees far ds x y
+  key-by both-silent = both-silent
+  key-by (both-sound h) = both-sound (by _ _ h)
+
+  pub agrees-by : {ds : List (Option Declared)} {desk : Tuning cents} {book : Tuning entries} → Agrees near ds desk book → Agrees far ds desk book
+  agrees-by h = record { anchor = h .anchor; width = h .width; key = λ x. key-by (h .key x) }
+
+  demand-by : {p : Program} {stream : List Lent} → Demand3 near p stream → Demand3 far p stream
+  demand-by h = record {
+    state = agrees-by (h .state);
+    answer = λ house key room a b c r. let s = h .answer house key room a b c r in record { sound = s .sound; told = s .told; agrees = key-by (s .agrees) };
+  }
+
+  pub claimed-by : Claimed near → Claimed far
+  claimed-by h text p e stream = demand-by (h text p e stream)
