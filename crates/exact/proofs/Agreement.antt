@@ -1,4 +1,4 @@
--- What is nearer in one comparison is near in another: then so is all that is claimed of a stream.
+-- Where what is near by one comparison is near by a wider one, all that is claimed of streams by the one is claimed by the other.
 use mathlib.Core.List.{List}
 use mathlib.Core.Option.{Option}
 use lib.IntN.{ℤ}
@@ -17,19 +17,19 @@ use Rattle.exact.specs.Claim.{Demand3, Claimed}
 pub sharper-within : (l : Entry) (d : ℤ) → Sharper l d → Within l d
 sharper-within l d h = record { once = suffices d (h .once); again = λ k. suffices d (h .again k) }
 
-module _ (near far : Nearness) (by : (l : Entry) (d : ℤ) → near l d → far l d) where
-  key-by : {ds : List (Option Declared)} {x : Sound Powers} {y : Sound ℤ} → KeyAgrees near ds x y → KeyAgrees far ds x y
+module _ (near wider : Nearness) (by : (l : Entry) (d : ℤ) → near l d → wider l d) where
+  key-by : {ds : List (Option Declared)} {x : Sound Powers} {y : Sound ℤ} → KeyAgrees near ds x y → KeyAgrees wider ds x y
   key-by both-silent = both-silent
   key-by (both-sound h) = both-sound (by _ _ h)
 
-  pub agrees-by : {ds : List (Option Declared)} {desk : Tuning cents} {book : Tuning entries} → Agrees near ds desk book → Agrees far ds desk book
+  pub agrees-by : {ds : List (Option Declared)} {desk : Tuning cents} {book : Tuning entries} → Agrees near ds desk book → Agrees wider ds desk book
   agrees-by h = record { anchor = h .anchor; width = h .width; key = λ x. key-by (h .key x) }
 
-  demand-by : {p : Program} {stream : List Lent} → Demand3 near p stream → Demand3 far p stream
+  demand-by : {p : Program} {stream : List Lent} → Demand3 near p stream → Demand3 wider p stream
   demand-by h = record {
     state = agrees-by (h .state);
     answer = λ house key room a b c r. let s = h .answer house key room a b c r in record { sound = s .sound; told = s .told; agrees = key-by (s .agrees) };
   }
 
-  pub claimed-by : Claimed near → Claimed far
+  pub claimed-by : Claimed near → Claimed wider
   claimed-by h text p e stream = demand-by (h text p e stream)

@@ -28,6 +28,7 @@ less-base : (z x : ℤ) → z ≡ pitch440 +ℤ x → x ≡ z -ℤ pitch440
 less-base z x h = omega (signed, lin (one pitch440 ⊕ one x), lin (one z ⊖ one pitch440))
 
 module _ {ds : List (Option Declared)} (a : AllInRange ds) where
+  -- any weight from the entry's own on would do; a lesser one is refused here
   tone-sharper : {e : Powers} {z : ℤ} → MeasuredTone ds e z → Sharper (written (numbersOf ds) e) (z -ℤ pitch440)
   tone-sharper {e} {z} m =
       let l : Entry = written (numbersOf ds) e in

@@ -49,7 +49,7 @@ StreamAgrees = StreamNear Within
 abbrev pub StreamSharper : Program → List Lent → Type 0
 StreamSharper = StreamNear Sharper
 
--- "With d the pitch that kind 02 then answers": what a frame of kind 02 is answered after a stream is the sound of which `StreamAgrees` speaks,
+-- "With d the pitch that kind 02 then answers": what a frame of kind 02 is answered after a stream is the sound of which `StreamNear` speaks,
 -- by its number and by the bytes of its line, whichever house asks, and however long the buffer is from 512 bytes on
 abbrev pub keyFrame : ℕ → ℕ → List ℕ
 keyFrame house key = hexes (house ∷ keyKind ∷ key ∷ [])
