@@ -12,7 +12,7 @@ use Rattle.cents.specs.Distance.{InHundredths, enough}
 use Rattle.cents.proofs.FarTone.{too-far}
 use Rattle.values.specs.Values.{plus, total, shifted, ranged, valueAt}
 use Rattle.program.specs.Meaning.{valueOf}
-use Rattle.program.specs.FarTone.{text, program}
+use Rattle.program.specs.FarTone.{program}
 use Rattle.program.proofs.Texts.{far-tone-read}
 use Rattle.tables.specs.Layout.{writtenAll, joined, rowOf}
 use Rattle.filling.specs.Tables.{filledFrom, tablesOf}
@@ -69,4 +69,4 @@ holds-not h few x = too-far h few (in-numbers (InHundredths h) (book .0) (book .
 
 pub no-fewer : NoFewer
 unfolding NoFewer entry69
-no-fewer h few claimed = holds-not h few (sounding-near program (claimed text program far-tone-read frames .state .key 69) (desk .2))
+no-fewer h few agrees = holds-not h few (sounding-near program (agrees .key 69) (desk .2))

@@ -13,7 +13,7 @@ use Rattle.protocol.specs.Answers.{startDesk}
 use Rattle.protocol.specs.Streams.{Lent, linesOf}
 use Rattle.exact.specs.Entry.{Entry, Holds}
 use Rattle.exact.specs.Book.{entries}
-use Rattle.exact.specs.Claim.{bookAfter, Claimed}
+use Rattle.exact.specs.Claim.{bookAfter, StreamNear}
 use Rattle.exact.specs.CaseS.{lent, entryIn}
 
 -- M: One. Key 69
@@ -31,6 +31,6 @@ pub record Whole : Type 0 where
 unfoldable pub entry69 : Entry
 entry69 = entryIn program (soundOf entries (bookAfter program frames) 69)
 
--- no fewer hundredths suffice
+-- no fewer hundredths suffice: with them the desk and the book do not agree after these frames
 unfoldable pub NoFewer : Type 0
-NoFewer = (h : ℕ) → h < enough → Claimed (Holds (InHundredths h)) → ⊥
+NoFewer = (h : ℕ) → h < enough → StreamNear (Holds (InHundredths h)) program frames → ⊥

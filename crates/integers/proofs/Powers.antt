@@ -1,7 +1,7 @@
 -- Laws of powers of natural numbers, and inequalities with powers of two on both sides.
-use mathlib.Core.Path.{_≡_, refl, sym, _∙_, ap}
+use mathlib.Core.Path.{_≡_, refl, ap}
 use Prim.Native.Nat.{ℕ, zero, suc, _+_, _*_, _^_, _≤_, _<_}
-use native.Mathlib.Nat.{pow-suc, pow-zero, mul-le-mul, mul-le-mul-left, mul-le-mul-right, mul-comm, mul-assoc, mul-one, le-trans, le-of-eq, one-le-pow, mul-mul-mul-comm, pow-le-pow-left, pow-le-pow-right, pow-lt-pow-left, lt-of-not-le, not-le-of-lt, le-of-mul-le-mul-left, mul-zero, zero-mul, mul-add, add-mul, one-mul, mul-suc, mul-lt-mul-of-pos-right, lt-of-mul-lt-mul-left}
+use native.Mathlib.Nat.{pow-suc, pow-zero, mul-le-mul, mul-le-mul-left, mul-le-mul-right, mul-comm, one-le-pow, mul-mul-mul-comm, pow-le-pow-left, pow-lt-pow-left, lt-of-not-le, not-le-of-lt, le-of-mul-le-mul-left, mul-zero, mul-suc, mul-lt-mul-of-pos-right, lt-of-mul-lt-mul-left}
 use native.Mathlib.Decide.{decLe}
 use native.Mathlib.Omega.{arith}
 use lib.Pow.{pow-add, pow-mono, pow-lt, pow-pos}
