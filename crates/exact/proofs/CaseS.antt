@@ -34,7 +34,7 @@ use Rattle.hexadecimal.specs.Digits.{hexOf, hexes}
 use Rattle.hexadecimal.specs.Numbers.{twos, fourOf}
 use Rattle.answers.specs.Answer.{tonesBytes}
 use Rattle.protocol.specs.Streams.{Lent, deskAfter, madeIn, linesOf}
-use Rattle.exact.specs.Entry.{Factor, Entry, degreeOf, degrees, weight, part, above, below, u, v, Comparison, Nearness, Holds, Sharper}
+use Rattle.exact.specs.Entry.{Factor, Entry, degreeOf, degrees, weight, part, above, below, u, v, Comparison, Nearness, AtMultiples, Sharper}
 use Rattle.exact.specs.Book.{Powers, entries, number, start440, startRoot, once, numbered, numbersOf, written, bookFrom}
 use Rattle.exact.specs.Agreement.{KeyAgrees, both-silent, both-sound}
 use Rattle.exact.specs.Actions.{declaredIn, entryWithin}
@@ -82,16 +82,16 @@ sounding-near {near} p {z} (both-sound {e} {z = y} h) q =
     let same : y ≡ z = cc in
     subst (λ (d : ℤ). near (written (numbersOf (declaredIn p)) e) (d -ℤ pitch440)) same h
 
-holds-71 : Sharper entry71 (pos 1403910)
+near-71 : Sharper entry71 (pos 1403910)
 unfolding entry71
-holds-71 = sounding-near program (case-s-sharper frames .key 71) (desk-71 .1)
+near-71 = sounding-near program (case-s-sharper frames .key 71) (desk-71 .1)
 
-pub in-numbers : (compared : Comparison) {l : Entry} {N w x y : ℕ} {d : ℤ} → degrees l ≡ N → weight l ≡ w → u l ≡ x → v l ≡ y → Holds compared l d → compared N w x y d
+pub in-numbers : (compared : Comparison) {l : Entry} {N w x y : ℕ} {d : ℤ} → degrees l ≡ N → weight l ≡ w → u l ≡ x → v l ≡ y → AtMultiples compared l d → compared N w x y d
 in-numbers compared eN ew eu ev h = rw (eu, ev, ew, eN) at (h .once)
 
 -- so (3/2)^2 is at most 3 times 51 hundredths of a thousandth of a cent from 1,403,910 of them, and at most 3 whole ones
 pub sharply-71 : Sharply 1 3 (30000 ^ 2 * 4400000) (20000 ^ 2 * 10000 * 440) (pos 1403910)
-sharply-71 = let b = book-71 in in-numbers Sharply (b .1) (b .2) (b .3) (b .4) holds-71
+sharply-71 = let b = book-71 in in-numbers Sharply (b .1) (b .2) (b .3) (b .4) near-71
 
 pub compared-71 : Compared 1 3 (30000 ^ 2 * 4400000) (20000 ^ 2 * 10000 * 440) (pos 1403910)
 compared-71 = suffices (pos 1403910) sharply-71

@@ -30,7 +30,7 @@ use Rattle.hexadecimal.specs.Digits.{hexOf, hexes}
 use Rattle.hexadecimal.specs.Numbers.{twos, fourOf}
 use Rattle.answers.specs.Answer.{tonesBytes}
 use Rattle.protocol.specs.Streams.{deskAfter, madeIn, linesOf}
-use Rattle.exact.specs.Entry.{degreeOf, degrees, weight, part, above, below, u, v, Holds}
+use Rattle.exact.specs.Entry.{degreeOf, degrees, weight, part, above, below, u, v, AtMultiples}
 use Rattle.exact.specs.Book.{entries, number, start440, startRoot, once, numbered, numbersOf, written, bookFrom}
 use Rattle.exact.specs.Actions.{entryWithin}
 use Rattle.exact.specs.Claim.{fedBy, bookAfter}
@@ -64,9 +64,9 @@ unfolding entryWithin once fedBy bookFrom numbersOf numbered written number star
     below part
 book = rw fed (refl, refl, refl, refl)
 
-holds-not : (h : ℕ) → h < enough → Holds (InHundredths h) entry69 (pos 1667780) → ⊥
-holds-not h few x = too-far h few (in-numbers (InHundredths h) (book .0) (book .1) (book .2) (book .3) x)
+not-near : (h : ℕ) → h < enough → AtMultiples (InHundredths h) entry69 (pos 1667780) → ⊥
+not-near h few x = too-far h few (in-numbers (InHundredths h) (book .0) (book .1) (book .2) (book .3) x)
 
 pub no-fewer : NoFewer
 unfolding NoFewer entry69
-no-fewer h few agrees = holds-not h few (sounding-near program (agrees .key 69) (desk .2))
+no-fewer h few agrees = not-near h few (sounding-near program (agrees .key 69) (desk .2))

@@ -64,14 +64,14 @@ abbrev pub Nearness : Type 1
 Nearness = Entry → ℤ → Type 0
 
 -- the comparison holds at N and at every multiple of N
-pub record Holds (compared : Comparison) (l : Entry) (d : ℤ) : Type 0 where
+pub record AtMultiples (compared : Comparison) (l : Entry) (d : ℤ) : Type 0 where
   pub once : compared (degrees l) (weight l) (u l) (v l) d
   pub again : (k : ℕ) → compared (degrees l * k) (weight l) (u l ^ k) (v l ^ k) d
 
 -- "With d the pitch that kind 02 then answers, less 6,900,000, a distance of at most w"
 abbrev pub Within : Nearness
-Within = Holds Compared
+Within = AtMultiples Compared
 
 -- document 02, 10/13: "51 hundredths of a thousandth suffice for each power, in document 01's comparison with a hundred times the exponents"
 abbrev pub Sharper : Nearness
-Sharper = Holds Sharply
+Sharper = AtMultiples Sharply

@@ -11,7 +11,7 @@ use Rattle.program.specs.Text.{accepted, readText}
 use Rattle.filling.specs.Tables.{tablesOf}
 use Rattle.protocol.specs.Answers.{startDesk}
 use Rattle.protocol.specs.Streams.{Lent, linesOf}
-use Rattle.exact.specs.Entry.{Entry, Holds}
+use Rattle.exact.specs.Entry.{Entry, AtMultiples}
 use Rattle.exact.specs.Book.{entries}
 use Rattle.exact.specs.Claim.{bookAfter, StreamNear}
 use Rattle.exact.specs.CaseS.{lent, entryIn}
@@ -33,4 +33,4 @@ entry69 = entryIn program (soundOf entries (bookAfter program frames) 69)
 
 -- no fewer hundredths suffice: with them the desk and the book do not agree after these frames
 unfoldable pub NoFewer : Type 0
-NoFewer = (h : ℕ) → h < enough → StreamNear (Holds (InHundredths h)) program frames → ⊥
+NoFewer = (h : ℕ) → h < enough → StreamNear (AtMultiples (InHundredths h)) program frames → ⊥
