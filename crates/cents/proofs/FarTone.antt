@@ -6,7 +6,7 @@ use native.Mathlib.Omega.{arith}
 use borrow.Author.Tests.{leb-true}
 use lib.IntN.{pos}
 use Rattle.integers.proofs.Powers.{Under, pow-swap, under-pow, under-less, under-ratio-pow, under-both}
-use Rattle.cents.specs.Distance.{hundredfold, InHundredths, enough}
+use Rattle.cents.specs.Distance.{hundredfold, InHundredths, fewest}
 use Rattle.cents.proofs.Near.{parted}
 
 -- where 2^b ≤ (x/y)^a and (x/y)^E ≤ 2^c, b/a is at most c/E
@@ -28,5 +28,5 @@ least-1153 : Under 56150 0 (440 ^ 40401) (1153 ^ 40401)
 least-1153 = record { le = leb-true (2 ^ 56150 * 440 ^ 40401) (2 ^ 0 * 1153 ^ 40401) refl }
 
 -- in ten-thousandths, as the comparison has it
-pub too-far : (h : ℕ) → h < enough → InHundredths h 1 1 11530000 4400000 (pos 1667780) → ⊥
+pub too-far : (h : ℕ) → h < fewest → InHundredths h 1 1 11530000 4400000 (pos 1667780) → ⊥
 too-far h few = beyond h 40401 56150 1667780 1153 440 (omega arith) (omega arith) refl least-1153 (omega arith)

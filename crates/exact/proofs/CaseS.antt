@@ -6,11 +6,13 @@ use mathlib.Core.Option.{Option·elim}
 use Prim.Native.Nat.{ℕ, zero, _+_, _-_, _*_, _^_, _≤_, _<_}
 use native.Mathlib.Omega.{arith}
 use lib.Count.{leadingZeros}
-use lib.IntN.{ℤ, pos, _-ℤ_}
+use lib.IntN.{ℤ, pos, _+ℤ_, _-ℤ_}
+use Rattle.integers.specs.Parts.{up, dn}
+use Rattle.integers.proofs.Difference.{is-add, is-diff, is-pos}
 use Rattle.integers.proofs.Powers.{Under, under-less, under-ratio-pow}
 use Rattle.cents.specs.Log.{highestBit, bits, L}
 use Rattle.cents.specs.Measure.{measure, nearest, pitch440}
-use Rattle.cents.specs.Distance.{Compared, hundredfold, enough, Sharply}
+use Rattle.cents.specs.Distance.{Compared, hundredfold, fewest, Sharply}
 use Rattle.cents.proofs.Near.{parted, suffices}
 use Rattle.values.proofs.Cases.{impossible}
 use Rattle.values.specs.Values.{plus, total, shifted, ranged, valueAt}
@@ -39,7 +41,7 @@ use Rattle.exact.specs.Book.{Powers, entries, number, start440, startRoo
 use Rattle.exact.specs.Agreement.{KeyAgrees, both-silent, both-sound}
 use Rattle.exact.specs.Actions.{declaredIn, entryWithin}
 use Rattle.exact.specs.Claim.{fedBy, bookAfter, StreamSharper}
-use Rattle.exact.specs.CaseS.{Whole, frames, entryIn, entry71, Between, Sharp71}
+use Rattle.exact.specs.CaseS.{Whole, frames, entryIn, entry71, Between, Within71, Sharper71}
 use Rattle.exact.proofs.Claim.{stream-sharper}
 
 pub case-s : Whole
@@ -96,14 +98,30 @@ sharply-71 = let b = book-71 in in-numbers Sharply (b .1) (b .2) (b .3) (b .4) n
 pub compared-71 : Compared 1 3 (30000 ^ 2 * 4400000) (20000 ^ 2 * 10000 * 440) (pos 1403910)
 compared-71 = suffices (pos 1403910) sharply-71
 
--- the same as a power of 9/4
-between : (w u v d p q : ℕ) → enough * w ≤ 100 * d → zero < u → zero < v → u * q ≡ p * v → Sharply 1 w u v (pos d)
-    → Between (100 * d - enough * w) (100 * d + enough * w) p q hundredfold
-between w u v d p q least pu pv same h =
-    let s = parted (pos d) h in
-    let l : Under (100 * d - enough * w) 0 (q ^ hundredfold) (p ^ hundredfold) = under-less (omega arith) (under-ratio-pow hundredfold v u q p pv same (s .0)) in
-    let m : Under 0 (100 * d + enough * w) (p ^ hundredfold) (q ^ hundredfold) = under-less (omega arith) (under-ratio-pow hundredfold u v p q pu (omega arith) (s .1)) in
-    record { low = omega (arith, l .le); high = omega (arith, m .le) }
+-- ---- the same as a power of 9/4
 
-pub sharper-71 : Sharp71
-sharper-71 = between 3 (30000 ^ 2 * 4400000) (20000 ^ 2 * 10000 * 440) 1403910 9 4 (omega arith) (omega arith) (omega arith) refl sharply-71
+module _ (w u v d p q : ℕ) (over : zero < u) (under : zero < v) (same : u * q ≡ p * v) where
+  between : (E a b : ℕ) → Under a 0 (v ^ E) (u ^ E) → Under 0 b (u ^ E) (v ^ E) → Between a b p q E
+  between E a b h k =
+      let l = under-ratio-pow E v u q p under same h in
+      let m = under-ratio-pow E u v p q over (omega arith) k in
+      record { low = omega (arith, l .le); high = omega (arith, m .le) }
+
+  between-sharply : fewest * w ≤ 100 * d → Sharply 1 w u v (pos d) → Between (100 * d - fewest * w) (100 * d + fewest * w) p q hundredfold
+  between-sharply least h =
+      let s = parted (pos d) h in
+      between hundredfold (100 * d - fewest * w) (100 * d + fewest * w) (under-less (omega arith) (s .0)) (under-less (omega arith) (s .1))
+
+  between-compared : w ≤ d → Compared 1 w u v (pos d) → Between (d - w) (d + w) p q 1200000
+  between-compared least h =
+      let i = is-diff (pos d) (pos w) (is-pos d) (is-pos w) .eq in
+      let j = is-add (pos d) (pos w) (is-pos d) (is-pos w) .eq in
+      let low : Under (1 * up (pos d -ℤ pos w)) (1 * dn (pos d -ℤ pos w)) (v ^ 1200000) (u ^ 1200000) = record { le = h .low } in
+      let high : Under (1 * dn (pos d +ℤ pos w)) (1 * up (pos d +ℤ pos w)) (u ^ 1200000) (v ^ 1200000) = record { le = h .high } in
+      between 1200000 (d - w) (d + w) (under-less (omega arith) low) (under-less (omega arith) high)
+
+pub sharper-71 : Sharper71
+sharper-71 = between-sharply 3 (30000 ^ 2 * 4400000) (20000 ^ 2 * 10000 * 440) 1403910 9 4 (omega arith) (omega arith) refl (omega arith) sharply-71
+
+pub within-71 : Within71
+within-71 = between-compared 3 (30000 ^ 2 * 4400000) (20000 ^ 2 * 10000 * 440) 1403910 9 4 (omega arith) (omega arith) refl (omega arith) compared-71

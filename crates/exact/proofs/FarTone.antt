@@ -8,7 +8,7 @@ use lib.Count.{leadingZeros}
 use lib.IntN.{pos}
 use Rattle.cents.specs.Log.{highestBit, bits, L}
 use Rattle.cents.specs.Measure.{measure, nearest}
-use Rattle.cents.specs.Distance.{InHundredths, enough}
+use Rattle.cents.specs.Distance.{InHundredths, fewest}
 use Rattle.cents.proofs.FarTone.{too-far}
 use Rattle.values.specs.Values.{plus, total, shifted, ranged, valueAt}
 use Rattle.program.specs.Meaning.{valueOf}
@@ -64,7 +64,7 @@ unfolding entryWithin once fedBy bookFrom numbersOf numbered written number star
     below part
 book = rw fed (refl, refl, refl, refl)
 
-not-near : (h : ℕ) → h < enough → AtMultiples (InHundredths h) entry69 (pos 1667780) → ⊥
+not-near : (h : ℕ) → h < fewest → AtMultiples (InHundredths h) entry69 (pos 1667780) → ⊥
 not-near h few x = too-far h few (in-numbers (InHundredths h) (book .0) (book .1) (book .2) (book .3) x)
 
 pub no-fewer : NoFewer

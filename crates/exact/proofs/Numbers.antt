@@ -6,7 +6,7 @@ use Prim.Native.Nat.{ℕ, suc, _+_, _*_, _^_}
 use native.Mathlib.Nat.{mul-one}
 use native.Mathlib.Omega.{arith}
 use Rattle.integers.proofs.Powers.{Under, one-pow}
-use Rattle.cents.specs.Distance.{enough}
+use Rattle.cents.specs.Distance.{fewest}
 use Rattle.cents.proofs.Near.{Close, measure-close}
 use Rattle.exact.specs.Book.{Declared, frequency, ratio, root, number, start440, startRoot, Powers, numbered, numbersOf, written}
 use Rattle.exact.proofs.Ranges.{InRange, AllInRange, no-more, number-and, passing}
@@ -32,11 +32,11 @@ self : (N u : ℕ) → Close N 0 0 0 u u
 self N u = record { low = record { le = omega arith }; high = record { le = omega arith } }
 
 exact-root : (C N k : ℕ) → N * k ≡ C
-    → (Under (N * (100 * k)) (N * (100 * 0 + enough * 0)) (1 ^ (100 * C)) (2 ^ (100 * C))) × (Under (N * (100 * 0)) (N * (100 * k + enough * 0)) (2 ^ (100 * C)) (1 ^ (100 * C)))
+    → (Under (N * (100 * k)) (N * (100 * 0 + fewest * 0)) (1 ^ (100 * C)) (2 ^ (100 * C))) × (Under (N * (100 * 0)) (N * (100 * k + fewest * 0)) (2 ^ (100 * C)) (1 ^ (100 * C)))
 exact-root C N k e =
     let x : N * (100 * k) ≡ 100 * C = omega arith in
-    let y : N * (100 * k + enough * 0) ≡ 100 * C = omega arith in
-    let z : N * (100 * 0 + enough * 0) ≡ 0 = omega arith in
+    let y : N * (100 * k + fewest * 0) ≡ 100 * C = omega arith in
+    let z : N * (100 * 0 + fewest * 0) ≡ 0 = omega arith in
     let q : N * (100 * 0) ≡ 0 = omega arith in (
       record { le = rw (x, z, one-pow (100 * C)) (omega arith) },
       record { le = rw (y, q, one-pow (100 * C)) (omega arith) },

@@ -51,6 +51,10 @@ pub record Between (least most p q power : ℕ) : Type 0 where
   pub low : 2 ^ least * q ^ power ≤ p ^ power
   pub high : p ^ power ≤ 2 ^ most * q ^ power
 
--- document 02, 10/13, of that key: 2^140390847 ≤ (9/4)^120000000 ≤ 2^140391153, since d is 1,403,910 and w is 3
-abbrev pub Sharp71 : Type 0
-Sharp71 = Between 140390847 140391153 9 4 120000000
+-- of that key d is 1,403,910 and w is 3: 2^1403907 ≤ (9/4)^1200000 ≤ 2^1403913
+abbrev pub Within71 : Type 0
+Within71 = Between 1403907 1403913 9 4 1200000
+
+-- document 02, 10/13: 2^140390847 ≤ (9/4)^120000000 ≤ 2^140391153
+abbrev pub Sharper71 : Type 0
+Sharper71 = Between 140390847 140391153 9 4 120000000

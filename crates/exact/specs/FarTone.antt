@@ -4,7 +4,7 @@ use mathlib.Core.Path.{_≡_}
 use mathlib.Core.List.{List, [], _∷_, map}
 use Prim.Native.Nat.{ℕ, _<_}
 use Rattle.ascii.specs.Ascii.{bytes}
-use Rattle.cents.specs.Distance.{InHundredths, enough}
+use Rattle.cents.specs.Distance.{InHundredths, fewest}
 use Rattle.tuning.specs.Tuning.{soundOf}
 use Rattle.program.specs.FarTone.{text, program}
 use Rattle.program.specs.Text.{accepted, readText}
@@ -33,4 +33,4 @@ entry69 = entryIn program (soundOf entries (bookAfter program frames) 69)
 
 -- no fewer hundredths suffice: with them the desk and the book do not agree after these frames
 unfoldable pub NoFewer : Type 0
-NoFewer = (h : ℕ) → h < enough → StreamNear (AtMultiples (InHundredths h)) program frames → ⊥
+NoFewer = (h : ℕ) → h < fewest → StreamNear (AtMultiples (InHundredths h)) program frames → ⊥
