@@ -4,9 +4,11 @@
 // The start is anchor 60 (3C), width 12 (0C), period 1,200,000 (00124F80), t(0) = 6,000,000 (005B8D80) and each further tone 100,000 (000186A0)
 // above the one before. From document 01's list: 2 : 1 is 1,200,000, 1200 ROOT 2 is 1,000, and 440 stands at 6,900,000 (00694920).
 mod chords;
+mod first_muted;
 mod run;
 
 use chords::run_chords;
+use first_muted::run_first_muted;
 use run::run_case;
 
 // "text: 0 to 32,768 bytes"
@@ -127,4 +129,5 @@ fn main() {
     run_muted();
     run_bad_frames();
     run_chords();
+    run_first_muted();
 }

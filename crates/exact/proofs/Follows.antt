@@ -5,10 +5,9 @@ use Prim.Native.Nat.{ℕ, zero, suc, _+_}
 use lib.IntN.{ℤ, pos, subℕ}
 use lib.ListN.{getD, length}
 use Rattle.integers.specs.Parts.{up}
-use Rattle.integers.specs.Floor.{floorDiv, floorMod}
 use Rattle.tuning.specs.declared.Amount.{Amount}
 use Rattle.tuning.specs.Scale.{Scale, Sound, muted, sounds}
-use Rattle.tuning.specs.Tuning.{Tuning, PeriodTo, fresh, onward, PositionTo, mute, move, setTo, Action, anchorTo, widthTo, periodTo, tonesTo, system, amounts, raised, toneAt, soundOf, apart, reach, anchoredBy, anchored, keysFrom, widenedBy, widened, newPeriod, newTone, newTones, done, startTones, start}
+use Rattle.tuning.specs.Tuning.{Tuning, PeriodTo, fresh, onward, PositionTo, mute, move, setTo, Action, anchorTo, widthTo, periodTo, tonesTo, system, amounts, raised, toneAt, keyPosition, keyPeriods, keyRise, soundOf, apart, reachBy, reach, anchoredBy, anchored, keysFrom, widenedBy, widened, newPeriod, newTone, newTones, done, startTones, start}
 
 pub record Follows (A B : Scale) : Type 1 where
   pub tone : A .Tone → B .Tone → Type 0
@@ -74,21 +73,32 @@ module _ (A B : Scale) (F : Follows A B) where
   raised-follows h silent = silent
   raised-follows h (heard k) = heard (F .shift k h)
 
+  -- a key has the same place in both
+  same-position : (s : Tuning A) (t : Tuning B) → Agree F s t → (x : ℕ) → keyPosition A s x ≡ keyPosition B t x
+  same-position s t h x = rw (h .anchor, same-length (F .tone) (h .tones))
+
+  same-periods : (s : Tuning A) (t : Tuning B) → Agree F s t → (x : ℕ) → keyPeriods A s x ≡ keyPeriods B t x
+  same-periods s t h x = rw (h .anchor, same-length (F .tone) (h .tones))
+
+  rise-follows : (s : Tuning A) (t : Tuning B) → Agree F s t → (x : ℕ) → F .step (keyRise A s x) (keyRise B t x)
+  rise-follows s t h x = subst (λ (q : ℤ). F .step (keyRise A s x) (B .times q (t .period))) (same-periods s t h x) (F .times (keyPeriods A s x) (h .period))
+
   pub sound-follows : (s : Tuning A) (t : Tuning B) → Agree F s t → (x : ℕ) → Both (F .tone) (soundOf A s x) (soundOf B t x)
   sound-follows s t h x =
-      let d = subℕ x (t .anchor) in
-      let w = length (t .tones) in
-      let g : Both (F .tone) (raised A (A .times (floorDiv d w) (s .period)) (toneAt A s (floorMod d w))) (soundOf B t x) =
-      raised-follows (F .times (floorDiv d w) (h .period)) (at-both (F .tone) (h .tones) (floorMod d w)) in
-      rw (h .anchor, same-length (F .tone) (h .tones)) g
+      let r = keyPosition A s x in
+      raised-follows (rise-follows s t h x) (subst (λ (n : ℕ). Both (F .tone) (toneAt A s r) (toneAt B t n)) (same-position s t h x) (at-both (F .tone) (h .tones) r))
 
   apart-follows : {x y : Sound (A .Tone)} {x' y' : Sound (B .Tone)} → Both (F .tone) x x' → Both (F .tone) y y' → Both (F .step) (apart A x y) (apart B x' y')
   apart-follows silent k = silent
   apart-follows (heard h) silent = silent
   apart-follows (heard h) (heard k) = heard (F .distance k h)
 
+  reach-by : (s : Tuning A) (t : Tuning B) → Agree F s t → (r x : ℕ) → Both (F .step) (reachBy A r s x) (reachBy B r t x)
+  reach-by s t h zero x = heard (rise-follows s t h x)
+  reach-by s t h (suc r) x = apart-follows (at-both (F .tone) (h .tones) 0) (sound-follows s t h x)
+
   reach-follows : (s : Tuning A) (t : Tuning B) → Agree F s t → (x : ℕ) → Both (F .step) (reach A s x) (reach B t x)
-  reach-follows s t h x = apart-follows (at-both (F .tone) (h .tones) 0) (sound-follows s t h x)
+  reach-follows s t h x = subst (λ (n : ℕ). Both (F .step) (reach A s x) (reachBy B n t x)) (same-position s t h x) (reach-by s t h (keyPosition A s x) x)
 
   -- ---- one law for each call
 

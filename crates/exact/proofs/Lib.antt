@@ -24,3 +24,4 @@ pub mod DemandThree
 pub mod TwoLogics
 pub mod Chords
 pub mod FarTone
+pub mod FirstMuted

@@ -11,3 +11,4 @@ pub mod CaseS
 pub mod TwoLogics
 pub mod Chords
 pub mod FarTone
+pub mod FirstMuted

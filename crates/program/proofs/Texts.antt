@@ -22,11 +22,16 @@ use Rattle.program.specs.CaseS.{text, program}
 use Rattle.program.specs.TwoLogics as twoLogics
 use Rattle.program.specs.Chords as chords
 use Rattle.program.specs.FarTone as farTone
+use Rattle.program.specs.Pentatonic as pentatonic
+use Rattle.program.specs.NineOctaves as nineOctaves
+use Rattle.program.specs.MutedChord as mutedChord
 use Rattle.program.specs.Verdicts.{verdicts}
 
 -- all at once, since what is computed is opened at each
 read : (Text.readText text ≡ Text.accepted program) × (Text.readText twoLogics.text ≡ Text.accepted twoLogics.program)
-    × (Text.readText chords.text ≡ Text.accepted chords.program) × (Text.readText farTone.text ≡ Text.accepted farTone.program) × Hold verdicts
+    × (Text.readText chords.text ≡ Text.accepted chords.program) × (Text.readText farTone.text ≡ Text.accepted farTone.program)
+    × (Text.readText pentatonic.text ≡ Text.accepted pentatonic.program) × (Text.readText nineOctaves.text ≡ Text.accepted nineOctaves.program)
+    × (Text.readText mutedChord.text ≡ Text.accepted mutedChord.program) × Hold verdicts
 unfolding Hold verdicts leadingZeros sets.has sets.added grammarSyntax.rules symbolsBytes.isBlank symbolsBytes.isDigit symbolsBytes.isHexDigit symbolsBytes.isCapital
     symbolsBytes.isLetter symbolsBytes.inName symbolsBytes.small symbolsBytes.takeWhile symbolsBytes.same symbolsSymbols.marks symbolsSymbols.markIn
     symbolsSymbols.markOr symbolsSymbols.markAt symbolsSymbols.runEnd symbolsSymbols.digitsTo symbolsSymbols.pointed symbolsSymbols.decimalAt
@@ -41,7 +46,7 @@ unfolding Hold verdicts leadingZeros sets.has sets.added grammarSyntax.rules sym
     valuesValues.valueTable centsLog.highestBit centsLog.bits centsLog.L centsMeasure.nearest centsMeasure.measure Program.termsOf Program.systemPositionsOf
     Program.grouped Program.ordered Program.startOf Program.keysOf Program.partsOf Program.programOf Meaning.valueOf Meaning.valued Text.readText
 read =
-    (refl, refl, refl, refl, (refl, (refl, (refl, (refl, (refl, (refl, (refl, (refl, (refl, (refl, (refl, (refl, (refl, (refl, (refl, (refl, (refl, (refl, (refl, (refl, (refl, (refl, tt)))))))))))))))))))))))
+    (refl, refl, refl, refl, refl, refl, refl, (refl, (refl, (refl, (refl, (refl, (refl, (refl, (refl, (refl, (refl, (refl, (refl, (refl, (refl, (refl, (refl, (refl, (refl, (refl, (refl, (refl, (refl, tt)))))))))))))))))))))))
 
 pub case-s-read : Text.readText text ≡ Text.accepted program
 case-s-read = read .0
@@ -55,6 +60,15 @@ chords-read = read .2
 pub far-tone-read : Text.readText farTone.text ≡ Text.accepted farTone.program
 far-tone-read = read .3
 
+pub pentatonic-read : Text.readText pentatonic.text ≡ Text.accepted pentatonic.program
+pentatonic-read = read .4
+
+pub nine-octaves-read : Text.readText nineOctaves.text ≡ Text.accepted nineOctaves.program
+nine-octaves-read = read .5
+
+pub muted-chord-read : Text.readText mutedChord.text ≡ Text.accepted mutedChord.program
+muted-chord-read = read .6
+
 -- each of the texts of specs/Verdicts.antt is read as it says
 pub verdicts-hold : Hold verdicts
-verdicts-hold = read .4
+verdicts-hold = read .7

@@ -7,4 +7,7 @@ pub mod CaseS
 pub mod TwoLogics
 pub mod Chords
 pub mod FarTone
+pub mod Pentatonic
+pub mod NineOctaves
+pub mod MutedChord
 pub mod Verdicts

@@ -56,7 +56,7 @@ widthOutOfRange = 11
 abbrev pub periodOutOfRange : ℕ
 periodOutOfRange = 12
 
--- "t(0) muted, or key b (anchor) or a+v (width) silent"
+-- "t(0) muted, or key b (anchor) or a+v (width) silent"; document 02, 2/13: "13 narrows to r other than 0 with either end silent"
 abbrev pub endSilent : ℕ
 endSilent = 13
 

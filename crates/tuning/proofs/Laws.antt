@@ -8,16 +8,17 @@ use native.Mathlib.Decide.{decLt}
 use native.Mathlib.Nat.{add-zero}
 use native.Mathlib.Omega.{arith}
 use borrow.Author.Tests.{not-false}
-use lib.IntN.{ℤ, pos, subℕ, _+ℤ_, _-ℤ_, _*ℤ_, +ℤ-idr, zero-*ℤ, *ℤ-comm}
+use lib.IntN.{ℤ, pos, subℕ, _+ℤ_, _-ℤ_, _*ℤ_, +ℤ-idr, zero-*ℤ}
 use lib.ListN.{length, length-map, getD, List·getD-map}
 use lib.Signed.{leZ}
 use Rattle.integers.specs.Parts.{up}
 use Rattle.integers.proofs.Signed.{signed, abs, sum, diff, times, minus}
+use Rattle.integers.proofs.Difference.{one-mulℤ}
 use Rattle.integers.proofs.Floor.{floor-unique}
 use Rattle.tuning.specs.declared.Amount.{Amount}
 use Rattle.tuning.specs.declared.State.{State}
 use Rattle.tuning.specs.Scale.{Sound, muted, sounds}
-use Rattle.tuning.specs.Tuning.{Tuning, Action, anchorTo, widthTo, periodTo, tonesTo, system, amounts, width, raised, toneAt, soundOf, apart, reach, anchoredBy, keysFrom, widenedBy, done, start}
+use Rattle.tuning.specs.Tuning.{Tuning, Action, anchorTo, widthTo, periodTo, tonesTo, system, amounts, width, raised, toneAt, keyPosition, keyRise, soundOf, apart, reachBy, reach, anchoredBy, keysFrom, widenedBy, done, start}
 use Rattle.tuning.specs.Desk.{cents, between, isPeriod, isMuted, anyBeyond, firstFailing, checks, ifTaken, called}
 use Rattle.tuning.specs.State.{places, held, coded, validState, replied}
 use Rattle.tuning.proofs.Lists.{both}
@@ -25,15 +26,12 @@ use Rattle.tuning.proofs.Held.{ValidTuning, held-coded, coded-held, len
 use Rattle.tuning.proofs.Changed.{keys-length, new-length}
 use Rattle.tuning.proofs.Outcomes.{passed, system-taken}
 
-never : (d : ℤ) → _≡_ {A = Sound ℤ} muted (sounds d) → ⊥
+pub never : (d : ℤ) → _≡_ {A = Sound ℤ} muted (sounds d) → ⊥
 never d h = let z : _≡_ {A = ℕ} 0 1 = cc in omega arith
 
-raised-none : (t : Sound ℤ) → raised cents (pos 0) t ≡ t
+pub raised-none : (t : Sound ℤ) → raised cents (pos 0) t ≡ t
 raised-none muted = refl
 raised-none (sounds z) = ap (λ (y : ℤ). sounds y) (+ℤ-idr z)
-
-one-times : (z : ℤ) → pos 1 *ℤ z ≡ z
-one-times z = *ℤ-comm (pos 1) z ∙ omega (signed, times z 1)
 
 -- ---- "Key x has x - a = q·w + r with r from 0 to w-1; its pitch is t(r) + q·P, silent if t(r) is muted."
 
@@ -56,7 +54,15 @@ module _ (s : Tuning cents) where
   next-sound h =
       let w = width cents s in
       key-sound (s .anchor + w) (pos 1) 0 h (omega (signed, minus (s .anchor + w) (s .anchor), sum (pos 1 *ℤ pos w) (pos 0), times (pos 1) w))
-      ∙ ap (λ (z : ℤ). raised cents z (toneAt cents s 0)) (one-times (s .period))
+      ∙ ap (λ (z : ℤ). raised cents z (toneAt cents s 0)) (one-mulℤ (s .period))
+
+-- position 0 is the anchor's, even where there are no tones
+first-sound : (s : Tuning cents) → soundOf cents s (s .anchor + 0) ≡ toneAt cents s 0
+first-sound s = go (s .tones)
+  where
+    go : (l : List (Sound ℤ)) → soundOf cents (record { anchor = s .anchor; tones = l; period = s .period }) (s .anchor + 0) ≡ getD l 0 muted
+    go [] = refl
+    go (t ∷ l) = position-sound (record { anchor = s .anchor; tones = t ∷ l; period = s .period }) 0 (omega arith)
 
 -- ---- "A call with number 0 does what its line above says. Any other number changes nothing."
 
@@ -77,7 +83,7 @@ module _ (s : Tuning cents) (c : Action cents) where
 pub system-done : (s y : Tuning cents) → (called s (system y) .number ≡ 0) × (called s (system y) .state ≡ y)
 system-done s y = rw system-taken (refl, refl)
 
--- ---- "pitch(b) - t(0)" leads from position 0 to the key
+-- ---- the distance leads from position 0 to the key
 
 spanned : (y z : Sound ℤ) (d : ℤ) → apart cents y z ≡ sounds d → raised cents d y ≡ z
 spanned muted z d h = absurd (never d h)
@@ -86,17 +92,17 @@ spanned (sounds t) (sounds u) d h =
     let e : u -ℤ t ≡ d = cc in
     ap (λ (z : ℤ). sounds z) (omega (signed, e, sum t d, diff u t))
 
-module _ (s : Tuning cents) (x : ℕ) (d : ℤ) (h : reach cents s x ≡ sounds d) where
-  reach-sound : raised cents d (toneAt cents s 0) ≡ soundOf cents s x
-  reach-sound = spanned (toneAt cents s 0) (soundOf cents s x) d h
+same-step : (c d : ℤ) → sounds c ≡ sounds d → c ≡ d
+same-step c d h = cc
 
-  -- and there is a position 0
-  reach-wide : 0 < width cents s
-  reach-wide = go (s .tones) refl
-    where
-      go : (l : List (Sound ℤ)) → s .tones ≡ l → 0 < length l
-      go [] e = absurd (never d (sym (ap (λ (l : List (Sound ℤ)). apart cents (getD l 0 muted) (soundOf cents s x)) e) ∙ h))
-      go (t ∷ l) e = omega arith
+reach-sound : (s : Tuning cents) (x : ℕ) (d : ℤ) → reach cents s x ≡ sounds d → raised cents d (toneAt cents s 0) ≡ soundOf cents s x
+reach-sound s x d h = go (keyPosition cents s x) refl h
+  where
+    go : (r : ℕ) → keyPosition cents s x ≡ r → reachBy cents r s x ≡ sounds d → raised cents d (toneAt cents s 0) ≡ soundOf cents s x
+    go zero e k =
+        let q = keyRise cents s x in
+        ap (λ (z : ℤ). raised cents z (toneAt cents s 0)) (sym (same-step q d k)) ∙ ap (λ (r : ℕ). raised cents q (toneAt cents s r)) (sym e)
+    go (suc r) e k = spanned (toneAt cents s 0) (soundOf cents s x) d k
 
 -- a sound that is not muted
 record Sounding (y : Sound ℤ) : Type 0 where
@@ -120,10 +126,9 @@ pub record AnchorKept (s new : Tuning cents) (b : ℕ) : Type 0 where
 anchored-kept : (s : Tuning cents) (b : ℕ) (d : ℤ) → reach cents s b ≡ sounds d → AnchorKept s (anchoredBy cents s b (sounds d)) b
 anchored-kept s b d r =
     let new = anchoredBy cents s b (sounds d) in
-    let w : 0 < width cents new = omega (arith, reach-wide s b d r, length-map (s .tones) (raised cents d)) in
     record {
       anchor = refl;
-      sound = ap (soundOf cents new) (sym (add-zero b)) ∙ position-sound new 0 w ∙ List·getD-map (raised cents d) (s .tones) 0 muted ∙ reach-sound s b d r;
+      sound = ap (soundOf cents new) (sym (add-zero b)) ∙ first-sound new ∙ List·getD-map (raised cents d) (s .tones) 0 muted ∙ reach-sound s b d r;
     }
 
 pub anchor-keeps : (s : Tuning cents) (m : Amount) → called s (anchorTo m) .number ≡ 0 → AnchorKept s (called s (anchorTo m) .state) (up (amounts m (s .anchor)))
@@ -135,7 +140,7 @@ anchor-keeps s m h =
 
 -- ---- "new t(i) is the old pitch of key a+i; the new period is pitch(a+v) - t(0)": each key from the anchor to the anchor plus the new width keeps its sound
 
-keys-at : (s : Tuning cents) (x n i : ℕ) → i < n → getD (keysFrom cents s x n) i muted ≡ soundOf cents s (x + i)
+pub keys-at : (s : Tuning cents) (x n i : ℕ) → i < n → getD (keysFrom cents s x n) i muted ≡ soundOf cents s (x + i)
 keys-at s x zero i h = let z : ⊥ = omega arith in absurd z
 keys-at s x (suc n) zero h = ap (soundOf cents s) (sym (add-zero x))
 keys-at s x (suc n) (suc i) h = keys-at s (suc x) n i (omega arith) ∙ ap (soundOf cents s) (omega arith)
@@ -158,7 +163,7 @@ module _ (s : Tuning cents) (v : ℕ) (l : 1 ≤ v) (d : ℤ) (r : reach cents s
   last =
       ap (λ (k : ℕ). soundOf cents new (s .anchor + k)) (sym (keys-length s (s .anchor) v))
       ∙ next-sound new (omega (arith, keys-length s (s .anchor) v))
-      ∙ ap (raised cents d) (keys-at s (s .anchor) v 0 l ∙ position-sound s 0 (reach-wide s (s .anchor + v) d r))
+      ∙ ap (raised cents d) (keys-at s (s .anchor) v 0 l ∙ first-sound s)
       ∙ reach-sound s (s .anchor + v) d r
 
   widened-kept : WidthKept s (widenedBy cents s v (sounds d)) v
@@ -173,13 +178,17 @@ in-range low high z h =
     let b = both (leZ (pos low) z) (leZ z (pos high)) (not-false _ h) in
     (omega (signed, b .0), omega (signed, b .1, abs z .apart))
 
+-- a width that is taken is in its range
+pub width-least : (s : Tuning cents) (m : Amount) → called s (widthTo m) .number ≡ 0 → 1 ≤ up (amounts m (width cents s))
+width-least s m h = in-range 1 60 (amounts m (width cents s)) (passed _ _ _ (none-failed s (widthTo m) h) .0) .0
+
 pub width-keeps : (s : Tuning cents) (m : Amount) → called s (widthTo m) .number ≡ 0 → WidthKept s (called s (widthTo m) .state) (up (amounts m (width cents s)))
 width-keeps s m h =
     let v = up (amounts m (width cents s)) in
     let f = passed _ _ _ (none-failed s (widthTo m) h) in
     let r = sounding (reach cents s (s .anchor + v)) (passed _ _ _ (f .1) .0) in
     subst (λ (t : Tuning cents). WidthKept s t v) (sym (taken-does s (widthTo m) h ∙ ap (widenedBy cents s v) (r .is)))
-    (widened-kept s v (in-range 1 60 (amounts m (width cents s)) (f .0) .0) (r .at) (r .is))
+    (widened-kept s v (width-least s m h) (r .at) (r .is))
 
 -- ---- a valid tuning stays valid under every call of a retuning, and of a valid tone system
 

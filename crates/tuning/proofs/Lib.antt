@@ -10,4 +10,6 @@ pub mod Outcomes
 pub mod Caps
 pub mod Capped
 pub mod Laws
+pub mod FirstMuted
 pub mod Sums
+pub mod BothEnds

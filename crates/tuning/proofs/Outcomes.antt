@@ -2,7 +2,8 @@
 use mathlib.Core.Path.{_≡_, refl, sym, ap, _∙_}
 use mathlib.Core.Bool.{Bool, true, false, not, Bool·not-not, and-false}
 use mathlib.Core.List.{List, [], _∷_}
-use Prim.Native.Nat.{ℕ, suc, _+_, _≤_}
+use mathlib.Core.Logic.{_≢_}
+use Prim.Native.Nat.{ℕ, zero, suc, _+_, _≤_}
 use native.Mathlib.Nat.{suc-ne-zero}
 use native.Mathlib.Omega.{arith}
 use borrow.Author.Tests.{le-leb}
@@ -20,7 +21,7 @@ use Rattle.tuning.specs.declared.Reach.{Reach}
 use Rattle.tuning.specs.declared.Reach.the-variants.{Silent, By}
 use Rattle.tuning.specs.declared.Amount.{Amount}
 use Rattle.tuning.specs.Scale.{Sound, muted, sounds}
-use Rattle.tuning.specs.Tuning.{Tuning, PeriodTo, PositionTo, Action, anchorTo, widthTo, periodTo, tonesTo, system, amounts, width, soundOf, apart, reach, anchoredBy, anchored, widenedBy, widened, newPeriod, newTones, done}
+use Rattle.tuning.specs.Tuning.{Tuning, PeriodTo, PositionTo, Action, anchorTo, widthTo, periodTo, tonesTo, system, amounts, width, keyPosition, keyRise, soundOf, apart, spanTo, reachBy, reach, anchoredBy, anchored, widenedBy, widened, newPeriod, newTones, done}
 use Rattle.tuning.specs.Desk.{cents, between, isAnchor, isWidth, isPeriod, anyBeyond, Check, firstFailing, badAnchor, badWidth, badPeriod, badTone, unreached, ifTaken, Called, called}
 use Rattle.tuning.specs.State.{places, heard, held, toneOf, coded, validState, replied}
 use Rattle.tuning.specs.Inner.{reachOf}
@@ -28,14 +29,27 @@ use Rattle.tuning.proofs.Valid.{Valid, none}
 use Rattle.tuning.proofs.Tones.{heard-at}
 use Rattle.tuning.proofs.Held.{heard-tone, held-coded, coded-held}
 
--- ---- the distance from position 0 to a key, by the tones that the code finds at its two ends
+-- ---- "pitch(b) - t(0)", by the tones that the code finds at the two ends
 
 module _ (s : State) (v : Valid s) (x : ℕ) (t : Tone) (e : getD (s .tones) 0 none .tone ≡ t) where
-  pub reach-from : reach cents (held s) x ≡ apart cents (heard t) (soundOf cents (held s) x)
-  reach-from = ap (λ (y : Sound ℤ). apart cents y (soundOf cents (held s) x)) (heard-at (s .tones) (s .width) 0 (v .least) ∙ ap heard e)
+  pub span-from : spanTo cents (held s) x ≡ apart cents (heard t) (soundOf cents (held s) x)
+  span-from = ap (λ (y : Sound ℤ). apart cents y (soundOf cents (held s) x)) (heard-at (s .tones) (s .width) 0 (v .least) ∙ ap heard e)
 
-  pub reach-to : {k : Tone} → k ≡ toneOf (soundOf cents (held s) x) → (u : Tone) → k ≡ u → reach cents (held s) x ≡ apart cents (heard t) (heard u)
-  reach-to f u g = reach-from ∙ ap (apart cents (heard t)) (sym (heard-tone (soundOf cents (held s) x)) ∙ ap heard (sym f ∙ g))
+  pub span-to-ends : {k : Tone} → k ≡ toneOf (soundOf cents (held s) x) → (u : Tone) → k ≡ u → spanTo cents (held s) x ≡ apart cents (heard t) (heard u)
+  span-to-ends f u g = span-from ∙ ap (apart cents (heard t)) (sym (heard-tone (soundOf cents (held s) x)) ∙ ap heard (sym f ∙ g))
+
+-- ---- the distance to the key at the other end, by the position of that key
+
+module _ (t : Tuning cents) (x : ℕ) where
+  pub reach-periods : keyPosition cents t x ≡ 0 → reach cents t x ≡ sounds (keyRise cents t x)
+  reach-periods e = ap (λ (r : ℕ). reachBy cents r t x) e
+
+  pub reach-span : keyPosition cents t x ≢ 0 → reach cents t x ≡ spanTo cents t x
+  reach-span n = go (keyPosition cents t x) n
+    where
+      go : (r : ℕ) → r ≢ 0 → reachBy cents r t x ≡ spanTo cents t x
+      go zero k = absurd (k refl)
+      go (suc r) k = refl
 
 -- what the code's distance says
 abbrev pub spanned : Reach → Sound ℤ

@@ -28,4 +28,4 @@ small-sums = hold-append measureSums tuningSums measure-sums tuning-sums
 
 pub compared-sums : Hold comparedSums
 unfolding Hold comparedSums measure nearest L bits highestBit leadingZeros called firstFailing anyBeyond
-compared-sums = (refl, (refl, (refl, (refl, (refl, (refl, (refl, (refl, (refl, (refl, (refl, (refl, (refl, tt)))))))))))))
+compared-sums = (refl, (refl, (refl, (refl, (refl, (refl, (refl, (refl, (refl, (refl, (refl, (refl, tt))))))))))))

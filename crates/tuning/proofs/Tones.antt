@@ -11,7 +11,7 @@ use Rattle.integers.specs.Floor.{floorDiv, floorMod}
 use Rattle.integers.proofs.Signed.{signed, abs, minus, sum, mul-size, mul-bound}
 use Rattle.integers.proofs.Floor.{floor-range}
 use Rattle.tuning.specs.Scale.{muted}
-use Rattle.tuning.specs.Tuning.{width, raised, soundOf}
+use Rattle.tuning.specs.Tuning.{width, raised, keyPosition, keyPeriods, soundOf}
 use Rattle.tuning.specs.Desk.{cents}
 use Rattle.tuning.specs.State.{heard, heardAt, held, toneOf}
 use Rattle.tuning.specs.Inner.{locatedAt, size}
@@ -66,7 +66,11 @@ module _ (s : State) (v : Valid s) (x : ℕ) (h : x ≤ s .anchor .0 + 127) wher
       ∙ ap (λ (w : ℕ). raised cents (floorDiv (subℕ x (s .anchor .0)) w *ℤ s .period .0) (getD (held s .tones) (floorMod (subℕ x (s .anchor .0)) w) muted))
       (sym (held-width s n (v .most)))
 
-  -- and how far it can be
+  -- the same place, of the tuning that the state stands for
+  pub place-held : length (s .tones) ≡ 60 → place ≡ record { position = keyPosition cents (held s) x; periods = keyPeriods cents (held s) x }
+  place-held n = ap (λ (w : ℕ). locatedAt (subℕ x (s .anchor .0)) w) (sym (held-width s n (v .most)))
+
+  -- how far the sound can be
   pub sound-size : length (s .tones) ≡ 60 → size (toneOf (soundOf cents (held s) x)) ≤ 1_624_000_000
   sound-size n =
       let t = getD (s .tones) (place .position) none .tone in

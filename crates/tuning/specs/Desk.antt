@@ -65,7 +65,8 @@ badWidth v = record { number = widthOutOfRange; fails = not (isWidth v) }
 abbrev pub badPeriod : ℤ → Check
 badPeriod P = record { number = periodOutOfRange; fails = not (isPeriod P) }
 
--- "t(0) muted, or key b (anchor) or a+v (width) silent"
+-- "t(0) muted, or key b (anchor) or a+v (width) silent". Document 02, 2/13: "13 narrows to r other than 0 with either end silent" (`Thirteen` of
+-- FirstMuted.antt says just that of a call)
 abbrev pub isMuted : {A : Type 0} → Sound A → Bool
 isMuted muted = true
 isMuted (sounds t) = false
@@ -85,7 +86,7 @@ anyBeyond (t ∷ ts) = beyond t || anyBeyond ts
 abbrev pub badTone : Tuning cents → Check
 badTone s = record { number = toneOutOfRange; fails = anyBeyond (s .tones) }
 
--- "Checks: 10, 13, 14", "11, 13, 14, 12", "12", "14", each in this order; a tone system is always taken
+-- "Checks: 10, 13, 14", "11, 13, 14, 12", "12", "14", each in this order (2/13: "the order stays"); a tone system is always taken
 abbrev pub checks : Tuning cents → Action cents → List Check
 checks s (anchorTo m) =
     let b = amounts m (s .anchor) in

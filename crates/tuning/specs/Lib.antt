@@ -4,5 +4,7 @@ pub mod Tuning
 pub mod Desk
 pub mod State
 pub mod Capped
+pub mod FirstMuted
 pub mod Sums
+pub mod BothEnds
 pub mod Inner

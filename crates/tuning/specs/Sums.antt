@@ -4,10 +4,10 @@ use Prim.Native.Nat.{ℕ, zero, suc, _+_, _*_}
 use lib.IntN.{ℤ, pos, negℤ, _+ℤ_, _*ℤ_}
 use Rattle.cents.specs.Measure.{hertz440, ratio, frequency}
 use Rattle.cents.specs.Sums.{Row, _gives_, measureSums}
-use Rattle.status.specs.Status.{anchorOutOfRange, widthOutOfRange, periodOutOfRange, endSilent, toneOutOfRange}
+use Rattle.status.specs.Status.{anchorOutOfRange, widthOutOfRange, periodOutOfRange, toneOutOfRange}
 use Rattle.status.specs.Status as Status
 use Rattle.tuning.specs.declared.Operator.the-variants.{Plus, Minus, Times, Divide}
-use Rattle.tuning.specs.declared.Amount.the-variants.{Absolute, Kept, Relative}
+use Rattle.tuning.specs.declared.Amount.the-variants.{Absolute, Relative}
 use Rattle.tuning.specs.Scale.{Sound, muted, sounds}
 use Rattle.tuning.specs.Tuning.{Tuning, fresh, onward, mute, move, Action, anchorTo, widthTo, periodTo, tonesTo, width, soundOf, start}
 use Rattle.tuning.specs.Desk.{cents, called}
@@ -76,6 +76,5 @@ comparedSums =
     ∷ (callNumber (start cents) (periodTo (fresh (pos 11 *ℤ intervalOctave))) gives periodOutOfRange)
     ∷ (callNumber (start cents) (anchorTo (Relative Minus 61)) gives anchorOutOfRange)
     ∷ (soundOf cents (tuningAfter (start cents) (tonesTo (mute ∷ []))) 60 gives muted)
-    ∷ (callNumber (tuningAfter (start cents) (tonesTo (mute ∷ []))) (anchorTo Kept) gives endSilent)
     ∷ (callNumber (start cents) (tonesTo (move (pos 100000000) ∷ [])) gives toneOutOfRange)
     ∷ []

@@ -69,20 +69,36 @@ module _ (S : Scale) where
   abbrev pub keyPosition : Tuning S → ℕ → ℕ
   keyPosition s x = positionIn (s .anchor) (width s) x
 
+  -- its q, and q·P, by which it lies above its position
+  abbrev pub keyPeriods : Tuning S → ℕ → ℤ
+  keyPeriods s x = floorDiv (keyDistance x (s .anchor)) (width s)
+
+  abbrev pub keyRise : Tuning S → ℕ → S .Step
+  keyRise s x = S .times (keyPeriods s x) (s .period)
+
   -- "Key x has x - a = q·w + r with r from 0 to w-1; its pitch is t(r) + q·P, silent if t(r) is muted."
   abbrev pub soundOf : Tuning S → ℕ → Sound (S .Tone)
-  soundOf s x = raised (S .times (floorDiv (keyDistance x (s .anchor)) (width s)) (s .period)) (toneAt s (keyPosition s x))
+  soundOf s x = raised (keyRise s x) (toneAt s (keyPosition s x))
 
-  -- "pitch(b) - t(0)": the distance from position 0 to the key at the other end, silent where one of the two is
+  -- "pitch(b) - t(0)", silent where one of the two ends is
   abbrev pub apart : Sound (S .Tone) → Sound (S .Tone) → Sound (S .Step)
   apart muted y = muted
   apart (sounds t) muted = muted
   apart (sounds t) (sounds u) = sounds (S .distance u t)
 
-  abbrev pub reach : Tuning S → ℕ → Sound (S .Step)
-  reach s x = apart (toneAt s 0) (soundOf s x)
+  abbrev pub spanTo : Tuning S → ℕ → Sound (S .Step)
+  spanTo s x = apart (toneAt s 0) (soundOf s x)
 
-  -- "Anchor to b: every sounding tone shifts by pitch(b) - t(0)."
+  -- the distance from position 0 to the key at the other end, by that key's position. Document 02, 2/13: "Where the key at the other end falls on position 0,
+  -- the distance shall be q times the period, muted or not."
+  abbrev pub reachBy : ℕ → Tuning S → ℕ → Sound (S .Step)
+  reachBy zero s x = sounds (keyRise s x)
+  reachBy (suc r) s x = spanTo s x
+
+  abbrev pub reach : Tuning S → ℕ → Sound (S .Step)
+  reach s x = reachBy (keyPosition s x) s x
+
+  -- "Anchor to b: every sounding tone shifts by pitch(b) - t(0)." 2/13: "Anchor moves then shift by that"
   abbrev pub anchoredBy : Tuning S → ℕ → Sound (S .Step) → Tuning S
   anchoredBy s b muted = s
   anchoredBy s b (sounds d) = record { anchor = b; tones = map (raised d) (s .tones); period = s .period }
@@ -95,7 +111,7 @@ module _ (S : Scale) where
   keysFrom s x zero = []
   keysFrom s x (suc n) = soundOf s x ∷ keysFrom s (suc x) n
 
-  -- "Width to v: new t(i) is the old pitch of key a+i; the new period is pitch(a+v) - t(0)."
+  -- "Width to v: new t(i) is the old pitch of key a+i; the new period is pitch(a+v) - t(0)." 2/13: "width changes take it as the new period"
   abbrev pub widenedBy : Tuning S → ℕ → Sound (S .Step) → Tuning S
   widenedBy s v muted = s
   widenedBy s v (sounds d) = record { anchor = s .anchor; tones = keysFrom s (s .anchor) v; period = d }

@@ -13,6 +13,7 @@ use crate::Tone;
 use crate::ToneChange;
 use crate::ToneChanges;
 use crate::is_period;
+use crate::locate;
 use cents::FIRST_KEY;
 use cents::Interval;
 use cents::KeyNumber;
@@ -28,7 +29,7 @@ ghost use lib.Signed.{leZ};
 ghost use Rattle.limits.specs.Limits.{mostAnchor, mostPositions, farthestTone};
 ghost use Rattle.cents.specs.Passages.{mostKey};
 ghost use Rattle.tuning.specs.Scale.{Sound};
-ghost use Rattle.tuning.specs.Tuning.{operated, amounts, Action, reach, anchoredBy, widenedBy, newTone, newPeriod, done};
+ghost use Rattle.tuning.specs.Tuning.{operated, amounts, Action, spanTo, reach, anchoredBy, widenedBy, newTone, newPeriod, done};
 ghost use Rattle.tuning.specs.Desk.{cents};
 ghost use Rattle.tuning.specs.State.{heard, held, toneOf, coded, validState, replied, periodMeant, toneMeant, tonesMeant, meant};
 ghost use Rattle.tuning.specs.Capped.{farthestSum, capped, cappedTo, cappedPeriod};
@@ -108,10 +109,10 @@ impl PeriodChange {
 }
 
 impl State {
-    // The distance from position 0 to the key at the other end.
-    fn reach(self, key: KeyNumber) -> Reach
+    // "pitch(b) - t(0)": the distance from position 0 to a key, where both sound.
+    fn span_to(self, key: KeyNumber) -> Reach
         requires { ⌜ (validState self ≡ true) × (key .0 ≤ self .anchor .0 + mostAnchor) ⌝ }
-        ensures { λ r. ⌜ (r ≡ reachOf (reach cents (held self) (key .0))) × (reachSize r ≤ farthestReach) ⌝ }
+        ensures { λ r. ⌜ (r ≡ reachOf (spanTo cents (held self) (key .0))) × (reachSize r ≤ farthestReach) ⌝ }
     {
         let first = self.tones[0];
         let root = first.tone;
@@ -122,6 +123,19 @@ impl State {
             return Reach::Silent;
         };
         Reach::By(p.distance(t))
+    }
+
+    // The distance from position 0 to the key at the other end: whole periods where that key is on position 0, muted or not.
+    fn reach(self, key: KeyNumber) -> Reach
+        requires { ⌜ (validState self ≡ true) × (key .0 ≤ self .anchor .0 + mostAnchor) ⌝ }
+        ensures { λ r. ⌜ (r ≡ reachOf (reach cents (held self) (key .0))) × (reachSize r ≤ farthestReach) ⌝ }
+    {
+        let place = locate(key.distance(self.anchor), self.width);
+        let r = place.position;
+        if r == 0 {
+            return Reach::By(self.period.times(place.periods));
+        }
+        self.span_to(key)
     }
 
     // The anchor at a key, and every sounding tone shifted.

@@ -1,0 +1,86 @@
+-- Document 02, 2/13, of the exact book: where position 0 sounds its distances are document 01's, and the worked streams, by computing. Assumes nothing.
+use mathlib.Core.Path.{_≡_, refl, ap, fun-ext}
+use mathlib.Core.List.{List}
+use Prim.Native.Nat.{ℕ}
+use mathlib.Core.Option.{Option·elim}
+use lib.Count.{leadingZeros}
+use Rattle.cents.specs.Log.{highestBit, bits, L}
+use Rattle.cents.specs.Measure.{measure, nearest}
+use Rattle.values.specs.Values.{plus, total, shifted, ranged, valueAt}
+use Rattle.tables.specs.Layout.{writtenAll, joined, rowOf}
+use Rattle.filling.specs.Tables.{filledFrom, tablesOf}
+use Rattle.validity.specs.Valid.{validTables, declarationRight, isOwn, rowsRight, declarations, kindsFrom, partsFollow, ordersRight, eachRight, allZero, allNought}
+use Rattle.tuning.specs.Tuning.{start}
+use Rattle.tuning.specs.FirstMuted.{SoundingFirst}
+use Rattle.tuning.specs.Desk.{called, firstFailing, anyBeyond}
+use Rattle.tuning.specs.State.{validState, allMuted}
+use Rattle.tuning.proofs.FirstMuted.{sounding-first, shift-back}
+use Rattle.sets.specs.Sets.{has, added, removed, setOf, all, any}
+use Rattle.harmonies.specs.Harmonies.{matches}
+use Rattle.hexadecimal.specs.Digits.{digitOf, byteOf, bytesOf}
+use Rattle.frames.specs.Frames.{framed, frameOf}
+use Rattle.protocol.specs.Triggers.{firstLogic, firstOrder, struck}
+use Rattle.protocol.specs.Steps.{Made, callOn, deskFrom, madeFrom, triggered, moveStep}
+use Rattle.protocol.specs.Answers.{startDesk, letterOutcome, keyOutcome, moveOutcome, frameOutcome, answerOf}
+use Rattle.hexadecimal.specs.Digits.{hexOf, hexes}
+use Rattle.hexadecimal.specs.Numbers.{twos, fourOf}
+use Rattle.protocol.specs.Streams.{Lent, deskAfter, madeIn, linesOf}
+use Rattle.program.specs.Program.{Program}
+use Rattle.program.specs.Meaning.{valueOf}
+use Rattle.program.specs.Pentatonic as pentatonic
+use Rattle.program.specs.NineOctaves as nineOctaves
+use Rattle.program.specs.MutedChord as mutedChord
+use Rattle.program.proofs.Texts.{pentatonic-read, nine-octaves-read, muted-chord-read}
+use Rattle.exact.specs.Book.{entries, bookFrom, once}
+use Rattle.exact.specs.Actions.{entryWithin}
+use Rattle.exact.specs.Claim.{fedBy, bookAfter}
+use Rattle.exact.specs.FirstMuted.{pentatonicFrames, pentatonicLines, pentatonicCalls, nineOctavesFrames, nineOctavesLines, nineOctavesCalls, mutedChordFrames, mutedChordLines, mutedChordCalls, doubledBook, nineBook, chordBook, Whole}
+
+-- where position 0 sounds nothing changes, in the book either
+pub book-sounding-first : SoundingFirst entries
+book-sounding-first = sounding-first entries (λ t d. fun-ext (λ n. shift-back (t n) (d n)))
+
+-- what is answered and what is called, all at once, since what is computed is opened at each
+abbrev Answers : Program → List Lent → List (List ℕ) → List Made → Type 0
+Answers p frames lines calls = (linesOf (tablesOf p) startDesk frames ≡ lines) × (madeIn (tablesOf p) startDesk frames ≡ calls)
+
+answers : Answers pentatonic.program pentatonicFrames pentatonicLines pentatonicCalls × Answers nineOctaves.program nineOctavesFrames nineOctavesLines nineOctavesCalls
+    × Answers mutedChord.program mutedChordFrames mutedChordLines mutedChordCalls
+unfolding Option·elim leadingZeros highestBit bits L measure nearest plus total shifted ranged valueAt valueOf writtenAll joined rowOf filledFrom tablesOf
+    validTables declarationRight isOwn rowsRight declarations kindsFrom partsFollow ordersRight eachRight allZero allNought called firstFailing anyBeyond validState
+    allMuted has added removed setOf all any matches digitOf byteOf bytesOf framed frameOf firstLogic firstOrder struck callOn deskFrom madeFrom triggered moveStep
+    letterOutcome keyOutcome moveOutcome frameOutcome answerOf linesOf hexOf hexes twos fourOf deskAfter madeIn
+answers = ((refl, refl), (refl, refl), (refl, refl))
+
+-- the book, fed these calls
+fed : (p : Program) (frames : List Lent) (calls : List Made) → madeIn (tablesOf p) startDesk frames ≡ calls → bookAfter p frames ≡ bookFrom (start entries) (fedBy p calls)
+unfolding bookAfter
+fed p frames calls e = ap (λ (ms : List Made). bookFrom (start entries) (fedBy p ms)) e
+
+doubled : doubledBook ≡ bookFrom (start entries) (fedBy pentatonic.program pentatonicCalls)
+unfolding doubledBook
+doubled = fed pentatonic.program pentatonicFrames pentatonicCalls (answers .0 .1)
+
+nine : nineBook ≡ bookFrom (start entries) (fedBy nineOctaves.program nineOctavesCalls)
+unfolding nineBook
+nine = fed nineOctaves.program nineOctavesFrames nineOctavesCalls (answers .1 .1)
+
+chord : chordBook ≡ bookFrom (start entries) (fedBy mutedChord.program mutedChordCalls)
+unfolding chordBook
+chord = fed mutedChord.program mutedChordFrames mutedChordCalls (answers .2 .1)
+
+pub first-muted : Whole
+unfolding entryWithin once fedBy bookFrom
+first-muted =
+    record {
+      pentatonic = record { read = pentatonic-read; answered = answers .0 .0; made = answers .0 .1 };
+      nineOctaves = record { read = nine-octaves-read; answered = answers .1 .0; made = answers .1 .1 };
+      mutedChord = record { read = muted-chord-read; answered = answers .2 .0; made = answers .2 .1 };
+      doubledWidth = rw doubled;
+      doubledPeriod = rw doubled;
+      stillSilent = rw doubled;
+      ninePeriod = rw nine;
+      nineWidth = rw nine;
+      chordAnchor = rw chord;
+      chordSilent = rw chord;
+    }

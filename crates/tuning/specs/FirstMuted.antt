@@ -1,0 +1,57 @@
+-- Document 02, 2/13, "A scale whose first key is muted": what the mended rule (`reach` of Tuning.antt) comes to, for distances, calls and keys.
+use mathlib.Core.Path.{_≡_}
+use mathlib.Core.Logic.{_≢_, _↔_, _⊎_}
+use mathlib.Core.Bool.{true}
+use Prim.Native.Nat.{ℕ, _+_, _<_}
+use lib.ListN.{length}
+use Rattle.integers.specs.Parts.{up}
+use Rattle.status.specs.Status as Status
+use Rattle.status.specs.Status.{endSilent}
+use Rattle.tuning.specs.declared.Amount.{Amount}
+use Rattle.tuning.specs.declared.Amount.the-variants as amount
+use Rattle.tuning.specs.declared.State.{State}
+use Rattle.tuning.specs.Scale.{Scale, muted, sounds}
+use Rattle.tuning.specs.Tuning.{Tuning, Action, anchorTo, widthTo, amounts, width, toneAt, keyPosition, soundOf, spanTo, reach}
+use Rattle.tuning.specs.Desk.{cents, isAnchor, isWidth, called}
+use Rattle.tuning.specs.State.{places, validState, replied}
+
+-- where position 0 sounds nothing changes: the distance is document 01's "pitch(b) - t(0)", whatever the key at the other end
+abbrev pub SoundingFirst : Scale → Type 0
+SoundingFirst S = (s : Tuning S) (t : S .Tone) → toneAt S s 0 ≡ sounds t → (x : ℕ) → reach S s x ≡ spanTo S s x
+
+-- the key at the other end: "key b (anchor) or a+v (width)"
+abbrev pub newAnchor : Tuning cents → Amount → ℕ
+newAnchor s m = up (amounts m (s .anchor))
+
+abbrev pub pastWidth : Tuning cents → Amount → ℕ
+pastWidth s m = s .anchor + up (amounts m (width cents s))
+
+-- "r other than 0 with either end silent"
+pub record EitherSilent (s : Tuning cents) (x : ℕ) : Type 0 where
+  pub elsewhere : keyPosition cents s x ≢ 0
+  pub silent : (toneAt cents s 0 ≡ muted) ⊎ (soundOf cents s x ≡ muted)
+
+-- "13 narrows to" this: a call gets 13 just there, after 10 and 11
+pub record Thirteen (s : Tuning cents) (m : Amount) : Type 0 where
+  pub anchor : (called s (anchorTo m) .number ≡ endSilent) ↔ (isAnchor (amounts m (s .anchor)) ≡ true) × EitherSilent s (newAnchor s m)
+  pub width : (called s (widthTo m) .number ≡ endSilent) ↔ (isWidth (amounts m (width cents s)) ≡ true) × EitherSilent s (pastWidth s m)
+
+-- "document 01 won't double it or carry it up": a call that is taken, to a key on position 0, leaves every key at its sound, muted or not
+abbrev pub KeepsAll : Tuning cents → Action cents → Type 0
+KeepsAll s c = called s c .number ≡ Status.done → (x : ℕ) → soundOf cents (called s c .state) x ≡ soundOf cents s x
+
+pub record WholePeriods (s : Tuning cents) (m : Amount) : Type 0 where
+  pub anchor : keyPosition cents s (newAnchor s m) ≡ 0 → KeepsAll s (anchorTo m)
+  pub width : keyPosition cents s (pastWidth s m) ≡ 0 → KeepsAll s (widthTo m)
+
+-- `@ [ ]` and width `@` are taken, and leave the state as it is, whichever of its positions are muted
+pub record KeptIsTaken (s : State) : Type 0 where
+  pub anchor : replied s (anchorTo amount.Kept) ≡ record { state = s; number = Status.done }
+  pub width : replied s (widthTo amount.Kept) ≡ record { state = s; number = Status.done }
+
+-- **2/13**: all this, of every tuning and of every valid state
+pub record MutedFirst : Type 1 where
+  pub sounding : SoundingFirst cents
+  pub thirteen : (s : Tuning cents) (m : Amount) → Thirteen s m
+  pub periods : (s : Tuning cents) → 0 < width cents s → (m : Amount) → WholePeriods s m
+  pub kept : (s : State) → validState s ≡ true → length (s .tones) ≡ places → KeptIsTaken s
