@@ -174,8 +174,13 @@ impl Book {
         self.tone_entries.get(tone).ok_or(Halt::Impossible)
     }
 
-    /// The entry of a key less that of position 0.
+    /// Request 2/13: q times the period's entry where the key falls on
+    /// position 0; else the entry of the key less that of position 0.
     fn distance_to(&self, key: i64) -> Result<Entry, Halt> {
+        let (q, r) = self.place_of(key);
+        if r == 0 {
+            return Entry::nothing(self.numbers.len()).plus(q, &self.period);
+        }
         let first = self.tone(0).ok_or(Halt::Impossible)?;
         let entry = self.entry(key)?.ok_or(Halt::Impossible)?;
         entry.plus(-1, first)

@@ -157,6 +157,11 @@ impl Desk {
         self.active
     }
 
+    /// What a call of this name does.
+    pub fn call_of(&self, target: Target) -> Option<&Call> {
+        called(&self.program, target)
+    }
+
     pub fn held(&self) -> &HeldKeys {
         &self.held
     }
@@ -302,6 +307,56 @@ mod tests {
             ("0201", "FF16"),
         ];
         answers(CASE_S, &frames);
+    }
+
+    /// Request 2/13: carried up, doubled, and refused elsewhere.
+    #[test]
+    fn a_pentatonic_scale_whose_first_key_is_muted() {
+        answers(
+            "INTERVAL O = 2 : 1 RETUNING Pent = [ , @, , @, , , @, , @, , @, ] U12 = @ + 12 [ ] \
+             U2 = @ + 2 [ ] U1 = @ + 1 [ ] D12 = @ - 12 [ ] W24 = [ << @ * 2 >> ] W = [ << @ >> ] \
+             W13 = [ << 13 >> ] K = @ [ ] LOGIC L KEY L = Pent [ KEY A -> U12 KEY B -> U1 \
+             KEY C -> D12 KEY D -> W24 KEY E -> W KEY F -> W13 KEY G -> K KEY H -> U2 ]",
+            &[
+                ("01014C", "01014C003C0C00124F80"),
+                ("010147", "010147003C0C00124F80"),
+                ("010145", "010145003C0C00124F80"),
+                ("010141", "01014100480C00124F80"),
+                ("01023C", "01023C1480000000"),
+                ("01023D", "01023D00005D1420"),
+                ("010143", "010143003C0C00124F80"),
+                ("010142", "0101420D3C0C00124F80"),
+                ("010144", "010144003C1800249F00"),
+                ("010148", "0101480D3C1800249F00"),
+                ("010146", "0101460D3C1800249F00"),
+            ],
+        );
+    }
+
+    #[test]
+    fn a_muted_first_key_and_a_period_too_long() {
+        answers(
+            "INTERVAL T = 2 : 1 RETUNING P = [ ] 9 T M = [ , ] W = [ << @ * 2 >> ] \
+             LOGIC L KEY L = P [ KEY A -> M KEY B -> W ]",
+            &[
+                ("01014C", "01014C003C0C00A4CB80"),
+                ("010141", "010141003C0C00A4CB80"),
+                ("010142", "0101420C3C0C00A4CB80"),
+            ],
+        );
+    }
+
+    #[test]
+    fn a_muted_first_key_carried_up_by_a_chord() {
+        answers(
+            "HARMONY C = { 0 } RETUNING Mute = [ , ] Up = @ + 12 [ ] \
+             LOGIC M KEY M = Mute [ ] L C = Up [ ]",
+            &[
+                ("01014D", "01014D003C0C00124F80"),
+                ("01053C", "01053C00480C00124F80"),
+                ("01063C", "01063C00480C00124F80"),
+            ],
+        );
     }
 
     #[test]

@@ -10,6 +10,7 @@ mod commands;
 mod comparison;
 mod desk;
 mod dump;
+mod ends;
 mod frames;
 mod harmony;
 mod logarithm;
@@ -32,13 +33,14 @@ const USAGE: &str = "usage: reference SUBCOMMAND
   measure-accuracy             checks measure records against true logarithms
   call-cases SEED COUNT        writes records of tuning calls
   calls                        answers records of tuning calls
+  call-counts SEED COUNT       counts the ends of anchor and width calls among these
   read FILE...                 prints what each text declares
   text-cases SEED COUNT DIR|-  writes texts, into a folder or as a stream
   texts                        answers a stream of texts
   stream-cases SEED INDEX TEXTFILE FRAMESFILE
                                writes one text and its frames
   stream-pairs SEED COUNT DIR  writes texts and frames, each pair in a folder
-  stream-counts SEED COUNT     counts key frames and matches of these streams
+  stream-counts SEED COUNT     counts key frames, matches and ends in these streams
   desk [--validate]            answers frames as sitedesk does
   join DIR                     writes a folder's text and frames as one input
   joined                       answers one input
@@ -76,6 +78,7 @@ fn run(words: &[&str]) -> Option<Outcome> {
         ["measure-accuracy"] => measures::check(),
         ["call-cases", seed, count] => calls::write_cases(seed.parse().ok()?, count.parse().ok()?),
         ["calls"] => calls::answer(),
+        ["call-counts", seed, count] => calls::count(seed.parse().ok()?, count.parse().ok()?),
         ["read", ref paths @ ..] if !paths.is_empty() => texts::read(paths),
         ["texts"] => texts::answer(),
         ["text-cases", seed, count, folder] => {

@@ -1,5 +1,6 @@
-//! Section "State and retunings" of document 01: the four parts of a tuning,
-//! the pitch of a key, and what each call makes of them.
+//! Section "State and retunings" of document 01, as request 2/13 of document
+//! 02 mends it: the four parts of a tuning, the pitch of a key, and what each
+//! call makes of them.
 
 use crate::measure::{Interval, Pitch};
 use crate::numbers::{self, Number};
@@ -202,9 +203,14 @@ impl State {
         }
     }
 
-    /// pitch(key) - t(0); 13 is "t(0) muted, or key b (anchor) or a+v (width)
-    /// silent".
+    /// "Where the key at the other end falls on position 0, the distance shall
+    /// be q times the period, muted or not." Elsewhere it is pitch(key) - t(0),
+    /// and 13 is "r other than 0 with either end silent".
     fn distance_to(&self, key: Key) -> Result<Interval, Number> {
+        let (q, r) = self.place_of(key);
+        if r == 0 {
+            return Ok(self.period * q);
+        }
         match (self.tones[0], self.pitch(key)) {
             (Some(first), Some(pitch)) => Ok(pitch - first),
             _ => Err(numbers::MUTED),
@@ -286,13 +292,43 @@ mod tests {
         let mute = Call::Tones(vec![Position::Muted]);
         let silent = two().called(&mute).unwrap();
         assert_eq!(silent.pitch(Key(69)), None);
-        assert_eq!(refusal(&silent, Call::Anchor(Change::Kept)), 13);
-        assert_eq!(refusal(&silent, Call::Width(Change::Kept)), 13);
+        assert_eq!(refusal(&silent, Call::Anchor(Change::Plus(1))), 13);
+        assert_eq!(refusal(&silent, Call::Width(Change::To(3))), 13);
         let still = Call::Tones(vec![Position::By(Interval(i64::from(i32::MAX)))]);
         assert_eq!(silent.called(&still).unwrap(), silent);
         let beyond = vec![Position::By(Interval(0)), Position::Muted, Position::Muted];
         let both = two().called(&Call::Tones(beyond)).unwrap();
         assert_eq!((both.pitch(Key(69)), both.pitch(Key(70))), (Some(Pitch(6_900_000)), None));
+    }
+
+    /// Request 2/13, with the first of `Two`'s positions muted.
+    #[test]
+    fn whole_periods_from_a_muted_first_position() {
+        let silent = two().called(&Call::Tones(vec![Position::Muted])).unwrap();
+        let call = |call: Call| silent.called(&call).unwrap();
+        assert_eq!(call(Call::Anchor(Change::Kept)), silent);
+        assert_eq!(call(Call::Width(Change::Kept)), silent);
+        let up = call(Call::Anchor(Change::Plus(4)));
+        assert_eq!((up.anchor, up.tones[1]), (Key(73), Some(Pitch(7_601_955 + 2 * 1_200_000))));
+        let down = call(Call::Anchor(Change::Minus(6)));
+        assert_eq!((down.anchor, down.tones[1]), (Key(63), Some(Pitch(7_601_955 - 3 * 1_200_000))));
+        let wide = call(Call::Width(Change::Times(3)));
+        assert_eq!((wide.width, wide.period), (6, OCTAVE * 3));
+        for state in [up, down, wide] {
+            assert!((0..128).all(|key| state.pitch(Key(key)) == silent.pitch(Key(key))));
+        }
+        let far = silent.called(&Call::Period(PeriodChange::To(OCTAVE * 6))).unwrap();
+        assert_eq!(refusal(&far, Call::Width(Change::Times(2))), 12);
+    }
+
+    /// Where position 0 sounds, q periods are pitch(b) - t(0) as before.
+    #[test]
+    fn whole_periods_from_a_sounding_first_position() {
+        let first = two().tones[0].unwrap();
+        for key in (1..=127).step_by(2).map(Key) {
+            let distance = two().pitch(key).unwrap() - first;
+            assert_eq!(two().distance_to(key), Ok(distance));
+        }
     }
 
     #[test]

@@ -31,10 +31,7 @@ fn sequence(random: &mut Random) -> Vec<Step> {
 }
 
 fn call(random: &mut Random, state: &State) -> Call {
-    // Anchors and widths meet nothing but a muted first tone, so they are
-    // rarer while there is one.
-    let moves = if state.tones[0].is_some() { 60 } else { 40 };
-    if random.percent(moves) {
+    if random.percent(60) {
         if random.percent(50) {
             Call::Anchor(anchor_change(random, state))
         } else {
@@ -52,7 +49,7 @@ fn call(random: &mut Random, state: &State) -> Call {
 fn anchor_change(random: &mut Random, state: &State) -> Change {
     let old = state.anchor.0;
     let (up, down) = (127 - old, old);
-    match random.below(12) {
+    match random.below(16) {
         0 => Change::Kept,
         1 => Change::To(n(random.between(0, 130))),
         2 => Change::To(random.one_of([0, 1, 127, 128, 9_999])),
@@ -62,13 +59,22 @@ fn anchor_change(random: &mut Random, state: &State) -> Change {
         6 | 7 => Change::Plus(n(random.between(0, up))),
         8 | 9 => Change::Minus(n(random.between(0, down))),
         10 => Change::Plus(random.below(140) as u16),
-        _ => Change::Minus(random.below(140) as u16),
+        11 => Change::Minus(random.below(140) as u16),
+        12 | 13 => Change::Plus(n(whole_widths(random, state, up))),
+        _ => Change::Minus(n(whole_widths(random, state, down))),
     }
+}
+
+/// Whole widths, at most one past the keys that are left; now and then a key
+/// beside them.
+fn whole_widths(random: &mut Random, state: &State, left: i64) -> i64 {
+    let width = state.width as i64;
+    width * random.between(0, left / width + 1) + random.one_of([0, 0, 0, 0, -1, 1])
 }
 
 fn width_change(random: &mut Random, state: &State) -> Change {
     let old = state.width as i64;
-    match random.below(12) {
+    match random.below(14) {
         0 => Change::Kept,
         1 | 2 => Change::To(n(random.between(0, 61))),
         3 => Change::To(random.one_of([0, 1, 60, 61, 9_999])),
@@ -79,6 +85,7 @@ fn width_change(random: &mut Random, state: &State) -> Change {
         8 => Change::Times(n(random.between(0, 61 / old.max(1) + 1))),
         9 => Change::Times(random.one_of([0, 1, 2, 5, 60, 61, 9_999])),
         10 => Change::Over(above_zero(random.between(1, old + 1))),
+        11 | 12 => Change::To(n(whole_widths(random, state, 60))),
         _ => Change::Over(above_zero(random.one_of([1, 2, 3, 12, 61, 9_999]))),
     }
 }
@@ -103,13 +110,14 @@ fn period_change(random: &mut Random, state: &State) -> PeriodChange {
     }
 }
 
-/// A period in its range or right beside it.
+/// A period in its range or right beside it, or so that several of it are.
 fn period(random: &mut Random) -> i64 {
-    match random.below(6) {
+    match random.below(7) {
         0 => random.between(-2, 2),
         1 => PERIODS.end() + random.between(-2, 2),
         2 => 1_200_000,
         3 => random.between(0, 2_400_000),
+        4 => PERIODS.end() / random.between(1, 6) + random.between(0, 1),
         _ => random.between(*PERIODS.start(), *PERIODS.end()),
     }
 }
@@ -123,7 +131,11 @@ fn positions(random: &mut Random, state: &State) -> Vec<Position> {
     // Few lists go out of range, and then at one place or two.
     let wild = if random.percent(30) { 100 / count as u32 + 1 } else { 0 };
     let old = |i: usize| state.tones.get(i).copied().flatten();
-    (0..count).map(|i| position(random, wild, old(i))).collect()
+    let mut positions: Vec<_> = (0..count).map(|i| position(random, wild, old(i))).collect();
+    if random.percent(20) {
+        positions[0] = Position::Muted;
+    }
+    positions
 }
 
 fn position(random: &mut Random, wild: u32, old: Option<Pitch>) -> Position {

@@ -14,6 +14,12 @@ use std::num::NonZeroU32;
 const FAR_FREQUENCIES: [u64; 4] = [11_530_000, 23_060_000, 46_120_000, 52_690_000];
 const FAR_RATIOS: [(u64, u64); 4] = [(77, 69), (69, 77), (123, 14), (14, 123)];
 
+/// "At the start: anchor 60, width 12".
+const START_WIDTH: usize = 12;
+
+/// How many in a hundred first positions are muted where a plan wants that.
+const FIRST_MUTED: u32 = 12;
+
 /// How many declarations of each kind a text shall have, and orders in each
 /// logic, at most.
 #[derive(Clone, Copy, Debug)]
@@ -32,6 +38,9 @@ pub struct Plan {
     pub musical: bool,
     /// Whether those that are measured worst are among them.
     pub far: bool,
+    /// Whether first positions are often muted, and anchors moved by whole
+    /// widths.
+    pub first_muted: bool,
 }
 
 /// The symbols of a text by this plan.
@@ -88,6 +97,8 @@ struct Composer<'a> {
     intervals: Vec<Known<Interval>>,
     tones: Vec<Known<Pitch>>,
     systems: Vec<String>,
+    /// The start's width and those of the tone systems.
+    widths: Vec<usize>,
     retunings: Vec<String>,
     harmonies: Vec<String>,
     logics: Vec<String>,
@@ -165,6 +176,7 @@ impl<'a> Composer<'a> {
             intervals: Vec::new(),
             tones: Vec::new(),
             systems: Vec::new(),
+            widths: vec![START_WIDTH],
             retunings: Vec::new(),
             harmonies: Vec::new(),
             logics: Vec::new(),
@@ -359,6 +371,7 @@ impl Composer<'_> {
         if count == 1 && positions.iter().all(Vec::is_empty) {
             positions.push(Vec::new());
         }
+        self.widths.push(positions.len());
         bracketed(positions)
     }
 
@@ -380,6 +393,7 @@ impl Composer<'_> {
 
     fn anchor_form(&mut self) -> Vec<Token> {
         let mut form = match self.random.below(8) {
+            _ if self.plan.first_muted && self.random.percent(40) => self.by_whole_widths(),
             0 => vec![Token::mark("@")],
             1 => vec![self.change(128)],
             2 => vec![self.change(10_000)],
@@ -391,6 +405,13 @@ impl Composer<'_> {
         };
         form.extend([Token::mark("["), Token::mark("]")]);
         form
+    }
+
+    fn by_whole_widths(&mut self) -> Vec<Token> {
+        let width = self.random.pick(&self.widths, START_WIDTH);
+        let steps = width * (1 + self.random.below(3));
+        let sign = self.random.one_of(["+", "-"]);
+        vec![Token::mark("@"), Token::mark(sign), self.whole(Quantity::Change, steps as u64)]
     }
 
     fn change(&mut self, below: usize) -> Token {
@@ -448,8 +469,12 @@ impl Composer<'_> {
         let strict = !self.random.percent(15);
         let mut positions: Vec<Vec<Token>> = Vec::new();
         for i in 0..count {
-            // The first position is seldom muted: without it no anchor moves.
-            let chance = if i == 0 { muted / 2 } else { muted };
+            // Without the first position anchors move by whole periods alone.
+            let chance = match i {
+                0 if self.plan.first_muted => muted.max(FIRST_MUTED),
+                0 => muted / 2,
+                _ => muted,
+            };
             let empty = self.random.percent(chance);
             positions.push(if empty { Vec::new() } else { self.position(strict) });
         }

@@ -63,6 +63,7 @@ fn plan(random: &mut Random) -> Plan {
             terms: 6,
             musical: true,
             far: true,
+            first_muted: true,
         };
     }
     Plan {
@@ -77,6 +78,7 @@ fn plan(random: &mut Random) -> Plan {
         terms: between(1, 6),
         musical: between(0, 4) > 0,
         far: true,
+        first_muted: true,
     }
 }
 

@@ -53,6 +53,7 @@ fn plan(random: &mut Random) -> Plan {
         terms: upto(15) + 1,
         musical: upto(1) == 0,
         far: false,
+        first_muted: false,
     }
 }
 

@@ -5,6 +5,7 @@ use super::{note, output, verdict, Outcome};
 use crate::book::{Book, Halt};
 use crate::cases::streams;
 use crate::comparison::{Comparison, Distance, Logarithms, Page, Sizes};
+use crate::ends::Ends;
 use crate::frames::{frame_bytes, Desk, Made};
 use crate::measure::{Pitch, CONCERT_PITCH};
 use crate::numbers;
@@ -33,7 +34,10 @@ pub fn check(seed: u64, count: u64) -> Outcome {
     if tally.past_half == 0 {
         note(format_args!("no key is past 0.5 w: 51 hundredths could not be told from 50"));
     }
-    Ok(verdict(tally.failed == 0 && tally.past_half > 0))
+    if tally.ends.taken() == 0 {
+        note(format_args!("no call goes by whole periods from a muted first position"));
+    }
+    Ok(verdict(tally.failed == 0 && tally.past_half > 0 && tally.ends.taken() > 0))
 }
 
 fn follow(
@@ -53,9 +57,12 @@ fn follow(
     compare_keys(&mut desk, &Page::new(&book, &sizes), tally)?;
     let lines = frames.strip_suffix(b"\n").unwrap_or(frames);
     for line in lines.split(|&byte| byte == b'\n') {
-        let mut answer = Vec::new();
-        if let Some(made) = desk.answer(line, &mut answer).made {
+        let before = desk.state().clone();
+        if let Some(made) = desk.answer(line, &mut Vec::new()).made {
             tally.note_call(line, made);
+            if let Some(call) = desk.call_of(made.target) {
+                tally.ends.note(&before, call, made.number);
+            }
             book.take(made)?;
         }
         compare_keys(&mut desk, &Page::new(&book, &sizes), tally)?;
@@ -93,6 +100,7 @@ struct Tally {
     calls: u64,
     /// Those of the calls that a harmony made.
     by_harmonies: u64,
+    ends: Ends,
     silent: u64,
     exact: u64,
     apart: u64,
@@ -149,8 +157,12 @@ impl std::fmt::Display for Tally {
         )?;
         writeln!(
             f,
-            "{} frames, {} calls taken, {} of these by harmonies",
-            self.frames, self.calls, self.by_harmonies
+            "{} frames, {} calls taken, {} of these by harmonies, \
+             {} by whole periods from a muted first position",
+            self.frames,
+            self.calls,
+            self.by_harmonies,
+            self.ends.taken()
         )?;
         writeln!(
             f,

@@ -1,8 +1,9 @@
-//! `call-cases` and `calls`.
+//! `call-cases`, `calls` and `call-counts`.
 
-use super::{input, note, output, Outcome, Verdict};
+use super::{input, note, output, verdict, Outcome, Verdict};
 use crate::call_records::{state_bytes, Step};
 use crate::cases::calls;
+use crate::ends::Ends;
 use crate::numbers::{self, Counts, Number};
 use crate::records::next_record;
 use crate::state::State;
@@ -33,6 +34,31 @@ pub fn answer() -> Outcome {
     Ok(Verdict::Passed)
 }
 
+/// In so many sequences each way to end a distance shall come once.
+const SEQUENCES_TO_EACH_END: u64 = 40;
+
+/// Follows the sequences of a seed and counts the ends of their distances;
+/// fails if one of the ways is rare.
+pub fn count(seed: u64, count: usize) -> Outcome {
+    let ends = ends(seed, count);
+    let mut output = output();
+    writeln!(output, "calls {ends}")?;
+    output.flush()?;
+    Ok(verdict(SEQUENCES_TO_EACH_END * ends.rarest() >= count as u64))
+}
+
+fn ends(seed: u64, count: usize) -> Ends {
+    let (mut state, mut ends) = (State::start(), Ends::default());
+    for step in calls::steps(seed, count) {
+        let before = state.clone();
+        let number = take(&step, &mut state);
+        if let Step::Call(call) = &step {
+            ends.note(&before, call, number);
+        }
+    }
+    ends
+}
+
 /// Makes one step; a refused call leaves the state unchanged.
 fn take(step: &Step, state: &mut State) -> Number {
     let new = match step {
@@ -45,5 +71,16 @@ fn take(step: &Step, state: &mut State) -> Number {
             numbers::DONE
         }
         Err(number) => number,
+    }
+}
+
+#[cfg(test)]
+mod tests {
+    use super::*;
+
+    #[test]
+    fn each_end_is_frequent() {
+        let ends = ends(11, 500);
+        assert!(SEQUENCES_TO_EACH_END * ends.rarest() >= 500, "{ends}");
     }
 }

@@ -1,9 +1,10 @@
 //! `stream-counts`: how often the streams of a seed play keys, and how often a
-//! harmony then matches.
+//! harmony then matches; and the ends of their anchor and width calls.
 
 use super::{output, verdict, Outcome};
 use crate::cases::streams::{self, Pair};
-use crate::frames::{frame_bytes, Desk};
+use crate::ends::Ends;
+use crate::frames::{frame_bytes, Desk, Effect};
 use crate::numbers;
 use crate::text;
 use std::io::Write;
@@ -11,7 +12,11 @@ use std::io::Write;
 /// One in so many streams with key frames shall contain a match.
 const STREAMS_TO_A_MATCH: u64 = 3;
 
-/// Answers the streams of a seed and counts; fails if too few have a match.
+/// In so many streams each way to end a distance shall come once.
+const STREAMS_TO_EACH_END: u64 = 200;
+
+/// Answers the streams of a seed and counts; fails if too few have a match, or
+/// if a way to end a distance is rare.
 pub fn count(seed: u64, count: u64) -> Outcome {
     let mut tally = Tally::default();
     for index in 0..count {
@@ -20,7 +25,7 @@ pub fn count(seed: u64, count: u64) -> Outcome {
     let mut output = output();
     writeln!(output, "{tally}")?;
     output.flush()?;
-    Ok(verdict(tally.has_enough_matches()))
+    Ok(verdict(tally.has_enough_matches() && tally.has_each_end()))
 }
 
 #[derive(Default)]
@@ -34,6 +39,7 @@ struct Tally {
     held: u64,
     not_held: u64,
     above: u64,
+    ends: Ends,
 }
 
 impl Tally {
@@ -51,7 +57,7 @@ impl Tally {
     }
 
     fn take(&mut self, desk: Option<&mut Desk>, line: &[u8]) {
-        let effect = desk.map(|desk| desk.answer(line, &mut Vec::new()));
+        let effect = desk.map(|desk| self.answer(desk, line));
         let Some([1 | 2, 5 | 6, _]) = frame_bytes(line) else {
             return;
         };
@@ -71,6 +77,21 @@ impl Tally {
         }
     }
 
+    /// Answers a line and counts the ends of its call.
+    fn answer(&mut self, desk: &mut Desk, line: &[u8]) -> Effect {
+        let before = desk.state().clone();
+        let effect = desk.answer(line, &mut Vec::new());
+        let made = effect.made.and_then(|made| Some((desk.call_of(made.target)?, made.number)));
+        if let Some((call, number)) = made {
+            self.ends.note(&before, call, number);
+        }
+        effect
+    }
+
+    fn has_each_end(&self) -> bool {
+        STREAMS_TO_EACH_END * self.ends.rarest() >= self.streams
+    }
+
     fn has_enough_matches(&self) -> bool {
         STREAMS_TO_A_MATCH * self.with_match >= self.with_keys
     }
@@ -83,11 +104,12 @@ impl std::fmt::Display for Tally {
             "{} streams, {} with key frames, {} of these with a match",
             self.streams, self.with_keys, self.with_match
         )?;
-        write!(
+        writeln!(
             f,
             "{} key frames: {} matches ({} with a refused call), number 17: {}, 18: {}, 22: {}",
             self.frames, self.matches, self.refused_calls, self.held, self.not_held, self.above
-        )
+        )?;
+        write!(f, "{}", self.ends)
     }
 }
 
@@ -99,7 +121,7 @@ mod tests {
     fn keys_often_match_and_are_often_refused() {
         let mut tally = Tally::default();
         (0..150).for_each(|index| tally.follow(&streams::pair(11, index)));
-        assert!(tally.has_enough_matches(), "{tally}");
+        assert!(tally.has_enough_matches() && tally.has_each_end(), "{tally}");
         let refused = [tally.refused_calls, tally.held, tally.not_held, tally.above];
         assert!(refused.into_iter().all(|count| count >= 30), "{tally}");
     }
