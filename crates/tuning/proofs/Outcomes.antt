@@ -1,5 +1,5 @@
 -- What a call comes to, one law for each outcome, in the order of its checks. Assumes nothing.
-use mathlib.Core.Path.{_≡_, refl, sym, ap, _∙_}
+use mathlib.Core.Path.{_≡_, refl, sym, ap, ap₂, _∙_}
 use mathlib.Core.Bool.{Bool, true, false, not, Bool·not-not, and-false}
 use mathlib.Core.List.{List, [], _∷_}
 use mathlib.Core.Logic.{_≢_}
@@ -31,12 +31,9 @@ use Rattle.tuning.proofs.Held.{heard-tone, held-coded, coded-held}
 
 -- ---- "pitch(b) - t(0)", by the tones that the code finds at the two ends
 
-module _ (s : State) (v : Valid s) (x : ℕ) (t : Tone) (e : getD (s .tones) 0 none .tone ≡ t) where
-  pub span-from : spanTo cents (held s) x ≡ apart cents (heard t) (soundOf cents (held s) x)
-  span-from = ap (λ (y : Sound ℤ). apart cents y (soundOf cents (held s) x)) (heard-at (s .tones) (s .width) 0 (v .least) ∙ ap heard e)
-
-  pub span-to-ends : {k : Tone} → k ≡ toneOf (soundOf cents (held s) x) → (u : Tone) → k ≡ u → spanTo cents (held s) x ≡ apart cents (heard t) (heard u)
-  span-to-ends f u g = span-from ∙ ap (apart cents (heard t)) (sym (heard-tone (soundOf cents (held s) x)) ∙ ap heard (sym f ∙ g))
+pub span-held : (s : State) → Valid s → (x : ℕ) {k : Tone} → k ≡ toneOf (soundOf cents (held s) x)
+    → apart cents (heard (getD (s .tones) 0 none .tone)) (heard k) ≡ spanTo cents (held s) x
+span-held s v x e = ap₂ (apart cents) (sym (heard-at (s .tones) (s .width) 0 (v .least))) (ap heard e ∙ heard-tone (soundOf cents (held s) x))
 
 -- ---- the distance to the key at the other end, by the position of that key
 

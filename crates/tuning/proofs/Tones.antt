@@ -7,6 +7,9 @@ use native.Mathlib.Omega.{arith}
 use lib.IntN.{ℤ, pos, negsuc, natAbs, subℕ, _*ℤ_}
 use lib.ListN.{length, getD, take, length-map, length-take, List·getD-map}
 use lib.Seq.{getD-take}
+use mir.Facts.{toZ-ofZ}
+use mir.Syntax.{w32}
+use mir.Val.{toZ, ofZ}
 use Rattle.integers.specs.Floor.{floorDiv, floorMod}
 use Rattle.integers.proofs.Signed.{signed, abs, minus, sum, mul-size, mul-bound}
 use Rattle.integers.proofs.Floor.{floor-range}
@@ -53,6 +56,13 @@ module _ (s : State) (v : Valid s) (x : ℕ) (h : x ≤ s .anchor .0 + 127) wher
 
   pub place-periods : natAbs (place .periods) ≤ 127
   place-periods = periods-size (subℕ x (s .anchor .0)) (s .width) 127 (steps-size x (s .anchor .0) (v .anchor) h)
+
+  -- what `locate` gives is this place, and its periods are in the machine's range
+  pub place-found : {z : ℤ} {l : Located} → z ≡ subℕ x (s .anchor .0) → l ≡ locatedAt z (s .width) → l ≡ place
+  place-found e f = f ∙ ap (λ (y : ℤ). locatedAt y (s .width)) e
+
+  pub place-word : {l : Located} → l ≡ place → toZ w32 (ofZ w32 (l .periods)) ≡ place .periods
+  place-word e = ap (λ (p : Located). toZ w32 (ofZ w32 (p .periods))) e ∙ toZ-ofZ (omega (signed, place-periods))
 
   -- the period as often as it goes up or down
   pub place-shift : natAbs (place .periods *ℤ s .period .0) ≤ 1_524_000_000

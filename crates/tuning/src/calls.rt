@@ -29,7 +29,7 @@ ghost use lib.Signed.{leZ};
 ghost use Rattle.limits.specs.Limits.{mostAnchor, mostPositions, farthestTone};
 ghost use Rattle.cents.specs.Passages.{mostKey};
 ghost use Rattle.tuning.specs.Scale.{Sound};
-ghost use Rattle.tuning.specs.Tuning.{operated, amounts, Action, spanTo, reach, anchoredBy, widenedBy, newTone, newPeriod, done};
+ghost use Rattle.tuning.specs.Tuning.{operated, amounts, Action, apart, reach, anchoredBy, widenedBy, newTone, newPeriod, done};
 ghost use Rattle.tuning.specs.Desk.{cents};
 ghost use Rattle.tuning.specs.State.{heard, held, toneOf, coded, validState, replied, periodMeant, toneMeant, tonesMeant, meant};
 ghost use Rattle.tuning.specs.Capped.{farthestSum, capped, cappedTo, cappedPeriod};
@@ -81,6 +81,22 @@ fn cap(by: Interval) -> Interval
     by
 }
 
+impl Tone {
+    // "pitch(b) - t(0)": how far the sound of a key lies above this tone, where both are heard.
+    fn span_to(self, key: Tone) -> Reach
+        requires { ⌜ size self + size key ≤ farthestReach ⌝ }
+        ensures { λ r. ⌜ (r ≡ reachOf (apart cents (heard self) (heard key))) × (reachSize r ≤ farthestReach) ⌝ }
+    {
+        let Tone::At(t) = self else {
+            return Reach::Silent;
+        };
+        let Tone::At(p) = key else {
+            return Reach::Silent;
+        };
+        Reach::By(p.distance(t))
+    }
+}
+
 impl ToneChange {
     // The tone that a position gets in place of its old one.
     fn apply(self, old: Tone) -> Tone
@@ -109,33 +125,18 @@ impl PeriodChange {
 }
 
 impl State {
-    // "pitch(b) - t(0)": the distance from position 0 to a key, where both sound.
-    fn span_to(self, key: KeyNumber) -> Reach
-        requires { ⌜ (validState self ≡ true) × (key .0 ≤ self .anchor .0 + mostAnchor) ⌝ }
-        ensures { λ r. ⌜ (r ≡ reachOf (spanTo cents (held self) (key .0))) × (reachSize r ≤ farthestReach) ⌝ }
-    {
-        let first = self.tones[0];
-        let root = first.tone;
-        let Tone::At(t) = root else {
-            return Reach::Silent;
-        };
-        let Tone::At(p) = self.sound_of(key) else {
-            return Reach::Silent;
-        };
-        Reach::By(p.distance(t))
-    }
-
     // The distance from position 0 to the key at the other end: whole periods where that key is on position 0, muted or not.
     fn reach(self, key: KeyNumber) -> Reach
         requires { ⌜ (validState self ≡ true) × (key .0 ≤ self .anchor .0 + mostAnchor) ⌝ }
         ensures { λ r. ⌜ (r ≡ reachOf (reach cents (held self) (key .0))) × (reachSize r ≤ farthestReach) ⌝ }
     {
         let place = locate(key.distance(self.anchor), self.width);
-        let r = place.position;
-        if r == 0 {
+        if place.position == 0 {
             return Reach::By(self.period.times(place.periods));
         }
-        self.span_to(key)
+        let first = self.tones[0];
+        let root = first.tone;
+        root.span_to(self.sound_of(key))
     }
 
     // The anchor at a key, and every sounding tone shifted.

@@ -5,20 +5,16 @@ use native.Mathlib.Omega.{arith}
 use borrow.Author.Needs.{needs}
 use lib.IntN.{ℤ, natAbs, _*ℤ_}
 use lib.ListN.{length, getD}
-use mir.Facts.{toZ-ofZ}
-use mir.Syntax.{w32}
-use mir.Val.{SFits, toZ, ofZ}
 use Rattle.integers.proofs.Signed.{signed}
 use Rattle.tuning.specs.Tuning.{raised}
 use Rattle.tuning.specs.Desk.{cents}
 use Rattle.tuning.specs.State.{heard, toneOf}
-use Rattle.tuning.specs.Inner.{locatedAt}
 use Rattle.tuning.specs.declared.State.{State}
 use Rattle.tuning.specs.declared.Located.{Located}
 use Rattle.tuning.proofs.Lists.{length-mapped}
 use Rattle.tuning.proofs.Valid.{Valid, none, valid-of, tone-size}
 use Rattle.tuning.proofs.Steps.{apart-size}
-use Rattle.tuning.proofs.Tones.{place, place-position, place-periods, place-shift, place-sound, sound-size}
+use Rattle.tuning.proofs.Tones.{place, place-position, place-found, place-word, place-shift, place-sound, sound-size}
 use Rattle.tuning.proofs.State.sound_of.Statement.{statement}
 use Rattle.tuning.proofs.State.sound_of.Tie as tie
 
@@ -46,22 +42,16 @@ module _ (c : tie.After-locate) where
   here = place s v x near
 
   located : c .locate .result ≡ here
-  located = c .locate .ensures ∙ ap (λ (z : ℤ). locatedAt z (s .width)) (c .before .distance .ensures)
+  located = place-found s v x near (c .before .distance .ensures) (c .locate .ensures)
 
   position : c .locate .result .position < 60
   position = rw located (omega (arith, place-position s v x near, v .most))
-
-  periods-fit : SFits w32 (here .periods)
-  periods-fit = omega (signed, place-periods s v x near)
-
-  periods : toZ w32 (ofZ w32 (c .locate .result .periods)) ≡ here .periods
-  periods = ap (λ (p : Located). toZ w32 (ofZ w32 (p .periods))) located ∙ toZ-ofZ periods-fit
 
 -- the period as often as `locate` says
 shift : (c : tie.After-times) →
     let l = c .before .before .before .before in
     c .times .result .0 ≡ here l .periods *ℤ s l .period .0
-shift c = let l = c .before .before .before .before in c .times .ensures ∙ ap (λ (z : ℤ). z *ℤ s l .period .0) (periods l)
+shift c = let l = c .before .before .before .before in c .times .ensures ∙ ap (λ (z : ℤ). z *ℤ s l .period .0) (place-word (s l) (v l) (x l) (near l) (located l))
 
 distance-requires : tie.Need-distance-requires
 distance-requires c κs = search needs
@@ -80,7 +70,7 @@ element-copy-out-p c = position c
 times-requires : tie.Need-times-requires
 times-requires c κs =
     let l = c .before .before .before in
-    rw (periods l) (omega (signed, place-shift (s l) (v l) (x l) (near l)))
+    rw (place-word (s l) (v l) (x l) (near l) (located l)) (omega (signed, place-shift (s l) (v l) (x l) (near l)))
 
 raise-requires : tie.Need-raise-requires
 raise-requires c κs =
