@@ -65,12 +65,12 @@ badWidth v = record { number = widthOutOfRange; fails = not (isWidth v) }
 abbrev pub badPeriod : ℤ → Check
 badPeriod P = record { number = periodOutOfRange; fails = not (isPeriod P) }
 
--- "t(0) muted, or key b (anchor) or a+v (width) silent". Document 02, 2/13: "13 narrows to r other than 0 with either end silent" (`Thirteen` of
--- FirstMuted.antt says just that of a call)
 abbrev pub isMuted : {A : Type 0} → Sound A → Bool
 isMuted muted = true
 isMuted (sounds t) = false
 
+-- "t(0) muted, or key b (anchor) or a+v (width) silent", narrowed by document 02, 2/13, "to r other than 0 with either end silent": there is no distance. (That
+-- these are the same is `Thirteen` of FirstMuted.antt.)
 abbrev pub unreached : Tuning cents → ℕ → Check
 unreached s x = record { number = endSilent; fails = isMuted (reach cents s x) }
 

@@ -50,7 +50,7 @@ pub record KeptIsTaken (s : State) : Type 0 where
   pub width : replied s (widthTo amount.Kept) ≡ record { state = s; number = Status.done }
 
 -- **2/13**: all this, of every tuning and of every valid state
-pub record MutedFirst : Type 1 where
+pub record MutedFirst : Type 0 where
   pub sounding : SoundingFirst cents
   pub thirteen : (s : Tuning cents) (m : Amount) → Thirteen s m
   pub periods : (s : Tuning cents) → 0 < width cents s → (m : Amount) → WholePeriods s m
