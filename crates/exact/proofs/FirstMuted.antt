@@ -1,20 +1,22 @@
--- Document 02, 2/13, of the exact book: where position 0 sounds its distances are document 01's, and the worked streams, by computing. Assumes nothing.
-use mathlib.Core.Path.{_≡_, refl, ap, fun-ext}
+-- Document 02, 2/13, of the exact book: where position 0 sounds its distances are document 01's, and by whole periods every key keeps its entry; then the worked
+-- streams, by computing. Assumes nothing.
+use mathlib.Core.Path.{_≡_, refl, sym, ap, fun-ext}
 use mathlib.Core.List.{List}
-use Prim.Native.Nat.{ℕ}
+use Prim.Native.Nat.{ℕ, _<_}
 use mathlib.Core.Option.{Option·elim}
 use lib.Count.{leadingZeros}
+use Rattle.integers.proofs.Difference.{mul-assocℤ}
 use Rattle.cents.specs.Log.{highestBit, bits, L}
 use Rattle.cents.specs.Measure.{measure, nearest}
 use Rattle.values.specs.Values.{plus, total, shifted, ranged, valueAt}
 use Rattle.tables.specs.Layout.{writtenAll, joined, rowOf}
 use Rattle.filling.specs.Tables.{filledFrom, tablesOf}
 use Rattle.validity.specs.Valid.{validTables, declarationRight, isOwn, rowsRight, declarations, kindsFrom, partsFollow, ordersRight, eachRight, allZero, allNought}
-use Rattle.tuning.specs.Tuning.{start}
-use Rattle.tuning.specs.FirstMuted.{SoundingFirst}
+use Rattle.tuning.specs.Tuning.{Tuning, width, start}
+use Rattle.tuning.specs.FirstMuted.{SoundingFirst, WholePeriods}
 use Rattle.tuning.specs.Desk.{called, firstFailing, anyBeyond}
 use Rattle.tuning.specs.State.{validState, allMuted}
-use Rattle.tuning.proofs.FirstMuted.{sounding-first, shift-back}
+use Rattle.tuning.proofs.FirstMuted.{Steps, there-and-back, add-twice, sounding-first, whole-periods}
 use Rattle.sets.specs.Sets.{has, added, removed, setOf, all, any}
 use Rattle.harmonies.specs.Harmonies.{matches}
 use Rattle.hexadecimal.specs.Digits.{digitOf, byteOf, bytesOf}
@@ -36,9 +38,22 @@ use Rattle.exact.specs.Actions.{entryWithin}
 use Rattle.exact.specs.Claim.{fedBy, bookAfter}
 use Rattle.exact.specs.FirstMuted.{pentatonicFrames, pentatonicLines, pentatonicCalls, nineOctavesFrames, nineOctavesLines, nineOctavesCalls, mutedChordFrames, mutedChordLines, mutedChordCalls, doubledBook, nineBook, chordBook, Whole}
 
+-- entries add up as whole numbers do, name by name
+entries-steps : Steps entries
+entries-steps =
+    record {
+      back = λ t d. fun-ext (λ n. there-and-back (t n) (d n));
+      twice = λ t j k d. fun-ext (λ n. add-twice (t n) j k (d n));
+      many = λ j k d. fun-ext (λ n. sym (mul-assocℤ j k (d n)));
+    }
+
 -- where position 0 sounds nothing changes, in the book either
 pub book-sounding-first : SoundingFirst entries
-book-sounding-first = sounding-first entries (λ t d. fun-ext (λ n. shift-back (t n) (d n)))
+book-sounding-first = sounding-first entries entries-steps
+
+-- and by whole periods every key keeps its entry
+pub book-whole-periods : (b : Tuning entries) → 0 < width entries b → WholePeriods entries b
+book-whole-periods = whole-periods entries entries-steps
 
 -- what is answered and what is called, all at once, since what is computed is opened at each
 abbrev Answers : Program → List Lent → List (List ℕ) → List Made → Type 0

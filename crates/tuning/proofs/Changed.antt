@@ -20,6 +20,7 @@ use Rattle.tuning.specs.Capped.{cappedTo}
 use Rattle.tuning.specs.State.{places, heardAt, positionOf, toneMeant, tonesMeant, held, coded, validState}
 use Rattle.tuning.proofs.Valid.{none}
 use Rattle.tuning.proofs.Part.{part, part-none, part-get, part-set}
+use Rattle.tuning.proofs.Keys.{keys-length}
 use Rattle.tuning.proofs.Held.{unused, heard-tone, held-width, places-held, valid-held}
 
 abbrev pub withPlaces : State → List Position → State
@@ -99,10 +100,6 @@ retoned-places (x ∷ l) (t ∷ ts) us zero (suc n) h e = let z : ⊥ = omega ar
 retoned-places (x ∷ l) (t ∷ ts) us (suc count) zero h e = let z : ⊥ = omega arith in absurd z
 retoned-places (x ∷ l) (t ∷ ts) us (suc count) (suc n) h e = rw (heard-tone t, retoned-places l ts us count n (omega arith) (omega arith))
 
-pub keys-length : (s : Tuning cents) (x n : ℕ) → length (keysFrom cents s x n) ≡ n
-keys-length s x zero = refl
-keys-length s x (suc n) = ap suc (keys-length s (suc x) n)
-
 pub new-length : (l : List (PositionTo cents)) (ts : List (Sound ℤ)) → length (newTones cents l ts) ≡ length ts
 new-length [] ts = refl
 new-length (x ∷ l) [] = refl
@@ -115,7 +112,7 @@ abbrev pub blank : ℕ → ℕ → ℤ → State
 blank a v d = record { anchor = record { 0 = a }; width = v; tones = replicate places none; period = record { 0 = d } }
 
 pub keyed-state : (s : Tuning cents) (v : ℕ) (d : ℤ) → v ≤ places → changed (keyed s (s .anchor)) v (blank (s .anchor) v d) ≡ coded (widenedBy cents s v (sounds d))
-keyed-state s v d h = rw (keyed-places s v places (s .anchor) h, keys-length s (s .anchor) v)
+keyed-state s v d h = rw (keyed-places s v places (s .anchor) h, keys-length cents s (s .anchor) v)
 
 module _ (s : State) (h : validState s ≡ true) (n : length (s .tones) ≡ places) where
   -- as many tones as the state has

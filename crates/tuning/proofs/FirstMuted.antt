@@ -1,5 +1,5 @@
 -- Document 02, 2/13, "A scale whose first key is muted": the theorems of specs/FirstMuted.antt. Assumes nothing.
-use mathlib.Core.Path.{_≡_, refl, sym, ap, _∙_, fun-ext}
+use mathlib.Core.Path.{_≡_, refl, sym, ap, _∙_, subst, fun-ext}
 use mathlib.Core.Logic.{_≢_, _↔_, Iff·trans, _⊎_, inl, inr}
 use mathlib.Core.Bool.{Bool, true, false, not, false≢true}
 use mathlib.Core.List.{List, [], _∷_, map, map-id}
@@ -10,11 +10,9 @@ use lib.IntN.{ℤ, pos, subℕ, _+ℤ_, _-ℤ_, _*ℤ_, +ℤ-comm, +ℤ-assoc, +
 use lib.ListN.{length, length-map, List·getD-map}
 use lib.Seq.{ext-getD}
 use Rattle.integers.specs.Parts.{up}
-use Rattle.integers.specs.Floor.{floorDiv}
 use Rattle.integers.proofs.Signed.{signed, sum, times, minus}
 use Rattle.integers.proofs.Difference.{add-mulℤ, mul-assocℤ, one-mulℤ}
-use Rattle.integers.proofs.Floor.{floor-law, floor-range, floor-unique}
-use Rattle.cents.specs.Passages.{keyDistance}
+use Rattle.integers.proofs.Floor.{floor-unique}
 use Rattle.tuning.specs.declared.Amount.{Amount}
 use Rattle.tuning.specs.declared.Amount.the-variants.{Kept}
 use Rattle.tuning.specs.declared.State.{State}
@@ -22,15 +20,32 @@ use Rattle.tuning.specs.Scale.{Scale, Sound, muted, sounds}
 use Rattle.tuning.specs.Tuning.{Tuning, anchorTo, widthTo, amounts, width, raised, toneAt, keyPosition, keyPeriods, keyRise, soundOf, apart, spanTo, reachBy, reach, anchoredBy, keysFrom, widenedBy, done}
 use Rattle.tuning.specs.Desk.{cents, isAnchor, isWidth, isPeriod, isMuted, anyBeyond, Check, firstFailing, badTone, badPeriod, checks, called}
 use Rattle.tuning.specs.State.{places, held, validState}
-use Rattle.tuning.specs.FirstMuted.{SoundingFirst, newAnchor, pastWidth, EitherSilent, Thirteen, WholePeriods, KeptIsTaken, MutedFirst}
+use Rattle.tuning.specs.FirstMuted.{SoundingFirst, newAnchor, pastWidth, EitherSilent, Thirteen, SameKeys, WholePeriods, CallsKeepKeys, KeptIsTaken, MutedFirst}
 use Rattle.tuning.proofs.Held.{ValidTuning, coded-held, valid-held}
-use Rattle.tuning.proofs.Changed.{keys-length}
+use Rattle.tuning.proofs.Keys.{keys-length, keys-at, key-sound, place-law, place-low}
 use Rattle.tuning.proofs.Outcomes.{taken, reach-periods, reach-span, anchor-taken, width-taken, reply-taken}
-use Rattle.tuning.proofs.Laws.{never, raised-none, key-sound, position-sound, keys-at, taken-does, width-least}
+use Rattle.tuning.proofs.Laws.{never, raised-none, position-sound, taken-does, width-least}
 
--- ---- where position 0 sounds nothing changes, at any scale in which a step up from a tone leads that far
+-- ---- what whole periods need of a scale: a step up from a tone leads that far, and multiples of a step add up as their numbers do
 
-module _ (S : Scale) (back : (t : S .Tone) (d : S .Step) → S .distance (S .shift t d) t ≡ d) where
+pub record Steps (S : Scale) : Type 0 where
+  pub back : (t : S .Tone) (d : S .Step) → S .distance (S .shift t d) t ≡ d
+  pub twice : (t : S .Tone) (j k : ℤ) (d : S .Step) → S .shift (S .shift t (S .times j d)) (S .times k d) ≡ S .shift t (S .times (j +ℤ k) d)
+  pub many : (j k : ℤ) (d : S .Step) → S .times j (S .times k d) ≡ S .times (j *ℤ k) d
+
+-- so it is with whole numbers
+pub there-and-back : (t d : ℤ) → (t +ℤ d) -ℤ t ≡ d
+there-and-back t d = ap (λ (z : ℤ). z -ℤ t) (+ℤ-comm t d) ∙ +ℤ-negℤ-cancel d t
+
+pub add-twice : (t j k d : ℤ) → (t +ℤ j *ℤ d) +ℤ k *ℤ d ≡ t +ℤ (j +ℤ k) *ℤ d
+add-twice t j k d = +ℤ-assoc t (j *ℤ d) (k *ℤ d) ∙ ap (λ (z : ℤ). t +ℤ z) (sym (add-mulℤ j k d))
+
+cents-steps : Steps cents
+cents-steps = record { back = there-and-back; twice = add-twice; many = λ j k d. sym (mul-assocℤ j k d) }
+
+-- ---- where position 0 sounds nothing changes
+
+module _ (S : Scale) (L : Steps S) where
   pub sounding-first : SoundingFirst S
   sounding-first s t e x = go (keyPosition S s x) refl
     where
@@ -40,11 +55,8 @@ module _ (S : Scale) (back : (t : S .Tone) (d : S .Step) → S .distance (S .shi
           sym
           (ap (λ (r : ℕ). apart S (toneAt S s 0) (raised S d (toneAt S s r))) k
           ∙ ap (λ (y : Sound (S .Tone)). apart S y (raised S d y)) e
-          ∙ ap (λ (z : S .Step). sounds z) (back t d))
+          ∙ ap (λ (z : S .Step). sounds z) (L .back t d))
       go (suc r) k = refl
-
-pub shift-back : (t d : ℤ) → (t +ℤ d) -ℤ t ≡ d
-shift-back t d = ap (λ (z : ℤ). z -ℤ t) (+ℤ-comm t d) ∙ +ℤ-negℤ-cancel d t
 
 -- ---- "13 narrows to r other than 0 with either end silent"
 
@@ -63,12 +75,12 @@ ends y z = (forth y z, back y z)
     back (sounds t) (sounds u) (inr e) = absurd (never u (sym e))
 
 unreached-exactly : (s : Tuning cents) (x : ℕ) → (reach cents s x ≡ muted) ↔ EitherSilent s x
-unreached-exactly s x = (forth, λ k. reach-span s x (k .elsewhere) ∙ ends (toneAt cents s 0) (soundOf cents s x) .1 (k .silent))
+unreached-exactly s x = (forth, λ k. reach-span cents s x (k .elsewhere) ∙ ends (toneAt cents s 0) (soundOf cents s x) .1 (k .silent))
   where
     forth : reach cents s x ≡ muted → EitherSilent s x
     forth h =
-        let other : keyPosition cents s x ≢ 0 = λ e. never (keyRise cents s x) (sym h ∙ reach-periods s x e) in
-        record { elsewhere = other; silent = ends (toneAt cents s 0) (soundOf cents s x) .0 (sym (reach-span s x other) ∙ h) }
+        let other : keyPosition cents s x ≢ 0 = λ e. never (keyRise cents s x) (sym h ∙ reach-periods cents s x e) in
+        record { elsewhere = other; silent = ends (toneAt cents s 0) (soundOf cents s x) .0 (sym (reach-span cents s x other) ∙ h) }
 
 muted-is : (y : Sound ℤ) → isMuted y ≡ true → y ≡ muted
 muted-is muted h = refl
@@ -120,111 +132,100 @@ thirteen s m =
           (asked s (pastWidth s m) (isWidth (amounts m (width cents s))));
     }
 
--- ---- "the distance shall be q times the period": whole periods leave every key at its sound
+-- ---- "the distance shall be q times the period": by whole periods every key keeps its sound
 
-raised-twice : (t : Sound ℤ) (d e : ℤ) → raised cents e (raised cents d t) ≡ raised cents (d +ℤ e) t
-raised-twice muted d e = refl
-raised-twice (sounds z) d e = ap (λ (y : ℤ). sounds y) (+ℤ-assoc z d e)
+difference : (q k : ℤ) → k +ℤ (q -ℤ k) ≡ q
+difference q k = +ℤ-comm k (q -ℤ k) ∙ -ℤ-+ℤ-cancel q k
 
--- "x - a = q·w + r with r from 0 to w-1"
-place-law : (s : Tuning cents) → 0 < width cents s → (x : ℕ)
-    → keyDistance x (s .anchor) ≡ keyPeriods cents s x *ℤ pos (width cents s) +ℤ pos (keyPosition cents s x)
-place-law s wide x = floor-law (keyDistance x (s .anchor)) (width cents s) wide
+module _ (S : Scale) (L : Steps S) where
+  raised-twice : (t : Sound (S .Tone)) (j k : ℤ) (d : S .Step) → raised S (S .times k d) (raised S (S .times j d) t) ≡ raised S (S .times (j +ℤ k) d) t
+  raised-twice muted j k d = refl
+  raised-twice (sounds t) j k d = ap (λ (u : S .Tone). sounds u) (L .twice t j k d)
 
-place-low : (s : Tuning cents) → 0 < width cents s → (x : ℕ) → keyPosition cents s x < width cents s
-place-low s wide x = floor-range (keyDistance x (s .anchor)) (width cents s) wide
+  module _ (s : Tuning S) (wide : 0 < width S s) where
+    carried : (b : ℕ) → keyPosition S s b ≡ 0 → SameKeys S s (anchoredBy S s b (sounds (keyRise S s b)))
+    carried b first x =
+        let w = width S s in
+        let q = keyPeriods S s x in
+        let k = keyPeriods S s b in
+        let r = keyPosition S s x in
+        let d = keyRise S s b in
+        let n : length (map (raised S d) (s .tones)) ≡ w = length-map (s .tones) (raised S d) in
+        let parted : q *ℤ pos w ≡ k *ℤ pos w +ℤ (q -ℤ k) *ℤ pos w = ap (λ (z : ℤ). z *ℤ pos w) (sym (difference q k)) ∙ add-mulℤ k (q -ℤ k) (pos w) in
+        let place : subℕ x b ≡ (q -ℤ k) *ℤ pos w +ℤ pos r =
+        omega (
+          signed,
+          place-law S s wide x,
+          place-law S s wide b,
+          first,
+          parted,
+          minus x b,
+          minus x (s .anchor),
+          minus b (s .anchor),
+          sum (q *ℤ pos w) (pos r),
+          sum (k *ℤ pos w) (pos (keyPosition S s b)),
+          sum (k *ℤ pos w) ((q -ℤ k) *ℤ pos w),
+          sum ((q -ℤ k) *ℤ pos w) (pos r),
+        ) in
+        key-sound S (anchoredBy S s b (sounds d)) x (q -ℤ k) r (rw n (place-low S s wide x)) (rw n place)
+        ∙ ap (raised S (S .times (q -ℤ k) (s .period))) (List·getD-map (raised S d) (s .tones) r muted)
+        ∙ raised-twice (toneAt S s r) k (q -ℤ k) (s .period)
+        ∙ ap (λ (z : ℤ). raised S (S .times z (s .period)) (toneAt S s r)) (difference q k)
 
--- q times a step is q - k times and k times
-parted : (q k z : ℤ) → q *ℤ z ≡ k *ℤ z +ℤ (q -ℤ k) *ℤ z
-parted q k z = ap (λ (y : ℤ). y *ℤ z) (sym (-ℤ-+ℤ-cancel q k)) ∙ add-mulℤ (q -ℤ k) k z ∙ +ℤ-comm ((q -ℤ k) *ℤ z) (k *ℤ z)
+    doubled : (v : ℕ) → 1 ≤ v → keyPosition S s (s .anchor + v) ≡ 0 → SameKeys S s (widenedBy S s v (sounds (keyRise S s (s .anchor + v))))
+    doubled v l first x =
+        let w = width S s in
+        let b = s .anchor + v in
+        let new : Tuning S = widenedBy S s v (sounds (keyRise S s b)) in
+        let n : width S new ≡ v = keys-length S s (s .anchor) v in
+        let k = keyPeriods S s b in
+        let Q = keyPeriods S new x in
+        let R = keyPosition S new x in
+        let q = keyPeriods S s (s .anchor + R) in
+        let r = keyPosition S s (s .anchor + R) in
+        let far : 0 < width S new = omega (arith, n) in
+        let low : R < v = omega (arith, n, place-low S new far x) in
+        let wider : pos v ≡ k *ℤ pos w = omega (signed, place-law S s wide b, first, minus b (s .anchor), sum (k *ℤ pos w) (pos (keyPosition S s b))) in
+        let steps : Q *ℤ pos v ≡ (Q *ℤ k) *ℤ pos w = ap (λ (z : ℤ). Q *ℤ z) wider ∙ sym (mul-assocℤ Q k (pos w)) in
+        let outer : subℕ x (s .anchor) ≡ Q *ℤ pos v +ℤ pos R = place-law S new far x ∙ ap (λ (m : ℕ). Q *ℤ pos m +ℤ pos R) n in
+        let place : subℕ x (s .anchor) ≡ (q +ℤ Q *ℤ k) *ℤ pos w +ℤ pos r =
+        omega (
+          signed,
+          outer,
+          steps,
+          place-law S s wide (s .anchor + R),
+          minus (s .anchor + R) (s .anchor),
+          add-mulℤ q (Q *ℤ k) (pos w),
+          sum (Q *ℤ pos v) (pos R),
+          sum (q *ℤ pos w) (pos r),
+          sum (q *ℤ pos w) ((Q *ℤ k) *ℤ pos w),
+          sum ((q +ℤ Q *ℤ k) *ℤ pos w) (pos r),
+        ) in
+        ap (raised S (S .times Q (keyRise S s b))) (keys-at S s (s .anchor) v R low)
+        ∙ ap (λ (d : S .Step). raised S d (soundOf S s (s .anchor + R))) (L .many Q k (s .period))
+        ∙ raised-twice (toneAt S s r) q (Q *ℤ k) (s .period)
+        ∙ sym (key-sound S s x (q +ℤ Q *ℤ k) r (place-low S s wide (s .anchor + R)) place)
 
-module _ (s : Tuning cents) (wide : 0 < width cents s) where
-  carried : (b : ℕ) → keyPosition cents s b ≡ 0 → (x : ℕ) → soundOf cents (anchoredBy cents s b (sounds (keyRise cents s b))) x ≡ soundOf cents s x
-  carried b first x =
-      let w = width cents s in
-      let q = keyPeriods cents s x in
-      let k = keyPeriods cents s b in
-      let r = keyPosition cents s x in
-      let n : length (map (raised cents (keyRise cents s b)) (s .tones)) ≡ w = length-map (s .tones) (raised cents (keyRise cents s b)) in
-      let place : subℕ x b ≡ (q -ℤ k) *ℤ pos w +ℤ pos r =
-      omega (
-        signed,
-        place-law s wide x,
-        place-law s wide b,
-        first,
-        parted q k (pos w),
-        minus x b,
-        minus x (s .anchor),
-        minus b (s .anchor),
-        sum (q *ℤ pos w) (pos r),
-        sum (k *ℤ pos w) (pos (keyPosition cents s b)),
-        sum (k *ℤ pos w) ((q -ℤ k) *ℤ pos w),
-        sum ((q -ℤ k) *ℤ pos w) (pos r),
-      ) in
-      key-sound (anchoredBy cents s b (sounds (keyRise cents s b))) x (q -ℤ k) r (rw n (place-low s wide x)) (rw n place)
-      ∙ ap (raised cents ((q -ℤ k) *ℤ s .period)) (List·getD-map (raised cents (keyRise cents s b)) (s .tones) r muted)
-      ∙ raised-twice (toneAt cents s r) (keyRise cents s b) ((q -ℤ k) *ℤ s .period)
-      ∙ ap (λ (z : ℤ). raised cents z (toneAt cents s r)) (sym (parted q k (s .period)))
-
-  doubled : (v : ℕ) → 1 ≤ v → keyPosition cents s (s .anchor + v) ≡ 0
-      → (x : ℕ) → soundOf cents (widenedBy cents s v (sounds (keyRise cents s (s .anchor + v)))) x ≡ soundOf cents s x
-  doubled v l first x =
-      let w = width cents s in
-      let b = s .anchor + v in
-      let new : Tuning cents = widenedBy cents s v (sounds (keyRise cents s b)) in
-      let n : width cents new ≡ v = keys-length s (s .anchor) v in
-      let k = keyPeriods cents s b in
-      let Q = keyPeriods cents new x in
-      let R = keyPosition cents new x in
-      let q = keyPeriods cents s (s .anchor + R) in
-      let r = keyPosition cents s (s .anchor + R) in
-      let far : 0 < width cents new = omega (arith, n) in
-      let low : R < v = omega (arith, n, place-low new far x) in
-      let wider : pos v ≡ k *ℤ pos w = omega (signed, place-law s wide b, first, minus b (s .anchor), sum (k *ℤ pos w) (pos (keyPosition cents s b))) in
-      let steps : Q *ℤ pos v ≡ (Q *ℤ k) *ℤ pos w = ap (λ (z : ℤ). Q *ℤ z) wider ∙ sym (mul-assocℤ Q k (pos w)) in
-      let outer : subℕ x (s .anchor) ≡ Q *ℤ pos v +ℤ pos R = place-law new far x ∙ ap (λ (m : ℕ). Q *ℤ pos m +ℤ pos R) n in
-      let place : subℕ x (s .anchor) ≡ (Q *ℤ k +ℤ q) *ℤ pos w +ℤ pos r =
-      omega (
-        signed,
-        outer,
-        steps,
-        place-law s wide (s .anchor + R),
-        minus (s .anchor + R) (s .anchor),
-        add-mulℤ (Q *ℤ k) q (pos w),
-        sum (Q *ℤ pos v) (pos R),
-        sum (q *ℤ pos w) (pos r),
-        sum ((Q *ℤ k) *ℤ pos w) (q *ℤ pos w),
-        sum ((Q *ℤ k +ℤ q) *ℤ pos w) (pos r),
-      ) in
-      let rise : q *ℤ s .period +ℤ Q *ℤ (k *ℤ s .period) ≡ (Q *ℤ k +ℤ q) *ℤ s .period =
-      +ℤ-comm (q *ℤ s .period) (Q *ℤ (k *ℤ s .period)) ∙ ap (λ (z : ℤ). z +ℤ q *ℤ s .period) (sym (mul-assocℤ Q k (s .period))) ∙ sym (add-mulℤ (Q *ℤ k) q (s .period)) in
-      ap (raised cents (Q *ℤ (k *ℤ s .period))) (keys-at s (s .anchor) v R low)
-      ∙ raised-twice (toneAt cents s r) (q *ℤ s .period) (Q *ℤ (k *ℤ s .period))
-      ∙ ap (λ (z : ℤ). raised cents z (toneAt cents s r)) rise
-      ∙ sym (key-sound s x (Q *ℤ k +ℤ q) r (place-low s wide (s .anchor + R)) place)
+    pub whole-periods : WholePeriods S s
+    whole-periods =
+        record {
+          anchor = λ b first. subst (λ (y : Sound (S .Step)). SameKeys S s (anchoredBy S s b y)) (sym (reach-periods S s b first)) (carried b first);
+          width = λ v l first. subst (λ (y : Sound (S .Step)). SameKeys S s (widenedBy S s v y)) (sym (reach-periods S s (s .anchor + v) first)) (doubled v l first);
+        }
 
 -- the same of the calls
-anchored-reach : (s : Tuning cents) (m : Amount) → keyPosition cents s (newAnchor s m) ≡ 0 → called s (anchorTo m) .number ≡ 0
-    → called s (anchorTo m) .state ≡ anchoredBy cents s (newAnchor s m) (sounds (keyRise cents s (newAnchor s m)))
-anchored-reach s m first h = taken-does s (anchorTo m) h ∙ ap (anchoredBy cents s (newAnchor s m)) (reach-periods s (newAnchor s m) first)
-
-widened-reach : (s : Tuning cents) (m : Amount) → keyPosition cents s (pastWidth s m) ≡ 0 → called s (widthTo m) .number ≡ 0
-    → called s (widthTo m) .state ≡ widenedBy cents s (up (amounts m (width cents s))) (sounds (keyRise cents s (pastWidth s m)))
-widened-reach s m first h = taken-does s (widthTo m) h ∙ ap (widenedBy cents s (up (amounts m (width cents s)))) (reach-periods s (pastWidth s m) first)
-
-pub whole-periods : (s : Tuning cents) → 0 < width cents s → (m : Amount) → WholePeriods s m
-whole-periods s wide m =
+calls-keep-keys : (s : Tuning cents) → 0 < width cents s → (m : Amount) → CallsKeepKeys s m
+calls-keep-keys s wide m =
+    let kept = whole-periods cents cents-steps s wide in
     record {
-      anchor = λ first h x. ap (λ (t : Tuning cents). soundOf cents t x) (anchored-reach s m first h) ∙ carried s wide (newAnchor s m) first x;
-      width = λ first h x.
-          ap (λ (t : Tuning cents). soundOf cents t x) (widened-reach s m first h)
-          ∙ doubled s wide (up (amounts m (width cents s))) (width-least s m h) first x;
+      anchor = λ first h. subst (SameKeys cents s) (sym (taken-does s (anchorTo m) h)) (kept .anchor (newAnchor s m) first);
+      width = λ first h. subst (SameKeys cents s) (sym (taken-does s (widthTo m) h)) (kept .width (up (amounts m (width cents s))) (width-least s m h) first);
     }
 
 -- ---- `@ [ ]` and width `@`
 
 module _ (t : Tuning cents) (v : ValidTuning t) where
-  here : (floorDiv (subℕ (t .anchor) (t .anchor)) (width cents t) ≡ pos 0) × (keyPosition cents t (t .anchor) ≡ 0)
+  here : (keyPeriods cents t (t .anchor) ≡ pos 0) × (keyPosition cents t (t .anchor) ≡ 0)
   here =
       let a = t .anchor in
       let w = width cents t in
@@ -241,14 +242,14 @@ module _ (t : Tuning cents) (v : ValidTuning t) where
 
   same-keys : keysFrom cents t (t .anchor) (width cents t) ≡ t .tones
   same-keys =
-      let n = keys-length t (t .anchor) (width cents t) in
+      let n = keys-length cents t (t .anchor) (width cents t) in
       ext-getD muted (keysFrom cents t (t .anchor) (width cents t)) (t .tones) n
-      (λ i l. let k : i < width cents t = omega (arith, n) in keys-at t (t .anchor) (width cents t) i k ∙ position-sound t i k)
+      (λ i l. let k : i < width cents t = omega (arith, n) in keys-at cents t (t .anchor) (width cents t) i k ∙ position-sound t i k)
 
   anchor-kept : called t (anchorTo Kept) ≡ taken t
   anchor-kept =
       let r : reach cents t (t .anchor) ≡ sounds (pos 0) =
-      reach-periods t (t .anchor) (here .1) ∙ ap (λ (z : ℤ). sounds (z *ℤ t .period)) (here .0) ∙ ap (λ (z : ℤ). sounds z) (zero-*ℤ (t .period)) in
+      reach-periods cents t (t .anchor) (here .1) ∙ ap (λ (z : ℤ). sounds (z *ℤ t .period)) (here .0) ∙ ap (λ (z : ℤ). sounds z) (zero-*ℤ (t .period)) in
       anchor-taken t Kept (t .anchor) refl (v .anchor) (pos 0) r (ap anyBeyond same-tones ∙ v .tones)
       ∙ ap (λ (l : List (Sound ℤ)). taken (record { anchor = t .anchor; tones = l; period = t .period })) same-tones
 
@@ -256,7 +257,7 @@ module _ (t : Tuning cents) (v : ValidTuning t) where
   width-kept =
       let w = width cents t in
       let r : reach cents t (t .anchor + w) ≡ sounds (t .period) =
-      reach-periods t (t .anchor + w) (next .1) ∙ ap (λ (z : ℤ). sounds (z *ℤ t .period)) (next .0) ∙ ap (λ (z : ℤ). sounds z) (one-mulℤ (t .period)) in
+      reach-periods cents t (t .anchor + w) (next .1) ∙ ap (λ (z : ℤ). sounds (z *ℤ t .period)) (next .0) ∙ ap (λ (z : ℤ). sounds z) (one-mulℤ (t .period)) in
       width-taken t Kept w refl (v .least) (v .most) (t .period) r (ap anyBeyond same-keys ∙ v .tones) (v .period)
       ∙ ap (λ (l : List (Sound ℤ)). taken (record { anchor = t .anchor; tones = l; period = t .period })) same-keys
 
@@ -271,4 +272,11 @@ kept-is-taken s h n =
 
 -- **2/13**
 pub muted-first : MutedFirst
-muted-first = record { sounding = sounding-first cents shift-back; thirteen = thirteen; periods = whole-periods; kept = kept-is-taken }
+muted-first =
+    record {
+      sounding = sounding-first cents cents-steps;
+      thirteen = thirteen;
+      periods = whole-periods cents cents-steps;
+      calls = calls-keep-keys;
+      kept = kept-is-taken;
+    }

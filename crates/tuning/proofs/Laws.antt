@@ -1,5 +1,5 @@
 -- What the definitions have, so that a reader can trust them: sentences of document 01 and of the manual as theorems. Assumes nothing.
-use mathlib.Core.Path.{_≡_, refl, sym, ap, ap₂, _∙_, subst}
+use mathlib.Core.Path.{_≡_, refl, sym, ap, _∙_, subst}
 use mathlib.Core.Logic.{_≢_}
 use mathlib.Core.Bool.{true, false, not, false≢true}
 use mathlib.Core.List.{List, [], _∷_, map}
@@ -8,22 +8,22 @@ use native.Mathlib.Decide.{decLt}
 use native.Mathlib.Nat.{add-zero}
 use native.Mathlib.Omega.{arith}
 use borrow.Author.Tests.{not-false}
-use lib.IntN.{ℤ, pos, subℕ, _+ℤ_, _-ℤ_, _*ℤ_, +ℤ-idr, zero-*ℤ}
+use lib.IntN.{ℤ, pos, _-ℤ_, _*ℤ_, +ℤ-idr, zero-*ℤ}
 use lib.ListN.{length, length-map, getD, List·getD-map}
 use lib.Signed.{leZ}
 use Rattle.integers.specs.Parts.{up}
 use Rattle.integers.proofs.Signed.{signed, abs, sum, diff, times, minus}
 use Rattle.integers.proofs.Difference.{one-mulℤ}
-use Rattle.integers.proofs.Floor.{floor-unique}
 use Rattle.tuning.specs.declared.Amount.{Amount}
 use Rattle.tuning.specs.declared.State.{State}
 use Rattle.tuning.specs.Scale.{Sound, muted, sounds}
-use Rattle.tuning.specs.Tuning.{Tuning, Action, anchorTo, widthTo, periodTo, tonesTo, system, amounts, width, raised, toneAt, keyPosition, keyRise, soundOf, apart, reachBy, reach, anchoredBy, keysFrom, widenedBy, done, start}
+use Rattle.tuning.specs.Tuning.{Tuning, Action, anchorTo, widthTo, periodTo, tonesTo, system, amounts, width, raised, toneAt, keyPosition, keyRise, soundOf, apart, reachBy, reach, anchoredBy, widenedBy, done, start}
 use Rattle.tuning.specs.Desk.{cents, between, isPeriod, isMuted, anyBeyond, firstFailing, checks, ifTaken, called}
 use Rattle.tuning.specs.State.{places, held, coded, validState, replied}
 use Rattle.tuning.proofs.Lists.{both}
 use Rattle.tuning.proofs.Held.{ValidTuning, held-coded, coded-held, length-coded, valid-coded, valid-held}
-use Rattle.tuning.proofs.Changed.{keys-length, new-length}
+use Rattle.tuning.proofs.Keys.{keys-length, keys-at, key-sound}
+use Rattle.tuning.proofs.Changed.{new-length}
 use Rattle.tuning.proofs.Outcomes.{passed, system-taken}
 
 pub never : (d : ℤ) → _≡_ {A = Sound ℤ} muted (sounds d) → ⊥
@@ -36,24 +36,18 @@ raised-none (sounds z) = ap (λ (y : ℤ). sounds y) (+ℤ-idr z)
 -- ---- "Key x has x - a = q·w + r with r from 0 to w-1; its pitch is t(r) + q·P, silent if t(r) is muted."
 
 module _ (s : Tuning cents) where
-  pub key-sound : (x : ℕ) (q : ℤ) (r : ℕ) → r < width cents s → subℕ x (s .anchor) ≡ q *ℤ pos (width cents s) +ℤ pos r
-      → soundOf cents s x ≡ raised cents (q *ℤ s .period) (toneAt cents s r)
-  key-sound x q r h e =
-      let f = floor-unique (subℕ x (s .anchor)) q (width cents s) r h e in
-      ap₂ (λ (z : ℤ) (k : ℕ). raised cents (z *ℤ s .period) (toneAt cents s k)) (f .0) (f .1)
-
   -- the positions are the keys from the anchor on
   pub position-sound : (i : ℕ) → i < width cents s → soundOf cents s (s .anchor + i) ≡ toneAt cents s i
   position-sound i h =
       let w = width cents s in
-      key-sound (s .anchor + i) (pos 0) i h (omega (signed, minus (s .anchor + i) (s .anchor), sum (pos 0 *ℤ pos w) (pos i), times (pos 0) w))
+      key-sound cents s (s .anchor + i) (pos 0) i h (omega (signed, minus (s .anchor + i) (s .anchor), sum (pos 0 *ℤ pos w) (pos i), times (pos 0) w))
       ∙ ap (λ (z : ℤ). raised cents z (toneAt cents s i)) (zero-*ℤ (s .period)) ∙ raised-none (toneAt cents s i)
 
   -- the key after the last position has the tone of the first one, a period higher
   pub next-sound : 0 < width cents s → soundOf cents s (s .anchor + width cents s) ≡ raised cents (s .period) (toneAt cents s 0)
   next-sound h =
       let w = width cents s in
-      key-sound (s .anchor + w) (pos 1) 0 h (omega (signed, minus (s .anchor + w) (s .anchor), sum (pos 1 *ℤ pos w) (pos 0), times (pos 1) w))
+      key-sound cents s (s .anchor + w) (pos 1) 0 h (omega (signed, minus (s .anchor + w) (s .anchor), sum (pos 1 *ℤ pos w) (pos 0), times (pos 1) w))
       ∙ ap (λ (z : ℤ). raised cents z (toneAt cents s 0)) (one-mulℤ (s .period))
 
 -- position 0 is the anchor's, even where there are no tones
@@ -140,11 +134,6 @@ anchor-keeps s m h =
 
 -- ---- "new t(i) is the old pitch of key a+i; the new period is pitch(a+v) - t(0)": each key from the anchor to the anchor plus the new width keeps its sound
 
-pub keys-at : (s : Tuning cents) (x n i : ℕ) → i < n → getD (keysFrom cents s x n) i muted ≡ soundOf cents s (x + i)
-keys-at s x zero i h = let z : ⊥ = omega arith in absurd z
-keys-at s x (suc n) zero h = ap (soundOf cents s) (sym (add-zero x))
-keys-at s x (suc n) (suc i) h = keys-at s (suc x) n i (omega arith) ∙ ap (soundOf cents s) (omega arith)
-
 pub record WidthKept (s new : Tuning cents) (v : ℕ) : Type 0 where
   pub anchor : new .anchor ≡ s .anchor
   pub width : width cents new ≡ v
@@ -156,19 +145,19 @@ module _ (s : Tuning cents) (v : ℕ) (l : 1 ≤ v) (d : ℤ) (r : reach cents s
 
   inner : (i : ℕ) → i < v → soundOf cents new (s .anchor + i) ≡ soundOf cents s (s .anchor + i)
   unfolding new
-  inner i h = position-sound new i (omega (arith, keys-length s (s .anchor) v)) ∙ keys-at s (s .anchor) v i h
+  inner i h = position-sound new i (omega (arith, keys-length cents s (s .anchor) v)) ∙ keys-at cents s (s .anchor) v i h
 
   last : soundOf cents new (s .anchor + v) ≡ soundOf cents s (s .anchor + v)
   unfolding new
   last =
-      ap (λ (k : ℕ). soundOf cents new (s .anchor + k)) (sym (keys-length s (s .anchor) v))
-      ∙ next-sound new (omega (arith, keys-length s (s .anchor) v))
-      ∙ ap (raised cents d) (keys-at s (s .anchor) v 0 l ∙ first-sound s)
+      ap (λ (k : ℕ). soundOf cents new (s .anchor + k)) (sym (keys-length cents s (s .anchor) v))
+      ∙ next-sound new (omega (arith, keys-length cents s (s .anchor) v))
+      ∙ ap (raised cents d) (keys-at cents s (s .anchor) v 0 l ∙ first-sound s)
       ∙ reach-sound s (s .anchor + v) d r
 
   widened-kept : WidthKept s (widenedBy cents s v (sounds d)) v
   unfolding new
-  widened-kept = record { anchor = refl; width = keys-length s (s .anchor) v; sound = go }
+  widened-kept = record { anchor = refl; width = keys-length cents s (s .anchor) v; sound = go }
     where
       go : (i : ℕ) → i ≤ v → soundOf cents new (s .anchor + i) ≡ soundOf cents s (s .anchor + i)
       go i h = elim (decLt i v) [ yes k ↦ inner i k | no k ↦ ap (λ (j : ℕ). soundOf cents new (s .anchor + j)) (omega arith) ∙ last ∙ ap (λ (j : ℕ). soundOf cents s (s .anchor + j)) (omega arith) ]
@@ -210,7 +199,7 @@ module _ (s : Tuning cents) (v : ValidTuning s) where
       → ValidTuning (widenedBy cents s n r)
   widened-valid n muted h t p = v
   widened-valid n (sounds d) h t p =
-      let e = keys-length s (s .anchor) n in
+      let e = keys-length cents s (s .anchor) n in
       record { anchor = v .anchor; least = omega arith; most = omega arith; period = p; tones = t }
 
   done-valid : (c : Action cents) → ValidAction c → firstFailing (checks s c) ≡ 0 → ValidTuning (done cents s c)

@@ -5,6 +5,7 @@ pub mod Tones
 pub mod Part
 pub mod Steps
 pub mod Held
+pub mod Keys
 pub mod Changed
 pub mod Outcomes
 pub mod Caps

@@ -20,7 +20,7 @@ use Rattle.tuning.specs.declared.Reply.{Reply}
 use Rattle.tuning.specs.declared.Reach.{Reach}
 use Rattle.tuning.specs.declared.Reach.the-variants.{Silent, By}
 use Rattle.tuning.specs.declared.Amount.{Amount}
-use Rattle.tuning.specs.Scale.{Sound, muted, sounds}
+use Rattle.tuning.specs.Scale.{Scale, Sound, muted, sounds}
 use Rattle.tuning.specs.Tuning.{Tuning, PeriodTo, PositionTo, Action, anchorTo, widthTo, periodTo, tonesTo, system, amounts, width, keyPosition, keyRise, soundOf, apart, spanTo, reachBy, reach, anchoredBy, anchored, widenedBy, widened, newPeriod, newTones, done}
 use Rattle.tuning.specs.Desk.{cents, between, isAnchor, isWidth, isPeriod, anyBeyond, Check, firstFailing, badAnchor, badWidth, badPeriod, badTone, unreached, ifTaken, Called, called}
 use Rattle.tuning.specs.State.{places, heard, held, toneOf, coded, validState, replied}
@@ -37,14 +37,14 @@ span-held s v x e = ap₂ (apart cents) (sym (heard-at (s .tones) (s .width) 0 (
 
 -- ---- the distance to the key at the other end, by the position of that key
 
-module _ (t : Tuning cents) (x : ℕ) where
-  pub reach-periods : keyPosition cents t x ≡ 0 → reach cents t x ≡ sounds (keyRise cents t x)
-  reach-periods e = ap (λ (r : ℕ). reachBy cents r t x) e
+module _ (S : Scale) (t : Tuning S) (x : ℕ) where
+  pub reach-periods : keyPosition S t x ≡ 0 → reach S t x ≡ sounds (keyRise S t x)
+  reach-periods e = ap (λ (r : ℕ). reachBy S r t x) e
 
-  pub reach-span : keyPosition cents t x ≢ 0 → reach cents t x ≡ spanTo cents t x
-  reach-span n = go (keyPosition cents t x) n
+  pub reach-span : keyPosition S t x ≢ 0 → reach S t x ≡ spanTo S t x
+  reach-span n = go (keyPosition S t x) n
     where
-      go : (r : ℕ) → r ≢ 0 → reachBy cents r t x ≡ spanTo cents t x
+      go : (r : ℕ) → r ≢ 0 → reachBy S r t x ≡ spanTo S t x
       go zero k = absurd (k refl)
       go (suc r) k = refl
 

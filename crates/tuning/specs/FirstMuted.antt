@@ -2,7 +2,7 @@
 use mathlib.Core.Path.{_≡_}
 use mathlib.Core.Logic.{_≢_, _↔_, _⊎_}
 use mathlib.Core.Bool.{true}
-use Prim.Native.Nat.{ℕ, _+_, _<_}
+use Prim.Native.Nat.{ℕ, _+_, _≤_, _<_}
 use lib.ListN.{length}
 use Rattle.integers.specs.Parts.{up}
 use Rattle.status.specs.Status as Status
@@ -11,7 +11,7 @@ use Rattle.tuning.specs.declared.Amount.{Amount}
 use Rattle.tuning.specs.declared.Amount.the-variants as amount
 use Rattle.tuning.specs.declared.State.{State}
 use Rattle.tuning.specs.Scale.{Scale, muted, sounds}
-use Rattle.tuning.specs.Tuning.{Tuning, Action, anchorTo, widthTo, amounts, width, toneAt, keyPosition, soundOf, spanTo, reach}
+use Rattle.tuning.specs.Tuning.{Tuning, anchorTo, widthTo, amounts, width, toneAt, keyPosition, soundOf, spanTo, reach, anchored, widened}
 use Rattle.tuning.specs.Desk.{cents, isAnchor, isWidth, called}
 use Rattle.tuning.specs.State.{places, validState, replied}
 
@@ -36,22 +36,28 @@ pub record Thirteen (s : Tuning cents) (m : Amount) : Type 0 where
   pub anchor : (called s (anchorTo m) .number ≡ endSilent) ↔ (isAnchor (amounts m (s .anchor)) ≡ true) × EitherSilent s (newAnchor s m)
   pub width : (called s (widthTo m) .number ≡ endSilent) ↔ (isWidth (amounts m (width cents s)) ≡ true) × EitherSilent s (pastWidth s m)
 
--- "document 01 won't double it or carry it up": a call that is taken, to a key on position 0, leaves every key at its sound, muted or not
-abbrev pub KeepsAll : Tuning cents → Action cents → Type 0
-KeepsAll s c = called s c .number ≡ Status.done → (x : ℕ) → soundOf cents (called s c .state) x ≡ soundOf cents s x
+-- "document 01 won't double it or carry it up": by whole periods every key keeps its sound, or its silence, on the desk and in the book
+abbrev pub SameKeys : (S : Scale) → Tuning S → Tuning S → Type 0
+SameKeys S s new = (x : ℕ) → soundOf S new x ≡ soundOf S s x
 
-pub record WholePeriods (s : Tuning cents) (m : Amount) : Type 0 where
-  pub anchor : keyPosition cents s (newAnchor s m) ≡ 0 → KeepsAll s (anchorTo m)
-  pub width : keyPosition cents s (pastWidth s m) ≡ 0 → KeepsAll s (widthTo m)
+pub record WholePeriods (S : Scale) (s : Tuning S) : Type 0 where
+  pub anchor : (b : ℕ) → keyPosition S s b ≡ 0 → SameKeys S s (anchored S s b)
+  pub width : (v : ℕ) → 1 ≤ v → keyPosition S s (s .anchor + v) ≡ 0 → SameKeys S s (widened S s v)
+
+-- and so with each call that is taken
+pub record CallsKeepKeys (s : Tuning cents) (m : Amount) : Type 0 where
+  pub anchor : keyPosition cents s (newAnchor s m) ≡ 0 → called s (anchorTo m) .number ≡ Status.done → SameKeys cents s (called s (anchorTo m) .state)
+  pub width : keyPosition cents s (pastWidth s m) ≡ 0 → called s (widthTo m) .number ≡ Status.done → SameKeys cents s (called s (widthTo m) .state)
 
 -- `@ [ ]` and width `@` are taken, and leave the state as it is, whichever of its positions are muted
 pub record KeptIsTaken (s : State) : Type 0 where
   pub anchor : replied s (anchorTo amount.Kept) ≡ record { state = s; number = Status.done }
   pub width : replied s (widthTo amount.Kept) ≡ record { state = s; number = Status.done }
 
--- **2/13**: all this, of every tuning and of every valid state
+-- **2/13**: all this, of every tuning that has a position, and of every valid state
 pub record MutedFirst : Type 0 where
   pub sounding : SoundingFirst cents
   pub thirteen : (s : Tuning cents) (m : Amount) → Thirteen s m
-  pub periods : (s : Tuning cents) → 0 < width cents s → (m : Amount) → WholePeriods s m
+  pub periods : (s : Tuning cents) → 0 < width cents s → WholePeriods cents s
+  pub calls : (s : Tuning cents) → 0 < width cents s → (m : Amount) → CallsKeepKeys s m
   pub kept : (s : State) → validState s ≡ true → length (s .tones) ≡ places → KeptIsTaken s

@@ -74,7 +74,7 @@ returns c =
     let step = c .times .ensures ∙ ap (λ (z : ℤ). z *ℤ s l .period .0) (place-word (s l) (v l) (x l) (near l) (located l)) in
     let first = sym (position l) ∙ c .before .before .before .if1 .taken in (
       ap (λ (z : ℤ). By (record { 0 = z })) (step ∙ ap (λ (p : Located). p .periods *ℤ s l .period .0) (full l))
-          ∙ sym (ap reachOf (reach-periods (held (s l)) (x l) first)),
+          ∙ sym (ap reachOf (reach-periods cents (held (s l)) (x l) first)),
       omega (arith, place-shift (s l) (v l) (x l) (near l), ap natAbs step),
     )
 
@@ -93,7 +93,7 @@ returns-2 : tie.Need-returns-2
 returns-2 c =
     let l = c .before .before .before .before .before in
     let elsewhere : keyPosition cents (held (s l)) (x l) ≢ 0 = λ e. c .before .before .before .if1 .left (position l ∙ e) in (
-      c .span-to .ensures .0 ∙ ap reachOf (span-held (s l) (v l) (x l) (c .before .sound-of .ensures .0) ∙ sym (reach-span (held (s l)) (x l) elsewhere)),
+      c .span-to .ensures .0 ∙ ap reachOf (span-held (s l) (v l) (x l) (c .before .sound-of .ensures .0) ∙ sym (reach-span cents (held (s l)) (x l) elsewhere)),
       c .span-to .ensures .1,
     )
 

@@ -1,0 +1,37 @@
+-- Where a key of a tuning stands, and the sounds of keys in a row, at any scale. Assumes nothing.
+use mathlib.Core.Path.{_≡_, refl, sym, ap, ap₂, _∙_}
+use Prim.Native.Nat.{ℕ, zero, suc, _+_, _<_}
+use native.Mathlib.Nat.{add-zero}
+use native.Mathlib.Omega.{arith}
+use lib.IntN.{ℤ, pos, subℕ, _+ℤ_, _*ℤ_}
+use lib.ListN.{length, getD}
+use Rattle.integers.proofs.Floor.{floor-law, floor-range, floor-unique}
+use Rattle.tuning.specs.Scale.{Scale, muted}
+use Rattle.tuning.specs.Tuning.{Tuning, width, raised, toneAt, keyPosition, keyPeriods, soundOf, keysFrom}
+
+module _ (S : Scale) where
+  -- ---- the sounds of n keys from x on
+
+  pub keys-length : (s : Tuning S) (x n : ℕ) → length (keysFrom S s x n) ≡ n
+  keys-length s x zero = refl
+  keys-length s x (suc n) = ap suc (keys-length s (suc x) n)
+
+  pub keys-at : (s : Tuning S) (x n i : ℕ) → i < n → getD (keysFrom S s x n) i muted ≡ soundOf S s (x + i)
+  keys-at s x zero i h = let z : ⊥ = omega arith in absurd z
+  keys-at s x (suc n) zero h = ap (soundOf S s) (sym (add-zero x))
+  keys-at s x (suc n) (suc i) h = keys-at s (suc x) n i (omega arith) ∙ ap (soundOf S s) (omega arith)
+
+  -- ---- "Key x has x - a = q·w + r with r from 0 to w-1; its pitch is t(r) + q·P, silent if t(r) is muted."
+
+  module _ (s : Tuning S) where
+    pub key-sound : (x : ℕ) (q : ℤ) (r : ℕ) → r < width S s → subℕ x (s .anchor) ≡ q *ℤ pos (width S s) +ℤ pos r
+        → soundOf S s x ≡ raised S (S .times q (s .period)) (toneAt S s r)
+    key-sound x q r h e =
+        let f = floor-unique (subℕ x (s .anchor)) q (width S s) r h e in
+        ap₂ (λ (z : ℤ) (k : ℕ). raised S (S .times z (s .period)) (toneAt S s k)) (f .0) (f .1)
+
+    pub place-law : 0 < width S s → (x : ℕ) → subℕ x (s .anchor) ≡ keyPeriods S s x *ℤ pos (width S s) +ℤ pos (keyPosition S s x)
+    place-law wide x = floor-law (subℕ x (s .anchor)) (width S s) wide
+
+    pub place-low : 0 < width S s → (x : ℕ) → keyPosition S s x < width S s
+    place-low wide x = floor-range (subℕ x (s .anchor)) (width S s) wide
