@@ -24,7 +24,7 @@ use Rattle.tables.specs.Layout.{writtenAll, joined, rowOf}
 use Rattle.filling.specs.Tables.{filledFrom, tablesOf}
 use Rattle.validity.specs.Valid.{validTables, declarationRight, isOwn, rowsRight, declarations, kindsFrom, partsFollow, ordersRight, eachRight, allZero, allNought}
 use Rattle.tuning.specs.Scale.{Sound, sounds}
-use Rattle.tuning.specs.Tuning.{soundOf, start}
+use Rattle.tuning.specs.Tuning.{Tuning, soundOf, start}
 use Rattle.tuning.specs.Desk.{cents, called, firstFailing, anyBeyond}
 use Rattle.tuning.specs.State.{held, validState, allMuted}
 use Rattle.hexadecimal.specs.Digits.{digitOf, byteOf, bytesOf}
@@ -40,9 +40,10 @@ use Rattle.exact.specs.Entry.{Factor, Entry, degreeOf, degrees, weight, 
 use Rattle.exact.specs.Book.{Powers, entries, number, start440, startRoot, once, numbered, numbersOf, written, bookFrom}
 use Rattle.exact.specs.Agreement.{KeyAgrees, both-silent, both-sound}
 use Rattle.exact.specs.Actions.{declaredIn, entryWithin}
-use Rattle.exact.specs.Claim.{fedBy, bookAfter, StreamSharper}
+use Rattle.exact.specs.Claim.{fedBy, StreamSharper}
 use Rattle.exact.specs.CaseS.{Whole, frames, entryIn, entry71, Between, Within71, Sharper71}
 use Rattle.exact.proofs.Claim.{stream-sharper}
+use Rattle.exact.proofs.Fed.{fed}
 
 pub case-s : Whole
 unfolding Option·elim leadingZeros highestBit bits L measure nearest plus total shifted ranged valueAt valueOf writtenAll joined rowOf filledFrom tablesOf
@@ -67,8 +68,8 @@ unfolding Option·elim leadingZeros highestBit bits L measure nearest plus total
 desk-71 = (refl, refl)
 
 fed-71 : entry71 ≡ entryIn program (soundOf entries (bookFrom (start entries) (fedBy program calls)) 71)
-unfolding entry71 bookAfter
-fed-71 = ap (λ (ms : List Made). entryIn program (soundOf entries (bookFrom (start entries) (fedBy program ms)) 71)) (desk-71 .0)
+unfolding entry71
+fed-71 = ap (λ (b : Tuning entries). entryIn program (soundOf entries b 71)) (fed program frames calls (desk-71 .0))
 
 -- the powers of 440, the twelfth root of 2, Octave, Fifth and a; N and w; u / v = (440·(3/2)^2) / 440, written in ten-thousandths
 pub book-71 : (map (λ (f : Factor). f .power) entry71 ≡ pos 0 ∷ pos 0 ∷ pos 0 ∷ pos 2 ∷ pos 1 ∷ []) × (degrees entry71 ≡ 1) × (weight entry71 ≡ 3)

@@ -1,6 +1,5 @@
 -- The worked stream of keys and chords, by computing. Assumes nothing.
-use mathlib.Core.Path.{_≡_, refl, ap}
-use mathlib.Core.List.{List}
+use mathlib.Core.Path.{_≡_, refl}
 use mathlib.Core.Option.{Option·elim}
 use Rattle.values.specs.Values.{plus, total, shifted, ranged, valueAt}
 use Rattle.tables.specs.Layout.{writtenAll, joined, rowOf}
@@ -14,7 +13,7 @@ use Rattle.harmonies.specs.Harmonies.{matches}
 use Rattle.hexadecimal.specs.Digits.{digitOf, byteOf, bytesOf}
 use Rattle.frames.specs.Frames.{framed, frameOf}
 use Rattle.protocol.specs.Triggers.{firstLogic, firstOrder, struck}
-use Rattle.protocol.specs.Steps.{Made, callOn, deskFrom, madeFrom, triggered, moveStep}
+use Rattle.protocol.specs.Steps.{callOn, deskFrom, madeFrom, triggered, moveStep}
 use Rattle.protocol.specs.Answers.{startDesk, moveOutcome, frameOutcome, answerOf}
 use Rattle.hexadecimal.specs.Digits.{hexOf, hexes}
 use Rattle.hexadecimal.specs.Numbers.{twos, fourOf}
@@ -26,6 +25,7 @@ use Rattle.exact.specs.Book.{entries, bookFrom, once}
 use Rattle.exact.specs.Actions.{entryWithin}
 use Rattle.exact.specs.Claim.{fedBy, bookAfter}
 use Rattle.exact.specs.Chords.{frames, lines, calls, Whole}
+use Rattle.exact.proofs.Fed.{fed}
 
 -- the lines, and the calls
 answers : (linesOf (tablesOf program) startDesk frames ≡ lines) × (madeIn (tablesOf program) startDesk frames ≡ calls)
@@ -37,9 +37,8 @@ answers = (refl, refl)
 
 -- the book, fed these calls
 book : bookAfter program frames ≡ bookFrom (start entries) (fedBy program calls)
-unfolding bookAfter
-book = ap (λ (ms : List Made). bookFrom (start entries) (fedBy program ms)) (answers .1)
+book = fed program frames calls (answers .1)
 
 pub chords : Whole
 unfolding entryWithin once fedBy bookFrom
-chords = record { read = chords-read; answered = answers .0; made = answers .1; anchor = rw book; width = rw book }
+chords = record { worked = record { read = chords-read; answered = answers .0; made = answers .1 }; anchor = rw book; width = rw book }

@@ -18,7 +18,7 @@ use Rattle.tables.specs.Layout.{writtenAll, joined, rowOf}
 use Rattle.filling.specs.Tables.{filledFrom, tablesOf}
 use Rattle.validity.specs.Valid.{validTables, declarationRight, isOwn, rowsRight, declarations, kindsFrom, partsFollow, ordersRight, eachRight, allZero, allNought}
 use Rattle.tuning.specs.Scale.{sounds}
-use Rattle.tuning.specs.Tuning.{soundOf, start}
+use Rattle.tuning.specs.Tuning.{Tuning, soundOf, start}
 use Rattle.tuning.specs.Desk.{cents, called, firstFailing, anyBeyond}
 use Rattle.tuning.specs.State.{held, validState, allMuted}
 use Rattle.hexadecimal.specs.Digits.{digitOf, byteOf, bytesOf}
@@ -33,10 +33,11 @@ use Rattle.protocol.specs.Streams.{deskAfter, madeIn, linesOf}
 use Rattle.exact.specs.Entry.{degreeOf, degrees, weight, part, above, below, u, v, AtMultiples}
 use Rattle.exact.specs.Book.{entries, number, start440, startRoot, once, numbered, numbersOf, written, bookFrom}
 use Rattle.exact.specs.Actions.{entryWithin}
-use Rattle.exact.specs.Claim.{fedBy, bookAfter}
+use Rattle.exact.specs.Claim.{fedBy}
 use Rattle.exact.specs.CaseS.{entryIn}
 use Rattle.exact.specs.TwoLogics.{call}
 use Rattle.exact.specs.FarTone.{frames, lines, Whole, entry69, NoFewer}
+use Rattle.exact.proofs.Fed.{fed}
 use Rattle.exact.proofs.CaseS.{sounding-near, in-numbers}
 
 -- One, taken
@@ -55,14 +56,14 @@ desk = (refl, refl, refl)
 pub far-tone : Whole
 far-tone = record { read = far-tone-read; answered = desk .0 }
 
-fed : entry69 ≡ entryIn program (soundOf entries (bookFrom (start entries) (fedBy program calls)) 69)
-unfolding entry69 bookAfter
-fed = ap (λ (ms : List Made). entryIn program (soundOf entries (bookFrom (start entries) (fedBy program ms)) 69)) (desk .1)
+fed-69 : entry69 ≡ entryIn program (soundOf entries (bookFrom (start entries) (fedBy program calls)) 69)
+unfolding entry69
+fed-69 = ap (λ (b : Tuning entries). entryIn program (soundOf entries b 69)) (fed program frames calls (desk .1))
 
 book : (degrees entry69 ≡ 1) × (weight entry69 ≡ 1) × (u entry69 ≡ 11530000) × (v entry69 ≡ 4400000)
 unfolding entryWithin once fedBy bookFrom numbersOf numbered written number start440 startRoot degrees degreeOf weight above
     below part
-book = rw fed (refl, refl, refl, refl)
+book = rw fed-69 (refl, refl, refl, refl)
 
 not-near : (h : ℕ) → h < fewest → AtMultiples (InHundredths h) entry69 (pos 1667780) → ⊥
 not-near h few x = too-far h few (in-numbers (InHundredths h) (book .0) (book .1) (book .2) (book .3) x)

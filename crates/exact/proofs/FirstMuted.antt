@@ -1,6 +1,6 @@
 -- Document 02, 2/13, of the exact book: where position 0 sounds its distances are document 01's, and by whole periods every key keeps its entry; then the worked
 -- streams, by computing. Assumes nothing.
-use mathlib.Core.Path.{_≡_, refl, sym, ap, fun-ext}
+use mathlib.Core.Path.{_≡_, refl, sym, fun-ext}
 use mathlib.Core.List.{List}
 use Prim.Native.Nat.{ℕ, _<_}
 use mathlib.Core.Option.{Option·elim}
@@ -35,8 +35,9 @@ use Rattle.program.specs.MutedChord as mutedChord
 use Rattle.program.proofs.Texts.{pentatonic-read, nine-octaves-read, muted-chord-read}
 use Rattle.exact.specs.Book.{entries, bookFrom, once}
 use Rattle.exact.specs.Actions.{entryWithin}
-use Rattle.exact.specs.Claim.{fedBy, bookAfter}
+use Rattle.exact.specs.Claim.{fedBy}
 use Rattle.exact.specs.FirstMuted.{pentatonicFrames, pentatonicLines, pentatonicCalls, nineOctavesFrames, nineOctavesLines, nineOctavesCalls, mutedChordFrames, mutedChordLines, mutedChordCalls, doubledBook, nineBook, chordBook, Whole}
+use Rattle.exact.proofs.Fed.{fed}
 
 -- entries add up as whole numbers do, name by name
 entries-steps : Steps entries
@@ -68,10 +69,6 @@ unfolding Option·elim leadingZeros highestBit bits L measure nearest plus total
 answers = ((refl, refl), (refl, refl), (refl, refl))
 
 -- the book, fed these calls
-fed : (p : Program) (frames : List Lent) (calls : List Made) → madeIn (tablesOf p) startDesk frames ≡ calls → bookAfter p frames ≡ bookFrom (start entries) (fedBy p calls)
-unfolding bookAfter
-fed p frames calls e = ap (λ (ms : List Made). bookFrom (start entries) (fedBy p ms)) e
-
 doubled : doubledBook ≡ bookFrom (start entries) (fedBy pentatonic.program pentatonicCalls)
 unfolding doubledBook
 doubled = fed pentatonic.program pentatonicFrames pentatonicCalls (answers .0 .1)

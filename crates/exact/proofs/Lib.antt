@@ -17,6 +17,7 @@ pub mod Matched
 pub mod Claim
 pub mod Soundness
 pub mod Told
+pub mod Fed
 pub mod CaseS
 pub mod TextCalls
 pub mod TextLetters

@@ -11,7 +11,7 @@ use Rattle.tuning.specs.Scale.{Sound, muted, sounds}
 use Rattle.tuning.specs.State.{toneOf}
 use Rattle.tuning.specs.Inner.{size}
 use Rattle.tuning.proofs.Valid.{valid-of}
-use Rattle.tuning.proofs.Tones.{sound-size}
+use Rattle.tuning.proofs.Tones.{Asked, sound-size}
 use Rattle.tables.specs.Layout.{Tables}
 use Rattle.validity.specs.Valid.{validTables}
 use Rattle.program.specs.Program.{Program}
@@ -46,7 +46,7 @@ module _ (house key : ℕ) (least : firstHouse ≤ house) (most : house ≤ seco
 
   module _ (t : Tables) (v : validTables t ≡ true) (d : Desk) (r : Right t v d) where
     told : Told (soundAt d key)
-    told = go (soundAt d key) (sound-size (d .tuning) (valid-of (d .tuning) (r .tuning .0)) key (omega arith) (r .tuning .1))
+    told = let a : Asked (d .tuning) key = record { valid = valid-of (d .tuning) (r .tuning .0); near = omega arith; long = r .tuning .1 } in go (soundAt d key) (sound-size a)
       where
         go : (x : Sound ℤ) → size (toneOf x) ≤ 1_624_000_000 → Told x
         go muted h = tt

@@ -1,6 +1,5 @@
 -- The second worked stream, by computing. Assumes nothing.
-use mathlib.Core.Path.{_≡_, refl, ap}
-use mathlib.Core.List.{List}
+use mathlib.Core.Path.{_≡_, refl}
 use mathlib.Core.Option.{Option·elim}
 use lib.Count.{leadingZeros}
 use Rattle.cents.specs.Log.{highestBit, bits, L}
@@ -15,7 +14,7 @@ use Rattle.tuning.specs.State.{validState, allMuted}
 use Rattle.hexadecimal.specs.Digits.{digitOf, byteOf, bytesOf}
 use Rattle.frames.specs.Frames.{framed, frameOf}
 use Rattle.protocol.specs.Triggers.{firstLogic, firstOrder, struck}
-use Rattle.protocol.specs.Steps.{Made, callOn, deskFrom, madeFrom, triggered}
+use Rattle.protocol.specs.Steps.{callOn, deskFrom, madeFrom, triggered}
 use Rattle.protocol.specs.Answers.{startDesk, letterOutcome, keyOutcome, frameOutcome, answerOf}
 use Rattle.hexadecimal.specs.Digits.{hexOf, hexes}
 use Rattle.hexadecimal.specs.Numbers.{twos, fourOf}
@@ -28,6 +27,7 @@ use Rattle.exact.specs.Book.{entries, bookFrom, once}
 use Rattle.exact.specs.Actions.{entryWithin}
 use Rattle.exact.specs.Claim.{fedBy, bookAfter}
 use Rattle.exact.specs.TwoLogics.{frames, lines, calls, Whole}
+use Rattle.exact.proofs.Fed.{fed}
 
 -- the lines, and the calls
 answers : (linesOf (tablesOf program) startDesk frames ≡ lines) × (madeIn (tablesOf program) startDesk frames ≡ calls)
@@ -39,10 +39,9 @@ answers = (refl, refl)
 
 -- the book, fed these calls
 book : bookAfter program frames ≡ bookFrom (start entries) (fedBy program calls)
-unfolding bookAfter
-book = ap (λ (ms : List Made). bookFrom (start entries) (fedBy program ms)) (answers .1)
+book = fed program frames calls (answers .1)
 
 pub two-logics : Whole
 unfolding entryWithin once fedBy bookFrom
 two-logics =
-    record { read = two-logics-read; answered = answers .0; made = answers .1; anchor = rw book; width = rw book }
+    record { worked = record { read = two-logics-read; answered = answers .0; made = answers .1 }; anchor = rw book; width = rw book }

@@ -6,14 +6,11 @@ use Prim.Native.Nat.{ℕ}
 use Rattle.ascii.specs.Ascii.{bytes}
 use Rattle.tuning.specs.Tuning.{width}
 use Rattle.program.specs.Chords.{text, program}
-use Rattle.program.specs.Text.{accepted, readText}
-use Rattle.filling.specs.Tables.{tablesOf}
 use Rattle.protocol.specs.Steps.{Made}
-use Rattle.protocol.specs.Answers.{startDesk}
-use Rattle.protocol.specs.Streams.{Lent, madeIn, linesOf}
+use Rattle.protocol.specs.Streams.{Lent}
 use Rattle.exact.specs.Book.{entries}
 use Rattle.exact.specs.CaseS.{lent}
-use Rattle.exact.specs.TwoLogics.{call}
+use Rattle.exact.specs.TwoLogics.{call, Worked}
 use Rattle.exact.specs.Claim.{bookAfter}
 
 -- { 0, 4, *7 } at anchor 60 and width 12. Key 60 goes down, in the other house too: nothing matches. Key 64: the harmony, and so Up, to the anchor 67. Key 64
@@ -38,8 +35,6 @@ calls = call 1 0 ∷ []
 
 -- what is answered, what is called, and what the book then has
 pub record Whole : Type 0 where
-  pub read : readText text ≡ accepted program
-  pub answered : linesOf (tablesOf program) startDesk frames ≡ lines
-  pub made : madeIn (tablesOf program) startDesk frames ≡ calls
+  pub worked : Worked text program frames lines calls
   pub anchor : bookAfter program frames .anchor ≡ 67
   pub width : width entries (bookAfter program frames) ≡ 12

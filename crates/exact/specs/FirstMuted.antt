@@ -7,25 +7,15 @@ use lib.IntN.{pos}
 use Rattle.ascii.specs.Ascii.{bytes}
 use Rattle.tuning.specs.Scale.{muted}
 use Rattle.tuning.specs.Tuning.{Tuning, width, soundOf}
-use Rattle.program.specs.Program.{Program}
-use Rattle.program.specs.Text.{accepted, readText}
 use Rattle.program.specs.Pentatonic as pentatonic
 use Rattle.program.specs.NineOctaves as nineOctaves
 use Rattle.program.specs.MutedChord as mutedChord
-use Rattle.filling.specs.Tables.{tablesOf}
 use Rattle.protocol.specs.Steps.{Made}
-use Rattle.protocol.specs.Answers.{startDesk}
-use Rattle.protocol.specs.Streams.{Lent, madeIn, linesOf}
+use Rattle.protocol.specs.Streams.{Lent}
 use Rattle.exact.specs.Book.{entries, theRoot, declared}
 use Rattle.exact.specs.CaseS.{lent}
-use Rattle.exact.specs.TwoLogics.{call}
+use Rattle.exact.specs.TwoLogics.{call, Worked}
 use Rattle.exact.specs.Claim.{bookAfter}
-
--- a text, the program that it is read as, frames, the line that answers each, and the calls that they make
-pub record Worked (text : List ℕ) (program : Program) (frames : List Lent) (lines : List (List ℕ)) (calls : List Made) : Type 0 where
-  pub read : readText text ≡ accepted program
-  pub answered : linesOf (tablesOf program) startDesk frames ≡ lines
-  pub made : madeIn (tablesOf program) startDesk frames ≡ calls
 
 -- L: Pent, of which positions 1, 3, 6, 8 and 10 sound. G: `@ [ ]`. E: width `@`. A: an octave up. Key 60, silent. Key 61. C: an octave down. B: `@ + 1`, refused,
 -- though key 61 sounds. D: doubled. H: `@ + 2`, refused. F: width 13, refused

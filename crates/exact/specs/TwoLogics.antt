@@ -5,6 +5,7 @@ use mathlib.Core.List.{List, [], _∷_, map}
 use Prim.Native.Nat.{ℕ}
 use Rattle.ascii.specs.Ascii.{bytes}
 use Rattle.tuning.specs.Tuning.{width}
+use Rattle.program.specs.Program.{Program}
 use Rattle.program.specs.TwoLogics.{text, program}
 use Rattle.program.specs.Text.{accepted, readText}
 use Rattle.filling.specs.Tables.{tablesOf}
@@ -44,10 +45,14 @@ call k n = record { called = k; number = n }
 abbrev pub calls : List Made
 calls = call 4 0 ∷ call 6 0 ∷ call 8 11 ∷ call 5 0 ∷ call 7 0 ∷ call 4 0 ∷ call 7 0 ∷ call 8 11 ∷ []
 
--- what is answered, what is called, and what the book then has: it took the calls with number 0 and no others
-pub record Whole : Type 0 where
+-- a text, the program that it is read as, frames, the line that answers each, and the calls that they make
+pub record Worked (text : List ℕ) (program : Program) (frames : List Lent) (lines : List (List ℕ)) (calls : List Made) : Type 0 where
   pub read : readText text ≡ accepted program
   pub answered : linesOf (tablesOf program) startDesk frames ≡ lines
   pub made : madeIn (tablesOf program) startDesk frames ≡ calls
+
+-- and what the book then has: it took the calls with number 0 and no others
+pub record Whole : Type 0 where
+  pub worked : Worked text program frames lines calls
   pub anchor : bookAfter program frames .anchor ≡ 68
   pub width : width entries (bookAfter program frames) ≡ 2

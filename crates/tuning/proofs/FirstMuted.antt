@@ -4,25 +4,26 @@ use mathlib.Core.Logic.{_≢_, _↔_, Iff·trans, _⊎_, inl, inr}
 use mathlib.Core.Bool.{Bool, true, false, not, false≢true}
 use mathlib.Core.List.{List, [], _∷_, map, map-id}
 use Prim.Native.Nat.{ℕ, zero, suc, _+_, _≤_, _<_}
+use native.Mathlib.Nat.{add-zero}
 use native.Mathlib.Omega.{arith}
 use borrow.Author.Tests.{not-false}
 use lib.IntN.{ℤ, pos, subℕ, _+ℤ_, _-ℤ_, _*ℤ_, +ℤ-comm, +ℤ-assoc, +ℤ-negℤ-cancel, -ℤ-+ℤ-cancel, zero-*ℤ}
 use lib.ListN.{length, length-map, List·getD-map}
 use lib.Seq.{ext-getD}
 use Rattle.integers.specs.Parts.{up}
-use Rattle.integers.proofs.Signed.{signed, sum, times, minus}
+use Rattle.integers.proofs.Signed.{signed, sum, minus}
 use Rattle.integers.proofs.Difference.{add-mulℤ, mul-assocℤ, one-mulℤ}
-use Rattle.integers.proofs.Floor.{floor-unique}
+use Rattle.status.specs.Status.{endSilent}
 use Rattle.tuning.specs.declared.Amount.{Amount}
 use Rattle.tuning.specs.declared.Amount.the-variants.{Kept}
 use Rattle.tuning.specs.declared.State.{State}
 use Rattle.tuning.specs.Scale.{Scale, Sound, muted, sounds}
-use Rattle.tuning.specs.Tuning.{Tuning, anchorTo, widthTo, amounts, width, raised, toneAt, keyPosition, keyPeriods, keyRise, soundOf, apart, spanTo, reachBy, reach, anchoredBy, keysFrom, widenedBy, done}
-use Rattle.tuning.specs.Desk.{cents, isAnchor, isWidth, isPeriod, isMuted, anyBeyond, Check, firstFailing, badTone, badPeriod, checks, called}
+use Rattle.tuning.specs.Tuning.{Tuning, anchorTo, widthTo, amounts, width, raised, toneAt, keyPosition, keyPeriods, keyRise, soundOf, apart, spanTo, reachBy, reach, anchoredBy, keysFrom, widenedBy}
+use Rattle.tuning.specs.Desk.{cents, isAnchor, isWidth, isMuted, anyBeyond, Check, firstFailing, called}
 use Rattle.tuning.specs.State.{places, held, validState}
 use Rattle.tuning.specs.FirstMuted.{SoundingFirst, newAnchor, pastWidth, EitherSilent, Thirteen, SameKeys, WholePeriods, CallsKeepKeys, KeptIsTaken, MutedFirst}
 use Rattle.tuning.proofs.Held.{ValidTuning, coded-held, valid-held}
-use Rattle.tuning.proofs.Keys.{keys-length, keys-at, key-sound, place-law, place-low}
+use Rattle.tuning.proofs.Keys.{At, at-position, at-next, keys-length, keys-at, key-sound, place-law, place-low}
 use Rattle.tuning.proofs.Outcomes.{taken, reach-periods, reach-span, anchor-taken, width-taken, reply-taken}
 use Rattle.tuning.proofs.Laws.{never, raised-none, position-sound, taken-does, width-least}
 
@@ -86,6 +87,12 @@ muted-is : (y : Sound ℤ) → isMuted y ≡ true → y ≡ muted
 muted-is muted h = refl
 muted-is (sounds z) h = absurd (false≢true h)
 
+-- a number comes from the first check that fails: not where no later check has it
+not-first : (n k : ℕ) (x : Bool) (cs : List Check) → suc n ≢ k → firstFailing cs ≢ k → firstFailing (record { number = suc n; fails = x } ∷ cs) ≢ k
+unfolding firstFailing
+not-first n k true cs a b = a
+not-first n k false cs a b = b
+
 -- the second check decides where the first passes, and its number comes from no other
 second-fails : (n k : ℕ) (x y : Bool) (cs : List Check) → suc n ≢ suc k → firstFailing cs ≢ suc k
     → (firstFailing (record { number = suc n; fails = x } ∷ record { number = suc k; fails = y } ∷ cs) ≡ suc k) ↔ (x ≡ false) × (y ≡ true)
@@ -94,22 +101,9 @@ second-fails n k true y cs a b = (λ e. absurd (a e), λ h. absurd (false≢true
 second-fails n k false true cs a b = (λ e. (refl, refl), λ h. refl)
 second-fails n k false false cs a b = (λ e. absurd (b e), λ h. absurd (false≢true (h .1)))
 
-tone-no-thirteen : (t : Tuning cents) → firstFailing (badTone t ∷ []) ≢ 13
+none-is-no-thirteen : firstFailing [] ≢ endSilent
 unfolding firstFailing
-tone-no-thirteen t = go (anyBeyond (t .tones))
-  where
-    go : (b : Bool) → _≢_ {A = ℕ} (elim b [ true ↦ 14 | false ↦ 0 ]) 13
-    go true e = omega arith
-    go false e = omega arith
-
-period-no-thirteen : (t : Tuning cents) → firstFailing (badTone t ∷ badPeriod (t .period) ∷ []) ≢ 13
-unfolding firstFailing
-period-no-thirteen t = go (anyBeyond (t .tones)) (not (isPeriod (t .period)))
-  where
-    go : (b c : Bool) → _≢_ {A = ℕ} (elim b [ true ↦ 14 | false ↦ elim c [ true ↦ 12 | false ↦ 0 ] ]) 13
-    go true c e = omega arith
-    go false true e = omega arith
-    go false false e = omega arith
+none-is-no-thirteen e = omega arith
 
 -- what the checks ask is what the request says
 asked : (s : Tuning cents) (x : ℕ) (b : Bool) → (not b ≡ false) × (isMuted (reach cents s x) ≡ true) ↔ (b ≡ true) × EitherSilent s x
@@ -124,11 +118,11 @@ thirteen s m =
     record {
       anchor =
           Iff·trans
-          (second-fails 9 12 _ _ _ (λ e. omega arith) (tone-no-thirteen (done cents s (anchorTo m))))
+          (second-fails 9 12 _ _ _ (λ e. omega arith) (not-first 13 endSilent _ _ (λ e. omega arith) none-is-no-thirteen))
           (asked s (newAnchor s m) (isAnchor (amounts m (s .anchor))));
       width =
           Iff·trans
-          (second-fails 10 12 _ _ _ (λ e. omega arith) (period-no-thirteen (done cents s (widthTo m))))
+          (second-fails 10 12 _ _ _ (λ e. omega arith) (not-first 13 endSilent _ _ (λ e. omega arith) (not-first 11 endSilent _ _ (λ e. omega arith) none-is-no-thirteen)))
           (asked s (pastWidth s m) (isWidth (amounts m (width cents s))));
     }
 
@@ -225,17 +219,11 @@ calls-keep-keys s wide m =
 -- ---- `@ [ ]` and width `@`
 
 module _ (t : Tuning cents) (v : ValidTuning t) where
-  here : (keyPeriods cents t (t .anchor) ≡ pos 0) × (keyPosition cents t (t .anchor) ≡ 0)
-  here =
-      let a = t .anchor in
-      let w = width cents t in
-      floor-unique (subℕ a a) (pos 0) w 0 (v .least) (omega (signed, minus a a, sum (pos 0 *ℤ pos w) (pos 0), times (pos 0) w))
+  here : At cents t (t .anchor) (pos 0) 0
+  here = subst (λ (x : ℕ). At cents t x (pos 0) 0) (add-zero (t .anchor)) (at-position cents t 0 (v .least))
 
-  next : (keyPeriods cents t (t .anchor + width cents t) ≡ pos 1) × (keyPosition cents t (t .anchor + width cents t) ≡ 0)
-  next =
-      let a = t .anchor in
-      let w = width cents t in
-      floor-unique (subℕ (a + w) a) (pos 1) w 0 (v .least) (omega (signed, minus (a + w) a, sum (pos 1 *ℤ pos w) (pos 0), times (pos 1) w))
+  next : At cents t (t .anchor + width cents t) (pos 1) 0
+  next = at-next cents t (v .least)
 
   same-tones : map (raised cents (pos 0)) (t .tones) ≡ t .tones
   same-tones = ap (λ (f : Sound ℤ → Sound ℤ). map f (t .tones)) (fun-ext raised-none) ∙ map-id (t .tones)
@@ -249,7 +237,7 @@ module _ (t : Tuning cents) (v : ValidTuning t) where
   anchor-kept : called t (anchorTo Kept) ≡ taken t
   anchor-kept =
       let r : reach cents t (t .anchor) ≡ sounds (pos 0) =
-      reach-periods cents t (t .anchor) (here .1) ∙ ap (λ (z : ℤ). sounds (z *ℤ t .period)) (here .0) ∙ ap (λ (z : ℤ). sounds z) (zero-*ℤ (t .period)) in
+      reach-periods cents t (t .anchor) (here .r) ∙ ap (λ (z : ℤ). sounds (z *ℤ t .period)) (here .q) ∙ ap (λ (z : ℤ). sounds z) (zero-*ℤ (t .period)) in
       anchor-taken t Kept (t .anchor) refl (v .anchor) (pos 0) r (ap anyBeyond same-tones ∙ v .tones)
       ∙ ap (λ (l : List (Sound ℤ)). taken (record { anchor = t .anchor; tones = l; period = t .period })) same-tones
 
@@ -257,7 +245,7 @@ module _ (t : Tuning cents) (v : ValidTuning t) where
   width-kept =
       let w = width cents t in
       let r : reach cents t (t .anchor + w) ≡ sounds (t .period) =
-      reach-periods cents t (t .anchor + w) (next .1) ∙ ap (λ (z : ℤ). sounds (z *ℤ t .period)) (next .0) ∙ ap (λ (z : ℤ). sounds z) (one-mulℤ (t .period)) in
+      reach-periods cents t (t .anchor + w) (next .r) ∙ ap (λ (z : ℤ). sounds (z *ℤ t .period)) (next .q) ∙ ap (λ (z : ℤ). sounds z) (one-mulℤ (t .period)) in
       width-taken t Kept w refl (v .least) (v .most) (t .period) r (ap anyBeyond same-keys ∙ v .tones) (v .period)
       ∙ ap (λ (l : List (Sound ℤ)). taken (record { anchor = t .anchor; tones = l; period = t .period })) same-keys
 

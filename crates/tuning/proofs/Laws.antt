@@ -8,11 +8,11 @@ use native.Mathlib.Decide.{decLt}
 use native.Mathlib.Nat.{add-zero}
 use native.Mathlib.Omega.{arith}
 use borrow.Author.Tests.{not-false}
-use lib.IntN.{ℤ, pos, _-ℤ_, _*ℤ_, +ℤ-idr, zero-*ℤ}
+use lib.IntN.{ℤ, pos, _-ℤ_, +ℤ-idr, zero-*ℤ}
 use lib.ListN.{length, length-map, getD, List·getD-map}
 use lib.Signed.{leZ}
 use Rattle.integers.specs.Parts.{up}
-use Rattle.integers.proofs.Signed.{signed, abs, sum, diff, times, minus}
+use Rattle.integers.proofs.Signed.{signed, abs, sum, diff}
 use Rattle.integers.proofs.Difference.{one-mulℤ}
 use Rattle.tuning.specs.declared.Amount.{Amount}
 use Rattle.tuning.specs.declared.State.{State}
@@ -22,7 +22,7 @@ use Rattle.tuning.specs.Desk.{cents, between, isPeriod, isMuted, anyBeyo
 use Rattle.tuning.specs.State.{places, held, coded, validState, replied}
 use Rattle.tuning.proofs.Lists.{both}
 use Rattle.tuning.proofs.Held.{ValidTuning, held-coded, coded-held, length-coded, valid-coded, valid-held}
-use Rattle.tuning.proofs.Keys.{keys-length, keys-at, key-sound}
+use Rattle.tuning.proofs.Keys.{at-position, at-next, sound-at, keys-length, keys-at}
 use Rattle.tuning.proofs.Changed.{new-length}
 use Rattle.tuning.proofs.Outcomes.{passed, system-taken}
 
@@ -39,15 +39,13 @@ module _ (s : Tuning cents) where
   -- the positions are the keys from the anchor on
   pub position-sound : (i : ℕ) → i < width cents s → soundOf cents s (s .anchor + i) ≡ toneAt cents s i
   position-sound i h =
-      let w = width cents s in
-      key-sound cents s (s .anchor + i) (pos 0) i h (omega (signed, minus (s .anchor + i) (s .anchor), sum (pos 0 *ℤ pos w) (pos i), times (pos 0) w))
+      sound-at cents s (s .anchor + i) (at-position cents s i h)
       ∙ ap (λ (z : ℤ). raised cents z (toneAt cents s i)) (zero-*ℤ (s .period)) ∙ raised-none (toneAt cents s i)
 
   -- the key after the last position has the tone of the first one, a period higher
   pub next-sound : 0 < width cents s → soundOf cents s (s .anchor + width cents s) ≡ raised cents (s .period) (toneAt cents s 0)
   next-sound h =
-      let w = width cents s in
-      key-sound cents s (s .anchor + w) (pos 1) 0 h (omega (signed, minus (s .anchor + w) (s .anchor), sum (pos 1 *ℤ pos w) (pos 0), times (pos 1) w))
+      sound-at cents s (s .anchor + width cents s) (at-next cents s h)
       ∙ ap (λ (z : ℤ). raised cents z (toneAt cents s 0)) (one-mulℤ (s .period))
 
 -- position 0 is the anchor's, even where there are no tones

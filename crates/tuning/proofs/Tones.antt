@@ -1,7 +1,7 @@
 -- The sound of a key: where it stands, and how large it can be.
 use mathlib.Core.Path.{_≡_, sym, ap, _∙_}
 use mathlib.Core.List.{List, map}
-use Prim.Native.Nat.{ℕ, _+_, _*_, _-_, _≤_, _<_}
+use Prim.Native.Nat.{ℕ, _+_, _≤_, _<_}
 use native.Mathlib.Nat.{div-le-self}
 use native.Mathlib.Omega.{arith}
 use lib.IntN.{ℤ, pos, negsuc, natAbs, subℕ, _*ℤ_}
@@ -10,7 +10,7 @@ use lib.Seq.{getD-take}
 use mir.Facts.{toZ-ofZ}
 use mir.Syntax.{w32}
 use mir.Val.{toZ, ofZ}
-use Rattle.integers.specs.Floor.{floorDiv, floorMod}
+use Rattle.integers.specs.Floor.{floorDiv}
 use Rattle.integers.proofs.Signed.{signed, abs, minus, sum, mul-size, mul-bound}
 use Rattle.integers.proofs.Floor.{floor-range}
 use Rattle.tuning.specs.Scale.{muted}
@@ -46,16 +46,22 @@ pub raised-size : (t : Tone) (d : ℤ) → size (toneOf (raised cents d (heard t
 raised-size Muted d = omega arith
 raised-size (At p) d = omega (arith, sum (p .0) d .size)
 
--- the place of a key of a valid state
-module _ (s : State) (v : Valid s) (x : ℕ) (h : x ≤ s .anchor .0 + 127) where
+-- what a state and a key have where the key is asked for
+pub record Asked (s : State) (x : ℕ) : Type 0 where
+  pub valid : Valid s
+  pub near : x ≤ s .anchor .0 + 127
+  pub long : length (s .tones) ≡ 60
+
+-- the place of that key
+module _ {s : State} {x : ℕ} (a : Asked s x) where
   abbrev pub place : Located
   place = locatedAt (subℕ x (s .anchor .0)) (s .width)
 
   pub place-position : place .position < s .width
-  place-position = floor-range (subℕ x (s .anchor .0)) (s .width) (v .least)
+  place-position = floor-range (subℕ x (s .anchor .0)) (s .width) (a .valid .least)
 
-  pub place-periods : natAbs (place .periods) ≤ 127
-  place-periods = periods-size (subℕ x (s .anchor .0)) (s .width) 127 (steps-size x (s .anchor .0) (v .anchor) h)
+  place-periods : natAbs (place .periods) ≤ 127
+  place-periods = periods-size (subℕ x (s .anchor .0)) (s .width) 127 (steps-size x (s .anchor .0) (a .valid .anchor) (a .near))
 
   -- what `locate` gives is this place, and its periods are in the machine's range
   pub place-found : {z : ℤ} {l : Located} → z ≡ subℕ x (s .anchor .0) → l ≡ locatedAt z (s .width) → l ≡ place
@@ -67,21 +73,20 @@ module _ (s : State) (v : Valid s) (x : ℕ) (h : x ≤ s .anchor .0 + 127) wher
   -- the period as often as it goes up or down
   pub place-shift : natAbs (place .periods *ℤ s .period .0) ≤ 1_524_000_000
   place-shift =
-      omega (arith, mul-size (place .periods) (s .period .0), mul-bound place-periods (period-size (s .period .0) (v .period)))
-
-  -- the sound of a key, by its place
-  pub place-sound : length (s .tones) ≡ 60 → raised cents (place .periods *ℤ s .period .0) (heard (getD (s .tones) (place .position) none .tone)) ≡ soundOf cents (held s) x
-  place-sound n =
-      ap (raised cents (place .periods *ℤ s .period .0)) (sym (heard-at (s .tones) (s .width) (place .position) place-position))
-      ∙ ap (λ (w : ℕ). raised cents (floorDiv (subℕ x (s .anchor .0)) w *ℤ s .period .0) (getD (held s .tones) (floorMod (subℕ x (s .anchor .0)) w) muted))
-      (sym (held-width s n (v .most)))
+      omega (arith, mul-size (place .periods) (s .period .0), mul-bound place-periods (period-size (s .period .0) (a .valid .period)))
 
   -- the same place, of the tuning that the state stands for
-  pub place-held : length (s .tones) ≡ 60 → place ≡ record { position = keyPosition cents (held s) x; periods = keyPeriods cents (held s) x }
-  place-held n = ap (λ (w : ℕ). locatedAt (subℕ x (s .anchor .0)) w) (sym (held-width s n (v .most)))
+  pub place-held : place ≡ record { position = keyPosition cents (held s) x; periods = keyPeriods cents (held s) x }
+  place-held = ap (λ (w : ℕ). locatedAt (subℕ x (s .anchor .0)) w) (sym (held-width s (a .long) (a .valid .most)))
 
-  -- how far the sound can be
-  pub sound-size : length (s .tones) ≡ 60 → size (toneOf (soundOf cents (held s) x)) ≤ 1_624_000_000
-  sound-size n =
+  -- the sound of the key, by its place
+  pub place-sound : raised cents (place .periods *ℤ s .period .0) (heard (getD (s .tones) (place .position) none .tone)) ≡ soundOf cents (held s) x
+  place-sound =
+      ap (raised cents (place .periods *ℤ s .period .0)) (sym (heard-at (s .tones) (s .width) (place .position) place-position))
+      ∙ ap (λ (p : Located). raised cents (p .periods *ℤ s .period .0) (getD (held s .tones) (p .position) muted)) place-held
+
+  -- how far it can be
+  pub sound-size : size (toneOf (soundOf cents (held s) x)) ≤ 1_624_000_000
+  sound-size =
       let t = getD (s .tones) (place .position) none .tone in
-      rw (← place-sound n) (omega (arith, raised-size t (place .periods *ℤ s .period .0), tone-size s v (place .position), place-shift))
+      rw (← place-sound) (omega (arith, raised-size t (place .periods *ℤ s .period .0), tone-size s (a .valid) (place .position), place-shift))
