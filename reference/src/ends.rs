@@ -1,6 +1,7 @@
 //! Anchor and width calls by the two ends of their distance: how often the rule
 //! of request 2/13 was met, and each way to number 13.
 
+use crate::frames::{Desk, Made};
 use crate::numbers::{self, Number};
 use crate::state::{Call, Key, State, ANCHORS, WIDTHS};
 
@@ -38,6 +39,13 @@ impl Ends {
             _ => return,
         };
         *count += 1;
+    }
+
+    /// The same of a call that a frame has made.
+    pub fn note_made(&mut self, state: &State, desk: &Desk, made: Made) {
+        if let Some(call) = desk.call_of(made.target) {
+            self.note(state, call, made.number);
+        }
     }
 
     /// Those by whole periods that were taken.

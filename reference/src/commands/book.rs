@@ -60,9 +60,7 @@ fn follow(
         let before = desk.state().clone();
         if let Some(made) = desk.answer(line, &mut Vec::new()).made {
             tally.note_call(line, made);
-            if let Some(call) = desk.call_of(made.target) {
-                tally.ends.note(&before, call, made.number);
-            }
+            tally.ends.note_made(&before, &desk, made);
             book.take(made)?;
         }
         compare_keys(&mut desk, &Page::new(&book, &sizes), tally)?;

@@ -81,9 +81,8 @@ impl Tally {
     fn answer(&mut self, desk: &mut Desk, line: &[u8]) -> Effect {
         let before = desk.state().clone();
         let effect = desk.answer(line, &mut Vec::new());
-        let made = effect.made.and_then(|made| Some((desk.call_of(made.target)?, made.number)));
-        if let Some((call, number)) = made {
-            self.ends.note(&before, call, number);
+        if let Some(made) = effect.made {
+            self.ends.note_made(&before, desk, made);
         }
         effect
     }
