@@ -93,6 +93,11 @@ mostHarmonyKeys = 60
 abbrev pub mostHarmonyKey : ℕ
 mostHarmonyKey = 59
 
+-- ---- Document 02, 6/13: "A key answer shall give a pitch only from 0 to 12,799,999."
+
+abbrev pub highestPitch : ℕ
+highestPitch = 12_799_999
+
 -- ---- so many declarations of all kinds
 
 abbrev pub mostDeclarations : ℕ

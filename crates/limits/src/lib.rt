@@ -57,6 +57,9 @@ pub const MOST_HARMONY_KEYS: u8 = 60;
 
 pub const MOST_HARMONY_KEY: u8 = 59;
 
+// Document 02, 6/13: the highest pitch that an instrument has; the lowest is 0.
+pub const HIGHEST_PITCH: i32 = 12_799_999;
+
 // So many declarations of all kinds.
 pub const MOST_DECLARATIONS: usize = MOST_INTERVALS as usize
     + MOST_TONE_NAMES as usize

@@ -66,6 +66,10 @@ toneOutOfRange = 14
 
 -- ---- of a frame
 
+-- document 02, request 6/13: "Below or above it, the key counts as unplayable."
+abbrev pub keyUnplayable : ℕ
+keyUnplayable = 15
+
 -- document 02, request 5/13: "17 for a key already held in that house, 18 for one not held"
 abbrev pub keyHeld : ℕ
 keyHeld = 17

@@ -32,6 +32,8 @@ pub const END_SILENT: u8 = 13;
 pub const TONE_OUT_OF_RANGE: u8 = 14;
 
 // Of a frame.
+pub const KEY_UNPLAYABLE: u8 = 15;
+
 pub const KEY_HELD: u8 = 17;
 
 pub const KEY_NOT_HELD: u8 = 18;

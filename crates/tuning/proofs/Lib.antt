@@ -14,3 +14,4 @@ pub mod Laws
 pub mod FirstMuted
 pub mod Sums
 pub mod BothEnds
+pub mod AtLimits

@@ -1,11 +1,11 @@
 -- The desk: tones and steps are whole thousandths of a cent, and each call has its number.
-use mathlib.Core.Bool.{Bool, true, false, not, _&&_, _||_}
+use mathlib.Core.Bool.{Bool, true, false, cond, not, _&&_, _||_}
 use mathlib.Core.List.{List, [], _∷_}
 use Prim.Native.Nat.{ℕ, zero, suc, _+_}
 use lib.IntN.{ℤ, pos, negℤ, _+ℤ_, _*ℤ_}
 use lib.Signed.{leZ}
 use Rattle.integers.specs.Parts.{up}
-use Rattle.limits.specs.Limits.{mostAnchor, mostPositions, farthestTone, longestPeriod}
+use Rattle.limits.specs.Limits.{mostAnchor, mostPositions, farthestTone, longestPeriod, highestPitch}
 use Rattle.cents.specs.Passages.{shift, distance}
 use Rattle.cents.specs.Measure.{pitch440}
 use Rattle.status.specs.Status.{anchorOutOfRange, widthOutOfRange, periodOutOfRange, endSilent, toneOutOfRange}
@@ -45,6 +45,17 @@ isPeriod P = between (pos 0) (pos longestPeriod) P
 -- "tones of a state: -100,000,000 to 100,000,000"
 abbrev pub isTone : ℤ → Bool
 isTone t = between (negℤ (pos farthestTone)) (pos farthestTone) t
+
+-- ---- document 02, 6/13: "A key answer shall give a pitch only from 0 to 12,799,999."
+
+abbrev pub isPlayable : ℤ → Bool
+isPlayable z = between (pos 0) (pos highestPitch) z
+
+-- what an instrument has of a sound: "Below or above it, the key counts as unplayable." Nothing in this file asks it: "Anchor and width retunings keep using the
+-- unlimited pitch."
+abbrev pub playable : Sound ℤ → Sound ℤ
+playable muted = muted
+playable (sounds z) = cond (isPlayable z) (sounds z) muted
 
 -- ---- the checks, each with the number that is given where it fails
 

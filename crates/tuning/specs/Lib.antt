@@ -7,4 +7,5 @@ pub mod Capped
 pub mod FirstMuted
 pub mod Sums
 pub mod BothEnds
+pub mod AtLimits
 pub mod Inner

@@ -6,6 +6,7 @@ use cents::KeyNumber;
 use cents::KeySteps;
 use cents::Pitch;
 use limits::FARTHEST_TONE;
+use limits::HIGHEST_PITCH;
 use limits::LONGEST_PERIOD;
 use limits::MOST_ANCHOR;
 use limits::MOST_POSITIONS;
@@ -18,7 +19,7 @@ ghost use lib.ListN.{drop, take};
 ghost use Rattle.limits.specs.Limits.{mostAnchor};
 ghost use Rattle.cents.specs.Passages.{mostKey};
 ghost use Rattle.tuning.specs.Tuning.{raised, soundOf, start};
-ghost use Rattle.tuning.specs.Desk.{cents, isPeriod, isMuted, beyond, anyBeyond};
+ghost use Rattle.tuning.specs.Desk.{cents, isPeriod, isPlayable, playable, isMuted, beyond, anyBeyond};
 ghost use Rattle.tuning.specs.State.{heard, heardAt, held, toneOf, coded, validState, allMuted};
 ghost use Rattle.tuning.specs.Inner.{locatedAt, size, farthestSound};
 
@@ -173,6 +174,26 @@ impl Tone {
             Tone::At(p) => -FARTHEST_TONE <= p.0 && p.0 <= FARTHEST_TONE,
         }
     }
+
+    // What an instrument has of this sound.
+    pub fn playable(self) -> Tone
+        ensures { λ r. ⌜ r ≡ toneOf (playable (heard self)) ⌝ }
+    {
+        let Tone::At(p) = self else {
+            return Tone::Muted;
+        };
+        if is_playable(p) {
+            return self;
+        }
+        Tone::Muted
+    }
+}
+
+// Whether an instrument has this pitch.
+pub fn is_playable(p: Pitch) -> bool
+    ensures { λ r. ⌜ r ≡ isPlayable (p .0) ⌝ }
+{
+    0 <= p.0 && p.0 <= HIGHEST_PITCH
 }
 
 // Whether a state may have this period.
