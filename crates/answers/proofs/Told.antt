@@ -1,4 +1,4 @@
--- The line of an answer to a key's frame tells the sound that was answered.
+-- The line of an answer to a key's frame tells the number and the sound that were answered.
 -- Assumes nothing.
 use Prim.Native.Nat.{ℕ, _-_, _^_, _<_}
 use mathlib.Core.Path.{_≡_, refl, ap, _∙_}
@@ -43,9 +43,9 @@ sound-back muted h = refl
 sound-back (sounds z) h = rw (ne-eqb (twos z) mutedBits (not-muted z h)) (ap sounds (twos-back z (omega (signed, abs z))))
 
 pub key-told : (house key number : ℕ) → house < 256 → key < 256 → number < 256 → (t : Sound ℤ) → Told t
-    → toldBy (lineOf (keyBytes house key number t)) ≡ some t
+    → toldBy (lineOf (keyBytes house key number t)) ≡ some (record { number = number; sound = t })
 unfolding toldBy
 key-told house key number a b c t h =
     let bs = keyBytes house key number t in
     rw (feed-gone bs, bytes-back bs (a, (omega arith, (b, (c, four-bytes (bitsOf t))))))
-    (ap some (ap soundBy (four-back (bitsOf t) (bits-small t h)) ∙ sound-back t h))
+    (ap (λ (x : Sound ℤ). some (record { number = number; sound = x })) (ap soundBy (four-back (bitsOf t) (bits-small t h)) ∙ sound-back t h))

@@ -26,3 +26,4 @@ pub mod TwoLogics
 pub mod Chords
 pub mod FarTone
 pub mod FirstMuted
+pub mod Unplayable

@@ -4,7 +4,7 @@ use mathlib.Core.Bool.{Bool, true, false, cond}
 use mathlib.Core.List.{List, [], _∷_, _++_}
 use mathlib.Core.Option.{Option, some, none}
 use Prim.Native.Nat.{ℕ}
-use lib.Dec.{eqb, ltb}
+use lib.Dec.{eqb}
 use lib.ListN.{length}
 use Rattle.tuning.specs.Tuning.{Tuning, Action}
 use Rattle.tuning.specs.Desk.{cents, Called, called}
@@ -17,13 +17,13 @@ use Rattle.program.specs.Program.{Program}
 use Rattle.keys.specs.declared.HeldKeys.{HeldKeys}
 use Rattle.frames.specs.declared.Way.{Way}
 use Rattle.frames.specs.Frames.{Frame, bad, letter, key, dump, move, frameOf}
-use Rattle.answers.specs.Answer.{smallestBuffer}
-use Rattle.status.specs.Status.{done, bufferTooSmall, letterUnbound, tableDamaged}
+use Rattle.status.specs.Status.{done, letterUnbound}
 use Rattle.protocol.specs.declared.Desk.{Desk}
 use Rattle.protocol.specs.Triggers.{Sought, itself, matching, actionAt, struck}
 use Rattle.protocol.specs.Steps.{withActive, withKeys, Made, byAction, callOn, deskFrom, madeFrom, Step, triggered, chordOn, analysed, keyMoved, moveStep}
-use Rattle.protocol.specs.Answers.{Outcome, letterOutcome, moveOutcome, keyOutcome, frameOutcome, validDesk, unchanged, answerOf}
+use Rattle.protocol.specs.Answers.{Outcome, letterOutcome, moveOutcome, keyOutcome, frameOutcome, answerOf}
 use Rattle.protocol.specs.Streams.{Lent, deskAfter, madeIn}
+use Rattle.protocol.proofs.Ways.{by-outcome}
 use Rattle.exact.specs.Book as book
 use Rattle.exact.specs.Book.{Declared, entries, bookFrom}
 use Rattle.exact.specs.Actions.{declaredIn, bookAction}
@@ -82,22 +82,6 @@ module _ (ds : List (Option Declared)) where
       (coded-kept (called (held s) d .state) (bookFrom b (record { call = a; number = called (held s) d .number } ∷ []))
       (valid-stays (held s) (held-valid s b h) d v) (call-follows ds (held s) b (h .agree) k))
 
--- ---- a frame's outcome, by its buffer and by the tables and the desk that it finds
-
-pub by-outcome : (t : Tables) (d : Desk) (frame : List ℕ) (room : ℕ) (P : Outcome → Type 0) → P (unchanged d bufferTooSmall)
-    → (validDesk t d ≡ false → P (unchanged d tableDamaged)) → P (frameOutcome t d (frameOf frame)) → P (answerOf t d frame room)
-unfolding answerOf
-by-outcome t d frame room P small damaged sound = by-room (ltb room smallestBuffer)
-  where
-    by-desk : (valid : Bool) → validDesk t d ≡ valid → P (cond valid (frameOutcome t d (frameOf frame)) (unchanged d tableDamaged))
-    by-desk true e = sound
-    by-desk false e = damaged e
-
-    by-room : (is : Bool)
-        → P (cond is (unchanged d bufferTooSmall) (cond (validDesk t d) (frameOutcome t d (frameOf frame)) (unchanged d tableDamaged)))
-    by-room true = small
-    by-room false = by-desk (validDesk t d) refl
-
 -- ---- calls, frames, streams
 
 -- every row of the tables calls what the declaration of its number calls
@@ -147,7 +131,7 @@ module _ (t : Tables) (p : Program) (matches : AllMatch t p) where
 
   answer-kept : (d : Desk) (b : Tuning entries) → Kept (declaredIn p) (d .tuning) b → (frame : List ℕ) (room : ℕ) → After b (answerOf t d frame room)
   unfolding fedBy bookFrom
-  answer-kept d b h frame room = by-outcome t d frame room (After b) h (λ e. h) (frame-kept d b h (frameOf frame))
+  answer-kept d b h frame room = by-outcome t d frame room (After b) h (λ e. h) (λ e. frame-kept d b h (frameOf frame))
 
   pub stream-kept : (stream : List Lent) (d : Desk) (b : Tuning entries) → Kept (declaredIn p) (d .tuning) b
       → Kept (declaredIn p) (deskAfter t d stream .tuning) (bookFrom b (fedBy p (madeIn t d stream)))

@@ -1,11 +1,14 @@
 -- Demand 3: what is claimed of a stream as a whole.
 use mathlib.Core.Path.{_≡_}
+use mathlib.Core.Bool.{true, false}
 use mathlib.Core.List.{List, [], _∷_}
 use mathlib.Core.Option.{Option, some, none}
 use Prim.Native.Nat.{ℕ, _≤_}
 use lib.IntN.{ℤ}
-use Rattle.tuning.specs.Scale.{Sound}
+use Rattle.status.specs.Status.{done, keyUnplayable, keySilent}
+use Rattle.tuning.specs.Scale.{Sound, muted, sounds}
 use Rattle.tuning.specs.Tuning.{Tuning, Action, start, soundOf}
+use Rattle.tuning.specs.Desk.{isPlayable}
 use Rattle.tuning.specs.State.{held}
 use Rattle.program.specs.Program.{Program}
 use Rattle.program.specs.Text.{accepted, readText}
@@ -13,13 +16,14 @@ use Rattle.filling.specs.Tables.{tablesOf}
 use Rattle.frames.specs.Frames.{firstHouse, secondHouse, lastKey, keyKind}
 use Rattle.hexadecimal.specs.Digits.{hexes}
 use Rattle.answers.specs.Answer.{smallestBuffer}
-use Rattle.answers.specs.Told.{toldBy}
+use Rattle.answers.specs.Told.{KeyTold, toldBy}
 use Rattle.protocol.specs.Steps.{Made}
-use Rattle.protocol.specs.Answers.{startDesk, soundAt, keyNumber, answerOf}
+use Rattle.protocol.specs.Answers.{startDesk, Outcome, soundAt, keyNumber, answerOf}
+use Rattle.protocol.specs.Unplayable.{toldOf}
 use Rattle.protocol.specs.Streams.{Lent, deskAfter, madeIn}
 use Rattle.exact.specs.Entry.{Nearness, Within, Sharper}
 use Rattle.exact.specs.Book as book
-use Rattle.exact.specs.Book.{entries, bookFrom}
+use Rattle.exact.specs.Book.{Declared, Powers, entries, bookFrom}
 use Rattle.exact.specs.Agreement.{KeyAgrees, Agrees}
 use Rattle.exact.specs.Actions.{declaredIn, bookAction}
 
@@ -49,22 +53,31 @@ StreamAgrees = StreamNear Within
 abbrev pub StreamSharper : Program → List Lent → Type 0
 StreamSharper = StreamNear Sharper
 
--- "With d the pitch that kind 02 then answers": what a frame of kind 02 is answered after a stream is the sound of which `StreamNear` speaks,
--- by its number and by the bytes of its line, whichever house asks, and however long the buffer is from 512 bytes on
+-- what a frame of kind 02 is answered after a stream, whichever house asks, and however long the buffer is from 512 bytes on
 abbrev pub keyFrame : ℕ → ℕ → List ℕ
 keyFrame house key = hexes (house ∷ keyKind ∷ key ∷ [])
 
-pub record KeyAnswered (p : Program) (stream : List Lent) (house key room : ℕ) : Type 0 where
-  pub number : answerOf (tablesOf p) (deskAfter (tablesOf p) startDesk stream) (keyFrame house key) room .number
-      ≡ keyNumber (soundAt (deskAfter (tablesOf p) startDesk stream) key)
-  pub told : toldBy (answerOf (tablesOf p) (deskAfter (tablesOf p) startDesk stream) (keyFrame house key) room .line)
-      ≡ some (soundAt (deskAfter (tablesOf p) startDesk stream) key)
+abbrev pub keyAnswer : Program → List Lent → ℕ → ℕ → ℕ → Outcome
+keyAnswer p stream house key room = answerOf (tablesOf p) (deskAfter (tablesOf p) startDesk stream) (keyFrame house key) room
 
--- what that line tells agrees with the book's entry of the key: silent in both, or near, d being what the bytes say
+-- "With d the pitch that kind 02 then answers": by its number, and by the number and the pitch that the bytes of its line tell, it is the sound of which
+-- `StreamNear` speaks; document 02, 6/13: "only from 0 to 12,799,999"
+pub record KeyAnswered (p : Program) (stream : List Lent) (house key room : ℕ) : Type 0 where
+  pub number : keyAnswer p stream house key room .number ≡ keyNumber (soundAt (deskAfter (tablesOf p) startDesk stream) key)
+  pub told : toldBy (keyAnswer p stream house key room .line) ≡ some (toldOf (soundAt (deskAfter (tablesOf p) startDesk stream) key))
+
+-- an answer beside the book's sound of the key. Document 02, 6/13: "Demand 3's distance speaks of keys that do give a pitch." It is 20 exactly where the book is
+-- silent; and a pitch that is not given, since no instrument has it, is as near as one that is
+pub data AnswerNear (near : Nearness) (ds : List (Option Declared)) (book : Sound Powers) : KeyTold → Type 0 where
+  told-silent : KeyAgrees near ds book muted → AnswerNear near ds book (record { number = keySilent; sound = muted })
+  told-unplayable : {z : ℤ} → isPlayable z ≡ false → KeyAgrees near ds book (sounds z) → AnswerNear near ds book (record { number = keyUnplayable; sound = muted })
+  told-pitch : {z : ℤ} → isPlayable z ≡ true → KeyAgrees near ds book (sounds z) → AnswerNear near ds book (record { number = done; sound = sounds z })
+
+-- and it is the answer's bytes that say so
 pub record AnswerAgrees (near : Nearness) (p : Program) (stream : List Lent) (house key room : ℕ) : Type 0 where
-  pub sound : Sound ℤ
-  pub told : toldBy (answerOf (tablesOf p) (deskAfter (tablesOf p) startDesk stream) (keyFrame house key) room .line) ≡ some sound
-  pub agrees : KeyAgrees near (declaredIn p) (soundOf entries (bookAfter p stream) key) sound
+  pub told : KeyTold
+  pub line : toldBy (keyAnswer p stream house key room .line) ≡ some told
+  pub agrees : AnswerNear near (declaredIn p) (soundOf entries (bookAfter p stream) key) told
 
 -- the claim about one stream: of the desk as it is held, and of the answer's bytes
 pub record Demand3 (near : Nearness) (p : Program) (stream : List Lent) : Type 0 where

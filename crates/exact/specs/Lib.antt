@@ -12,3 +12,4 @@ pub mod TwoLogics
 pub mod Chords
 pub mod FarTone
 pub mod FirstMuted
+pub mod Unplayable

@@ -25,13 +25,19 @@ use Rattle.program.specs.FarTone as farTone
 use Rattle.program.specs.Pentatonic as pentatonic
 use Rattle.program.specs.NineOctaves as nineOctaves
 use Rattle.program.specs.MutedChord as mutedChord
+use Rattle.program.specs.TenOctaves as tenOctaves
+use Rattle.program.specs.BothLimits as bothLimits
+use Rattle.program.specs.FarEnds as farEnds
+use Rattle.program.specs.UnplayableChord as unplayableChord
 use Rattle.program.specs.Verdicts.{verdicts}
 
 -- all at once, since what is computed is opened at each
 read : (Text.readText text ≡ Text.accepted program) × (Text.readText twoLogics.text ≡ Text.accepted twoLogics.program)
     × (Text.readText chords.text ≡ Text.accepted chords.program) × (Text.readText farTone.text ≡ Text.accepted farTone.program)
     × (Text.readText pentatonic.text ≡ Text.accepted pentatonic.program) × (Text.readText nineOctaves.text ≡ Text.accepted nineOctaves.program)
-    × (Text.readText mutedChord.text ≡ Text.accepted mutedChord.program) × Hold verdicts
+    × (Text.readText mutedChord.text ≡ Text.accepted mutedChord.program) × (Text.readText tenOctaves.text ≡ Text.accepted tenOctaves.program)
+    × (Text.readText bothLimits.text ≡ Text.accepted bothLimits.program) × (Text.readText farEnds.text ≡ Text.accepted farEnds.program)
+    × (Text.readText unplayableChord.text ≡ Text.accepted unplayableChord.program) × Hold verdicts
 unfolding Hold verdicts leadingZeros sets.has sets.added grammarSyntax.rules symbolsBytes.isBlank symbolsBytes.isDigit symbolsBytes.isHexDigit symbolsBytes.isCapital
     symbolsBytes.isLetter symbolsBytes.inName symbolsBytes.small symbolsBytes.takeWhile symbolsBytes.same symbolsSymbols.marks symbolsSymbols.markIn
     symbolsSymbols.markOr symbolsSymbols.markAt symbolsSymbols.runEnd symbolsSymbols.digitsTo symbolsSymbols.pointed symbolsSymbols.decimalAt
@@ -46,7 +52,7 @@ unfolding Hold verdicts leadingZeros sets.has sets.added grammarSyntax.rules sym
     valuesValues.valueTable centsLog.highestBit centsLog.bits centsLog.L centsMeasure.nearest centsMeasure.measure Program.termsOf Program.systemPositionsOf
     Program.grouped Program.ordered Program.startOf Program.keysOf Program.partsOf Program.programOf Meaning.valueOf Meaning.valued Text.readText
 read =
-    (refl, refl, refl, refl, refl, refl, refl, (refl, (refl, (refl, (refl, (refl, (refl, (refl, (refl, (refl, (refl, (refl, (refl, (refl, (refl, (refl, (refl, (refl, (refl, (refl, (refl, (refl, (refl, tt)))))))))))))))))))))))
+    (refl, refl, refl, refl, refl, refl, refl, refl, refl, refl, refl, (refl, (refl, (refl, (refl, (refl, (refl, (refl, (refl, (refl, (refl, (refl, (refl, (refl, (refl, (refl, (refl, (refl, (refl, (refl, (refl, (refl, (refl, tt)))))))))))))))))))))))
 
 pub case-s-read : Text.readText text ≡ Text.accepted program
 case-s-read = read .0
@@ -69,6 +75,18 @@ nine-octaves-read = read .5
 pub muted-chord-read : Text.readText mutedChord.text ≡ Text.accepted mutedChord.program
 muted-chord-read = read .6
 
+pub ten-octaves-read : Text.readText tenOctaves.text ≡ Text.accepted tenOctaves.program
+ten-octaves-read = read .7
+
+pub both-limits-read : Text.readText bothLimits.text ≡ Text.accepted bothLimits.program
+both-limits-read = read .8
+
+pub far-ends-read : Text.readText farEnds.text ≡ Text.accepted farEnds.program
+far-ends-read = read .9
+
+pub unplayable-chord-read : Text.readText unplayableChord.text ≡ Text.accepted unplayableChord.program
+unplayable-chord-read = read .10
+
 -- each of the texts of specs/Verdicts.antt is read as it says
 pub verdicts-hold : Hold verdicts
-verdicts-hold = read .7
+verdicts-hold = read .11

@@ -10,4 +10,8 @@ pub mod FarTone
 pub mod Pentatonic
 pub mod NineOctaves
 pub mod MutedChord
+pub mod TenOctaves
+pub mod BothLimits
+pub mod FarEnds
+pub mod UnplayableChord
 pub mod Verdicts

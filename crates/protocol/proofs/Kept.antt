@@ -5,9 +5,9 @@ use mathlib.Core.Bool.{Bool, true, false, cond, _&&_}
 use mathlib.Core.List.{List, [], _∷_}
 use mathlib.Core.Option.{Option, some, none}
 use Prim.Native.Nat.{ℕ, zero, suc}
-use lib.Dec.{ltb, eqb}
+use lib.Dec.{eqb}
 use lib.ListN.{length}
-use Rattle.status.specs.Status.{done, bufferTooSmall, letterUnbound, tableDamaged}
+use Rattle.status.specs.Status.{done, letterUnbound}
 use Rattle.tuning.specs.Tuning.{Action}
 use Rattle.tuning.specs.Desk.{cents}
 use Rattle.tuning.specs.State.{places, held, coded, validState}
@@ -19,15 +19,15 @@ use Rattle.validity.specs.Valid.{validTables}
 use Rattle.frames.specs.Frames.{Frame, bad, letter, key, dump, move, frameOf}
 use Rattle.frames.specs.declared.Way.{Way}
 use Rattle.keys.specs.declared.HeldKeys.{HeldKeys}
-use Rattle.answers.specs.Answer.{smallestBuffer}
 use Rattle.protocol.specs.declared.Desk.{Desk}
 use Rattle.protocol.specs.declared.Active.{Active}
 use Rattle.protocol.specs.declared.Active.the-variants as active
 use Rattle.protocol.specs.Triggers.{Sought, itself, matching, actionAt, callsAs, called, struck}
 use Rattle.protocol.specs.Steps.{withActive, withKeys, byAction, callOn, deskFrom, madeFrom, lastNumber, Step, triggered, chordOn, analysed, keyMoved, moveStep}
-use Rattle.protocol.specs.Answers.{letterOutcome, moveOutcome, keyOutcome, frameOutcome, activeRight, validDesk, unchanged, answerOf}
+use Rattle.protocol.specs.Answers.{Outcome, letterOutcome, moveOutcome, keyOutcome, frameOutcome, activeRight, validDesk}
 use Rattle.protocol.specs.Kept.{CallKeeps, FrameKeeps}
 use Rattle.protocol.proofs.Presses.{named}
+use Rattle.protocol.proofs.Ways.{by-outcome}
 
 one-kept : (house : ℕ) (d : Desk) → validState (d .tuning) ≡ true → length (d .tuning .tones) ≡ places → (o : Option (Action cents))
     → byAction house d o .number ≢ 0 → byAction house d o .desk .tuning ≡ d .tuning
@@ -86,18 +86,11 @@ frame-kept t d n v (dump house) h = refl
 frame-kept t d n v (move way house k) h = move-kept t d n v way house k h
 
 pub frame-keeps : FrameKeeps
-unfolding FrameKeeps answerOf
-frame-keeps t d n frame room = by-room (ltb room smallestBuffer)
+unfolding FrameKeeps
+frame-keeps t d n frame room = by-outcome t d frame room (λ (o : Outcome). o .number ≢ 0 → o .desk .tuning ≡ d .tuning) (λ h. refl) (λ e h. refl) sound
   where
-    by-desk : (valid : Bool) → validDesk t d ≡ valid
-        → (let o = cond valid (frameOutcome t d (frameOf frame)) (unchanged d tableDamaged) in o .number ≢ 0 → o .desk .tuning ≡ d .tuning)
-    by-desk true e =
+    sound : validDesk t d ≡ true → frameOutcome t d (frameOf frame) .number ≢ 0 → frameOutcome t d (frameOf frame) .desk .tuning ≡ d .tuning
+    sound e =
         let a = both (validTables t && validState (d .tuning)) (activeRight t (d .active)) e in
         let b = both (validTables t) (validState (d .tuning)) (a .0) in
         frame-kept t d n (b .1) (frameOf frame)
-    by-desk false e = λ h. refl
-
-    by-room : (is : Bool)
-        → (let o = cond is (unchanged d bufferTooSmall) (cond (validDesk t d) (frameOutcome t d (frameOf frame)) (unchanged d tableDamaged)) in o .number ≢ 0 → o .desk .tuning ≡ d .tuning)
-    by-room true = λ h. refl
-    by-room false = by-desk (validDesk t d) refl

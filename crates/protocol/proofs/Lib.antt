@@ -10,5 +10,7 @@ pub mod Callable
 pub mod Ways
 pub mod Stays
 pub mod Audible
+pub mod Numbers
 pub mod Kept
 pub mod KeysHeld
+pub mod Unplayable

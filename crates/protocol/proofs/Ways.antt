@@ -1,14 +1,16 @@
 -- The ways through a frame. Assumes nothing.
 use mathlib.Core.Path.{_≡_, refl, sym, ap, ap₂, _∙_, subst}
-use mathlib.Core.Bool.{Bool, true, false, _&&_, false≢true}
+use mathlib.Core.Bool.{Bool, true, false, cond, _&&_, false≢true}
 use mathlib.Core.List.{List, [], _∷_}
 use Prim.Native.Nat.{ℕ, _≤_, _<_}
 use native.Mathlib.Omega.{arith}
 use borrow.Author.Tests.{lt-ltb, le-ltb, leb-true}
 use types.Run.{OneOf, miss}
 use denote.Enum.Declared.{tagOf}
+use lib.Dec.{ltb}
 use lib.ListN.{length}
 use Rattle.status.specs.Status.{bufferTooSmall, tableDamaged}
+use Rattle.tuning.specs.Desk.{playable}
 use Rattle.tuning.specs.State.{held, heard, toneOf, validState}
 use Rattle.tuning.specs.declared.Tone.{Tone}
 use Rattle.tuning.proofs.Lists.{both}
@@ -35,6 +37,22 @@ use Rattle.protocol.specs.Inner.{stepLeaves, Ready, FrameInside, mayChan
 -- what gives an outcome gives an equal one
 pub gives : {r : Answered} {before after : List ℕ} {o q : Outcome} → o ≡ q → Gives o r before after → Gives q r before after
 gives {r} {before} {after} e g = subst (λ (x : Outcome). Gives x r before after) e g
+
+-- ---- an answer: a buffer that is too small, tables or a desk that are damaged, or what the frame does
+
+pub by-outcome : (t : Tables) (d : Desk) (frame : List ℕ) (room : ℕ) (P : Outcome → Type 0) → P (unchanged d bufferTooSmall)
+    → (validDesk t d ≡ false → P (unchanged d tableDamaged)) → (validDesk t d ≡ true → P (frameOutcome t d (frameOf frame))) → P (answerOf t d frame room)
+unfolding answerOf
+by-outcome t d frame room P small damaged sound = by-room (ltb room smallestBuffer)
+  where
+    by-desk : (valid : Bool) → validDesk t d ≡ valid → P (cond valid (frameOutcome t d (frameOf frame)) (unchanged d tableDamaged))
+    by-desk true e = sound e
+    by-desk false e = damaged e
+
+    by-room : (is : Bool)
+        → P (cond is (unchanged d bufferTooSmall) (cond (validDesk t d) (frameOutcome t d (frameOf frame)) (unchanged d tableDamaged)))
+    by-room true = small
+    by-room false = by-desk (validDesk t d) refl
 
 -- a refusal leaves the buffer
 pub refusal : {r : Answered} {d : Desk} {n : ℕ} (buffer : List ℕ) → (r .desk ≡ d) × (r .number ≡ n) × (r .length ≡ 0)
@@ -165,9 +183,11 @@ module _ (t : Tables) (d : Desk) (f : Decoded) where
 
 -- ---- a key
 
-pub key-gives : (d : Desk) (house k : ℕ) (tone : Tone) (n : ℕ) → tone ≡ toneOf (soundAt d k) → n ≡ keyNumber (heard tone)
-    → _≡_ {A = Outcome} (record { desk = d; number = n; made = []; line = lineOf (keyBytes house k n (heard tone)) }) (keyOutcome d house k)
+pub key-gives : (d : Desk) (house k : ℕ) (tone shown : Tone) (n : ℕ) → tone ≡ toneOf (soundAt d k) → n ≡ keyNumber (heard tone)
+    → shown ≡ toneOf (playable (heard tone))
+    → _≡_ {A = Outcome} (record { desk = d; number = n; made = []; line = lineOf (keyBytes house k n (heard shown)) }) (keyOutcome d house k)
 unfolding keyOutcome
-key-gives d house k tone n e f =
+key-gives d house k tone shown n e f g =
     let z : heard tone ≡ soundAt d k = ap heard e ∙ heard-tone (soundAt d k) in
-    rw (f, z)
+    let y : heard shown ≡ playable (heard tone) = ap heard g ∙ heard-tone (playable (heard tone)) in
+    rw (y, f, z)

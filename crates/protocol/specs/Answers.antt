@@ -6,10 +6,10 @@ use Prim.Native.Nat.{ℕ}
 use lib.Dec.{ltb}
 use lib.IntN.{ℤ}
 use lib.ListN.{length}
-use Rattle.status.specs.Status.{done, bufferTooSmall, keySilent, badFrame, tableDamaged}
+use Rattle.status.specs.Status.{done, keyUnplayable, bufferTooSmall, keySilent, badFrame, tableDamaged}
 use Rattle.tuning.specs.Scale.{Sound, muted, sounds}
 use Rattle.tuning.specs.Tuning.{soundOf, start}
-use Rattle.tuning.specs.Desk.{cents}
+use Rattle.tuning.specs.Desk.{cents, isPlayable, playable}
 use Rattle.tuning.specs.State.{held, coded, validState}
 use Rattle.keys.specs.Keys.{noKeys}
 use Rattle.tables.specs.Layout.{Tables}
@@ -49,19 +49,20 @@ unfoldable pub moveOutcome : Tables → Desk → Way → ℕ → ℕ → Outcome
 moveOutcome t d way house k =
     let s = moveStep t way house d k in answered s (lineOf (moveBytes way house k (s .number) (held (s .desk .tuning))))
 
--- what a key sounds, as the frame of kind 02 answers it
+-- what a key sounds, however high or low
 abbrev pub soundAt : Desk → ℕ → Sound ℤ
 soundAt d k = soundOf cents (held (d .tuning)) k
 
--- "key asked is silent; pitch bytes 80000000"
+-- "key asked is silent; pitch bytes 80000000"; document 02, 6/13: "15 after 20"
 abbrev pub keyNumber : Sound ℤ → ℕ
 keyNumber muted = keySilent
-keyNumber (sounds z) = done
+keyNumber (sounds z) = cond (isPlayable z) done keyUnplayable
 
+-- "A key answer shall give a pitch only from 0 to 12,799,999": else "pitch bytes 80000000, state unchanged"
 unfoldable pub keyOutcome : Desk → ℕ → ℕ → Outcome
 keyOutcome d house k =
     let t = soundAt d k in
-    record { desk = d; number = keyNumber t; made = []; line = lineOf (keyBytes house k (keyNumber t) t) }
+    record { desk = d; number = keyNumber t; made = []; line = lineOf (keyBytes house k (keyNumber t) (playable t)) }
 
 -- "03: anchor, width, period, each tone"
 abbrev pub dumpOutcome : Desk → ℕ → Outcome

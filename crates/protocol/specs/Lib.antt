@@ -5,4 +5,5 @@ pub mod Answers
 pub mod Streams
 pub mod Kept
 pub mod KeysHeld
+pub mod Unplayable
 pub mod Inner

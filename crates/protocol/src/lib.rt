@@ -10,6 +10,7 @@ use status::BAD_FRAME;
 use status::BUFFER_TOO_SMALL;
 use status::DONE;
 use status::KEY_SILENT;
+use status::KEY_UNPLAYABLE;
 use status::TABLE_DAMAGED;
 use tables::Counts;
 use tables::LOGIC_FORM;
@@ -19,6 +20,7 @@ use tables::decode;
 use triggers::Called;
 use tuning::State;
 use tuning::Tone;
+use tuning::is_playable;
 use validity::valid_tables;
 ghost use mathlib.Core.Path.{_≡_};
 ghost use mathlib.Core.Bool.{true};
@@ -318,10 +320,13 @@ pub fn answer_changing(
 fn key_number(tone: Tone) -> u8
     ensures { λ r. ⌜ r ≡ keyNumber (heard tone) ⌝ }
 {
-    match tone {
-        Tone::Muted => KEY_SILENT,
-        Tone::At(_) => DONE,
+    let Tone::At(p) = tone else {
+        return KEY_SILENT;
+    };
+    if !is_playable(p) {
+        return KEY_UNPLAYABLE;
     }
+    DONE
 }
 
 // The answer to a frame that changes nothing. A letter, or a key that moves, is told nothing.
@@ -345,7 +350,8 @@ pub fn tell(desk: Desk, frame: Decoded, buffer: &mut [u8]) -> Told
         Decoded::Key { house, key } => {
             let tone = s.sound_of(key);
             let number = key_number(tone);
-            let length = answers::answer_key(buffer, house, key, number, tone);
+            let shown = tone.playable();
+            let length = answers::answer_key(buffer, house, key, number, shown);
             Told { number, length }
         }
         Decoded::Dump { house } => Told {

@@ -25,6 +25,9 @@ sound-of-requires c κs = let within = subst FrameInside (c .before .frame .give
 key-number-requires : tie.Need-key-number-requires
 key-number-requires c κs = search needs
 
+playable-requires : tie.Need-playable-requires
+playable-requires c κs = search needs
+
 answer-key-requires : tie.Need-answer-key-requires
 answer-key-requires c κs = search needs
 
@@ -52,8 +55,11 @@ same-length-2 c = search needs
 returns-3 : tie.Need-returns-3
 returns-3 c =
     let r = c .before .before .answer-key .ensures in
-    tells (c .before .before .before .before .before .before .before .before .before .before .before .args .desk) (c .before .before .before .before .before .before .before .frame .given .1)
-    (outcome-tells (key-gives (c .before .before .before .before .before .before .before .before .before .before .before .args .desk) _ _ _ _ (c .before .before .before .before .before .sound-of .ensures .0) (c .before .before .before .before .key-number .ensures)) (record { number = refl; size = r .0; buffer = r .1 }))
+    let sounding = c .before .before .before .before .before .before .sound-of .ensures .0 in
+    let numbered = c .before .before .before .before .before .key-number .ensures in
+    let shown = c .before .before .before .before .playable .ensures in
+    tells (c .before .before .before .before .before .before .before .before .before .before .before .before .args .desk) (c .before .before .before .before .before .before .before .before .frame .given .1)
+    (outcome-tells (key-gives _ _ _ _ _ _ sounding numbered shown) (record { number = refl; size = r .0; buffer = r .1 }))
 
 same-length-3 : tie.Need-same-length-3
 same-length-3 c = search needs
@@ -74,6 +80,7 @@ tell-spec =
     enum-known-frame
     sound-of-requires
     key-number-requires
+    playable-requires
     answer-key-requires
     enum-known-frame-2
     answer-dump-requires
