@@ -13,6 +13,7 @@ use cents::Pitch;
 use keys::HeldKeys;
 use keys::KEYS;
 use tuning::PLACES;
+use tuning::Position;
 use tuning::State;
 use tuning::Tone;
 ghost use Prim.Native.Nat.{_≤_};
@@ -37,6 +38,33 @@ fn start_of_period(thousandths: i32) -> State {
     let period = Interval(thousandths);
     s.period = period;
     s
+}
+
+// One position, and the longest period.
+fn far_state(anchor: KeyNumber, tone: Tone) -> State {
+    let mut tones = [Position { tone: Tone::Muted }; PLACES];
+    tones[0] = Position { tone };
+    State {
+        anchor,
+        width: 1,
+        tones,
+        period: Interval(ABOVE_PERIODS - 1),
+    }
+}
+
+// The farthest tones of a state, at both ends of the keyboard: keys 127 and 0 as far above and below as a key can be, at 1,624,000,000 either way, and
+// keys 0 and 127 at the tones themselves.
+pub fn report_unplayable() {
+    let first = KeyNumber(0);
+    let last = KeyNumber(KEYS as u8 - 1);
+    let high = Tone::At(Pitch(ABOVE_TONES - 1));
+    let low = Tone::At(Pitch(BELOW_TONES + 1));
+    let keys = Tally::new()
+        .try_unplayable(far_state(first, high), b"01027F")
+        .try_unplayable(far_state(last, low), b"010200")
+        .try_unplayable(far_state(first, low), b"020200")
+        .try_unplayable(far_state(last, high), b"02027F");
+    report(b"unplayable keys", keys);
 }
 
 // At width 11 the last tone of the start is one past the width.

@@ -15,7 +15,8 @@
 // - state: 2 anchors, 4 widths, 4 periods, 12 · 2 tones, 60 - 12 tones past the width;
 // - active logic: 10 rows that are no logic, the first one past the count, the greatest number of 32 bits;
 // - held keys: no damage, those of no house, of either and of both; each is answered;
-// - buffers of 0 to 511 bytes, which get 19; the 6 beginnings of a frame of 6 digits; a key of 2 houses down and up.
+// - buffers of 0 to 511 bytes, which get 19; the 6 beginnings of a frame of 6 digits; a key of 2 houses down and up;
+// - unplayable keys: 4 states at the ends of what a state may hold, each with 15, 23 and 19.
 mod desk;
 mod kinds;
 mod lent;
@@ -31,6 +32,7 @@ use desk::report_active;
 use desk::report_keys;
 use desk::report_order_of_checks;
 use desk::report_state;
+use desk::report_unplayable;
 use kinds::report_kinds;
 use kinds::report_parts;
 use lent::Lent;
@@ -78,4 +80,5 @@ fn main() {
     report_active();
     report_keys();
     report_order_of_checks();
+    report_unplayable();
 }

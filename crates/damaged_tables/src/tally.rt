@@ -12,6 +12,7 @@ use protocol::Active;
 use protocol::Desk;
 use status::BUFFER_TOO_SMALL;
 use status::DONE;
+use status::KEY_UNPLAYABLE;
 use status::TABLE_DAMAGED;
 use std::num::wrapping_add_u64;
 use tables::HARMONY_BASE;
@@ -40,6 +41,17 @@ pub struct Tally {
 
 fn one_if(right: bool) -> u64 {
     if right { 1 } else { 0 }
+}
+
+// Such a tuning, no logic active, no key held.
+fn tuned(tuning: State) -> Desk {
+    let active = Active::Nothing;
+    let keys = HeldKeys::none();
+    Desk {
+        tuning,
+        active,
+        keys,
+    }
 }
 
 // The start, with such keys held.
@@ -164,14 +176,18 @@ impl Tally {
     }
 
     pub fn try_tuning(self, tuning: State) -> Tally {
-        let active = Active::Nothing;
-        let keys = HeldKeys::none();
-        let desk = Desk {
-            tuning,
-            active,
-            keys,
-        };
-        self.try_key(Lent::sample(), desk)
+        self.try_key(Lent::sample(), tuned(tuning))
+    }
+
+    // A key that is unplayable on such a tuning: 15, and the desk is as it was; 23 with damaged tables, 19 with a buffer under 512 bytes.
+    pub fn try_unplayable(self, tuning: State, frame: &[u8]) -> Tally {
+        let desk = tuned(tuning);
+        let asked = send_frame(Lent::sample(), desk, frame, SMALLEST_BUFFER);
+        let right = Lent::sample();
+        let damaged = Lent::damaged();
+        self.add(asked.number == KEY_UNPLAYABLE && asked.kept)
+            .try_frame(damaged, desk, frame, SMALLEST_BUFFER, TABLE_DAMAGED)
+            .try_frame(right, desk, frame, SMALLEST_BUFFER - 1, BUFFER_TOO_SMALL)
     }
 
     // A key's frame with such keys held, which has to be answered.

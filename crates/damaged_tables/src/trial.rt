@@ -11,9 +11,10 @@ use tuning::State;
 use tuning::Tone;
 ghost use Prim.Native.Nat.{_≤_};
 
-// The number that a frame gets, and whether the desk and the buffer are as they were.
+// The number that a frame gets, whether the desk is as it was, and whether the buffer is, too.
 pub struct Outcome {
     pub number: u8,
+    pub kept: bool,
     pub unchanged: bool,
 }
 
@@ -138,8 +139,10 @@ pub fn send_frame(t: Lent, desk: Desk, frame: &[u8], room: usize) -> Outcome {
     let sizes = t.sizes;
     let answered = ask(&t.numbers, &t.codes, sizes, desk, frame, &mut buffer[..end]);
     let after = answered.desk;
+    let kept = same_desk(desk, after);
     Outcome {
         number: answered.number,
-        unchanged: answered.length == 0 && same_desk(desk, after) && is_filled(&buffer),
+        kept,
+        unchanged: answered.length == 0 && kept && is_filled(&buffer),
     }
 }

@@ -49,8 +49,8 @@ fn run_other_end_silent() {
 
 // "the order stays": 10, 13, 14 and 11, 13, 14, 12. Width 2, a period of ten octaves (00B71B00), position 0 muted, position 1 at 6,100,000. Anchor 128
 // is none (10, 0A), width 61 is none (11, 0B). Eight periods up position 1 would stand at 102,100,000, past its range: 14 (0E). Width 4 would have
-// twice the period: 12 (0C). Seven periods up, at anchor 74 (4A), key 75 stands at 90,100,000 (055ED120); there width 4 would have key 77 among its
-// tones, at 102,100,000, and 14 comes before 12.
+// twice the period: 12 (0C). Seven periods up, at anchor 74 (4A), key 75 stands at 90,100,000, where no instrument has it (15, 0F; 6/13); there width 4
+// would have key 77 among its tones, at 102,100,000, and 14 comes before 12.
 fn run_order_of_checks() {
     let text =
         b"INTERVAL T = 2 : 1 RETUNING W2 = [ << 2 >> ] P = [ ] 10 T M = [ , @ ] A = 128 [ ] B = [ << 61 >> ] \

@@ -6,10 +6,12 @@
 mod chords;
 mod first_muted;
 mod run;
+mod unplayable;
 
 use chords::run_chords;
 use first_muted::run_first_muted;
 use run::run_case;
+use unplayable::run_unplayable;
 
 // "text: 0 to 32,768 bytes"
 const LONGEST_TEXT: usize = 32_768;
@@ -130,4 +132,5 @@ fn main() {
     run_bad_frames();
     run_chords();
     run_first_muted();
+    run_unplayable();
 }
