@@ -61,7 +61,7 @@ impl Ends {
 }
 
 /// The key at the other end, of an anchor or width in its range.
-fn other_end(state: &State, call: &Call) -> Option<Key> {
+pub fn other_end(state: &State, call: &Call) -> Option<Key> {
     match call {
         Call::Anchor(change) => {
             let anchor = change.of(state.anchor.0);

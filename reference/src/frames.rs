@@ -1,10 +1,11 @@
-//! Section "Frames" of document 01, with the keys of request 5/13: frames,
-//! what they call, and the answers.
+//! Section "Frames" of document 01, with the keys of request 5/13 and the
+//! unplayable ones of 6/13: frames, what they call, and the answers.
 
 use crate::bindings::{Bindings, Sought};
 use crate::harmony::{HeldKeys, House, HouseKey};
 use crate::measure::Pitch;
 use crate::numbers::{self, Number};
+use crate::playable::key_answer;
 use crate::state::{Call, Key, State};
 use crate::text::tree::{Letter, Target};
 use crate::text::{Program, Refusal};
@@ -183,9 +184,7 @@ impl Desk {
                 effect
             }
             Frame::Pitch(key) => {
-                let pitch = self.state.pitch(key);
-                let silent = pitch.is_none();
-                let number = if silent { numbers::SILENT_KEY } else { numbers::DONE };
+                let (number, pitch) = key_answer(self.state.pitch(key));
                 answer.put(&[number]);
                 answer.put_pitch(pitch);
                 Effect::nothing(number)
@@ -355,6 +354,76 @@ mod tests {
                 ("01014D", "01014D003C0C00124F80"),
                 ("01053C", "01053C00480C00124F80"),
                 ("01063C", "01063C00480C00124F80"),
+            ],
+        );
+    }
+
+    /// Request 6/13, cases 6a and 6b, and with request 5/13.
+    #[test]
+    fn ten_octaves_send_keys_past_any_pipe() {
+        answers(
+            "INTERVAL O = 2 : 1 RETUNING Ten = [ ] 10 O M = [ ,] \
+             LOGIC L KEY L = Ten [ KEY A -> M ]",
+            &[
+                ("01014C", "01014C003C0C00B71B00"),
+                ("01023C", "01023C00005B8D80"),
+                ("010248", "0102480F80000000"),
+                ("010247", "01024700006C5660"),
+                ("010230", "0102300F80000000"),
+                ("010141", "010141003C0C00B71B00"),
+                ("010248", "0102481480000000"),
+            ],
+        );
+    }
+
+    #[test]
+    fn both_ends_of_what_an_instrument_has() {
+        answers(
+            "INTERVAL h = 12 ROOT 2 m = 429496 : 429495.8759 RETUNING Z = [ @ - 60 h, \
+             @ - 61 h - m, @ + 66 h - m, @ + 65 h ] LOGIC L KEY L = Z [ ]",
+            &[
+                ("01014C", "01014C003C0C00124F80"),
+                ("01023C", "01023C0000000000"),
+                ("01023D", "01023D0F80000000"),
+                ("01023E", "01023E0000C34FFF"),
+                ("01023F", "01023F0F80000000"),
+                (
+                    "010300",
+                    "010300003C0C00124F8000000000FFFFFFFF00C34FFF00C350000061A80000632EA0\
+                     0064B54000663BE00067C28000694920006ACFC0006C5660",
+                ),
+            ],
+        );
+    }
+
+    #[test]
+    fn an_unplayable_key_makes_a_chord() {
+        answers(
+            "INTERVAL O = 2 : 1 HARMONY C = { 0 } RETUNING Ten = [ ] 10 O Up = @ + 1 [ ] \
+             LOGIC T KEY T = Ten [ ] L C = Up [ ]",
+            &[
+                ("010154", "010154003C0C00B71B00"),
+                ("010248", "0102480F80000000"),
+                ("010548", "010548003D0C00B71B00"),
+            ],
+        );
+    }
+
+    /// Anchor and width go by pitches that no answer gives: 16,900,000 and
+    /// 27,800,000.
+    #[test]
+    fn retunings_use_the_unlimited_pitch() {
+        answers(
+            "INTERVAL O = 2 : 1 RETUNING Nine = [ ] 9 O W = [ << 13 >> ] A = @ + 13 [ ] \
+             LOGIC L KEY L = Nine [ KEY W -> W KEY A -> A ]",
+            &[
+                ("01014C", "01014C003C0C00A4CB80"),
+                ("010249", "0102490F80000000"),
+                ("010141", "01014100490C00A4CB80"),
+                ("010249", "0102490F80000000"),
+                ("01023D", "01023D00005D1420"),
+                ("01023C", "01023C0F80000000"),
+                ("010157", "01015700490D00A65220"),
             ],
         );
     }

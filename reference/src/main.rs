@@ -16,6 +16,7 @@ mod harmony;
 mod logarithm;
 mod measure;
 mod numbers;
+mod playable;
 mod random;
 mod records;
 mod rows;

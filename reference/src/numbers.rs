@@ -1,4 +1,5 @@
-//! The table "Numbers returned" of document 01, and what request 5/13 adds.
+//! The table "Numbers returned" of document 01, and what requests 5/13 and 6/13
+//! add.
 
 pub type Number = u8;
 
@@ -17,6 +18,7 @@ pub const BAD_WIDTH: Number = 11;
 pub const BAD_PERIOD: Number = 12;
 pub const MUTED: Number = 13;
 pub const BAD_TONE: Number = 14;
+pub const UNPLAYABLE_KEY: Number = 15;
 pub const KEY_HELD: Number = 17;
 pub const KEY_NOT_HELD: Number = 18;
 pub const SILENT_KEY: Number = 20;

@@ -63,6 +63,20 @@ pub const EXAMPLES: [&str; 19] = [
     "HARMONIE\ndur = {0, 4, 7}\nLOGIK mutiere_dur_2 Taste M = [\n    FORM dur  -> u1\n]\n",
 ];
 
+/// Request 6/13: tones at the ends of what an instrument has and one past each,
+/// under every key, and letters that move them by one; periods that send most
+/// keys far away, one of them from a muted first position. m measures 1.
+pub const LIMITS: &str =
+    "INTERVAL h = 12 ROOT 2 m = 429496 : 429495.8759 O = 12 h TONE a = 440 low = a - 69 h \
+     under = low - m over = a + 59 h high = over - m \
+     TONESYSTEM Ends = 60 [ low, under, high, over, ] 0 h Wide = 60 [ , high, a ] 10 O \
+     HARMONY C = { 0 } D = { 1, *2 } RETUNING Up = [ @ + m, @ + m, @ + m, @ + m ] \
+     Down = [ @ - m, @ - m, @ - m, @ - m ] Nine = [ ] 9 O None = [ ] 0 h Step = @ + 1 [ ] \
+     Back = @ - 1 [ ] More = [ << @ + 1 >> ] Less = [ << @ - 1 >> ] Twice = [ << @ * 2 >> ] \
+     LOGIC L KEY L = Ends [ KEY U -> Up KEY D -> Down KEY N -> Nine KEY O -> None KEY S -> Step \
+     KEY B -> Back KEY M -> More KEY K -> Less KEY T -> Twice KEY W -> Wide KEY E -> Ends \
+     KEY F -> Ends C -> Step D -> Down ]";
+
 const C_B: &str = concat!(
     c_dur_rein!(),
     "Normal = [ @,@,@,@,@,@,@,@,@,@, b,@ ]\n\nHARMONIE\n\nSeptakkord = { 0, *4, *7, 10 }\n\n\

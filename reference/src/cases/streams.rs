@@ -2,12 +2,14 @@
 //! their letters and harmonies really move the state.
 
 use super::compose::{compose, Plan};
-use super::examples::EXAMPLES;
+use super::examples::{EXAMPLES, LIMITS};
 use super::faults;
 use super::fingers::Fingers;
 use super::sketch::render;
 use crate::frames::Desk;
+use crate::playable::is_at_an_end;
 use crate::random::Random;
+use crate::state::Key;
 use crate::text;
 use crate::text::tree::Trigger;
 
@@ -23,6 +25,7 @@ pub fn pair(seed: u64, index: u64) -> Pair {
     let text = match random.below(100) {
         0..=3 => damaged_text(random),
         4..=7 => random.one_of(EXAMPLES).as_bytes().to_vec(),
+        8..=10 => LIMITS.as_bytes().to_vec(),
         _ => right_text(random),
     };
     let frames = Player::new(random, &text).frames(random);
@@ -126,11 +129,21 @@ impl Player {
         let house = 1 + random.below(2) as u8;
         match random.below(100) {
             0..=64 => frame_line([house, 1, self.letter(random)]),
-            65..=83 => frame_line([house, 2, random.below(128) as u8]),
+            65..=83 => frame_line([house, 2, self.key(random)]),
             84..=89 => frame_line([house, 3, 0]),
             90..=93 => frame_line(near_frame(random)),
             _ => damaged_line(random),
         }
+    }
+
+    /// Any key, or one at an end of what an instrument has, or one past it.
+    fn key(&self, random: &mut Random) -> u8 {
+        let any = random.below(128) as u8;
+        if random.percent(50) {
+            return any;
+        }
+        let at_an_end = |key: &u8| is_at_an_end(self.desk.state().pitch(Key((*key).into())));
+        random.pick(&(0..128).filter(at_an_end).collect::<Vec<_>>(), any)
     }
 
     /// Mostly a letter of the active logic's orders, else one of a logic, else

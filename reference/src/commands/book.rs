@@ -8,7 +8,9 @@ use crate::comparison::{Comparison, Distance, Logarithms, Page, Sizes};
 use crate::ends::Ends;
 use crate::frames::{frame_bytes, Desk, Made};
 use crate::measure::{Pitch, CONCERT_PITCH};
-use crate::numbers;
+use crate::numbers::{self, Number};
+use crate::playable::PLAYABLE;
+use crate::state::Key;
 use crate::text;
 use std::io::Write;
 
@@ -37,7 +39,11 @@ pub fn check(seed: u64, count: u64) -> Outcome {
     if tally.ends.taken() == 0 {
         note(format_args!("no call goes by whole periods from a muted first position"));
     }
-    Ok(verdict(tally.failed == 0 && tally.past_half > 0 && tally.ends.taken() > 0))
+    if tally.unplayable == 0 {
+        note(format_args!("no key is unplayable"));
+    }
+    let met = [tally.past_half, tally.ends.taken(), tally.unplayable];
+    Ok(verdict(tally.failed == 0 && !met.contains(&0)))
 }
 
 fn follow(
@@ -71,7 +77,7 @@ fn follow(
 
 fn compare_keys(desk: &mut Desk, page: &Page, tally: &mut Tally) -> Result<(), Halt> {
     for key in 0..KEYS {
-        let pitch = asked_pitch(desk, key);
+        let pitch = sounding_pitch(desk, key, tally);
         let d = pitch.map(|pitch| pitch - CONCERT_PITCH);
         let comparison = page.compare(key, d.unwrap_or_default())?;
         tally.note(key, pitch, comparison);
@@ -79,13 +85,36 @@ fn compare_keys(desk: &mut Desk, page: &Page, tally: &mut Tally) -> Result<(), H
     Ok(())
 }
 
-/// The pitch that a frame of kind 02 answers: the last four of eight bytes.
-fn asked_pitch(desk: &mut Desk, key: i64) -> Option<Pitch> {
+/// The pitch of a key as its answer gives it; of an unplayable one the unlimited
+/// pitch, which the distance holds for all the same.
+fn sounding_pitch(desk: &mut Desk, key: i64, tally: &mut Tally) -> Option<Pitch> {
+    let (number, given) = asked(desk, key)?;
+    let within = |pitch: Option<Pitch>| pitch.is_some_and(|pitch| PLAYABLE.contains(&pitch.0));
+    let sounding = desk.state().pitch(Key(key));
+    let right = match number {
+        numbers::SILENT_KEY => given.is_none() && sounding.is_none(),
+        numbers::UNPLAYABLE_KEY => given.is_none() && sounding.is_some() && !within(sounding),
+        _ => number == numbers::DONE && within(given),
+    };
+    if !right {
+        tally.fail(&format!("key {key} at {sounding:?} answers {number} and {given:?}"));
+    }
+    if number != numbers::UNPLAYABLE_KEY {
+        return given;
+    }
+    tally.unplayable += 1;
+    sounding
+}
+
+/// What a frame of kind 02 answers: its number is the fourth of eight bytes, its
+/// pitch the last four.
+fn asked(desk: &mut Desk, key: i64) -> Option<(Number, Option<Pitch>)> {
     let mut answer = Vec::with_capacity(32);
     desk.answer(format!("0102{key:02X}").as_bytes(), &mut answer);
-    let digits = std::str::from_utf8(answer.get(8..16)?).ok()?;
-    let bytes = u32::from_str_radix(digits, 16).ok()?;
-    (bytes != 1 << 31).then_some(Pitch((bytes as i32).into()))
+    let digits = std::str::from_utf8(answer.get(6..16)?).ok()?;
+    let number = Number::from_str_radix(digits.get(..2)?, 16).ok()?;
+    let bytes = u32::from_str_radix(digits.get(2..)?, 16).ok()?;
+    Some((number, (bytes != 1 << 31).then_some(Pitch((bytes as i32).into()))))
 }
 
 #[derive(Default)]
@@ -100,6 +129,8 @@ struct Tally {
     by_harmonies: u64,
     ends: Ends,
     silent: u64,
+    /// Those that sound, but not where an instrument does.
+    unplayable: u64,
     exact: u64,
     apart: u64,
     /// Those that half a thousandth for each power would not have held.
@@ -165,8 +196,8 @@ impl std::fmt::Display for Tally {
         writeln!(
             f,
             "keys: {} silent in both, {} exact (w = 0), {} within w and within 0.51 w, \
-             {} of these past 0.5 w; worst distance {:.6} w",
-            self.silent, self.exact, self.apart, self.past_half, self.worst
+             {} of these past 0.5 w; worst distance {:.6} w; {} of the sounding ones unplayable",
+            self.silent, self.exact, self.apart, self.past_half, self.worst, self.unplayable
         )?;
         write!(f, "{} failed", self.failed)
     }
@@ -185,7 +216,7 @@ mod tests {
             follow(&pair.text, &pair.frames, &mut logarithms, &mut tally).unwrap();
         }
         assert_eq!(tally.failed, 0);
-        assert!(tally.exact > 0 && tally.apart > 0);
+        assert!(tally.exact > 0 && tally.apart > 0 && tally.unplayable > 0);
         assert!(tally.by_harmonies > 0 && tally.calls > tally.by_harmonies);
     }
 }

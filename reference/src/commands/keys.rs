@@ -1,22 +1,26 @@
 //! `stream-counts`: how often the streams of a seed play keys, and how often a
-//! harmony then matches; and the ends of their anchor and width calls.
+//! harmony then matches; the ends of their anchor and width calls; and the keys
+//! asked at the ends of what an instrument has.
 
 use super::{output, verdict, Outcome};
 use crate::cases::streams::{self, Pair};
 use crate::ends::Ends;
 use crate::frames::{frame_bytes, Desk, Effect};
 use crate::numbers;
+use crate::playable::Limits;
+use crate::state::Key;
 use crate::text;
 use std::io::Write;
 
 /// One in so many streams with key frames shall contain a match.
 const STREAMS_TO_A_MATCH: u64 = 3;
 
-/// In so many streams each way to end a distance shall come once.
+/// In so many streams each way to end a distance shall come once, and each place
+/// at the ends of what an instrument has.
 const STREAMS_TO_EACH_END: u64 = 200;
 
 /// Answers the streams of a seed and counts; fails if too few have a match, or
-/// if a way to end a distance is rare.
+/// if a way to end a distance or a place at those ends is rare.
 pub fn count(seed: u64, count: u64) -> Outcome {
     let mut tally = Tally::default();
     for index in 0..count {
@@ -40,6 +44,7 @@ struct Tally {
     not_held: u64,
     above: u64,
     ends: Ends,
+    limits: Limits,
 }
 
 impl Tally {
@@ -77,18 +82,23 @@ impl Tally {
         }
     }
 
-    /// Answers a line and counts the ends of its call.
+    /// Answers a line and counts the ends of its call, or the key that it asks.
     fn answer(&mut self, desk: &mut Desk, line: &[u8]) -> Effect {
         let before = desk.state().clone();
         let effect = desk.answer(line, &mut Vec::new());
         if let Some(made) = effect.made {
             self.ends.note_made(&before, desk, made);
+            self.limits.note_made(&before, desk, made);
+        }
+        if let Some([1 | 2, 2, key @ 0..=127]) = frame_bytes(line) {
+            self.limits.note_key(before.pitch(Key(key.into())));
         }
         effect
     }
 
     fn has_each_end(&self) -> bool {
-        STREAMS_TO_EACH_END * self.ends.rarest() >= self.streams
+        let rarest = self.ends.rarest().min(self.limits.rarest());
+        STREAMS_TO_EACH_END * rarest >= self.streams
     }
 
     fn has_enough_matches(&self) -> bool {
@@ -108,7 +118,8 @@ impl std::fmt::Display for Tally {
             "{} key frames: {} matches ({} with a refused call), number 17: {}, 18: {}, 22: {}",
             self.frames, self.matches, self.refused_calls, self.held, self.not_held, self.above
         )?;
-        write!(f, "{}", self.ends)
+        writeln!(f, "{}", self.ends)?;
+        write!(f, "{}", self.limits)
     }
 }
 
