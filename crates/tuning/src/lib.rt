@@ -19,7 +19,7 @@ ghost use lib.ListN.{drop, take};
 ghost use Rattle.limits.specs.Limits.{mostAnchor};
 ghost use Rattle.cents.specs.Passages.{mostKey};
 ghost use Rattle.tuning.specs.Tuning.{raised, soundOf, start};
-ghost use Rattle.tuning.specs.Desk.{cents, isPeriod, isPlayable, playable, isMuted, beyond, anyBeyond};
+ghost use Rattle.tuning.specs.Desk.{cents, between, isPeriod, isPlayable, playable, isMuted, beyond, anyBeyond};
 ghost use Rattle.tuning.specs.State.{heard, heardAt, held, toneOf, coded, validState, allMuted};
 ghost use Rattle.tuning.specs.Inner.{locatedAt, size, farthestSound};
 
@@ -144,6 +144,12 @@ fn locate(steps: KeySteps, width: u8) -> Located
     }
 }
 
+fn is_between(low: i32, high: i32, z: i32) -> bool
+    ensures { λ r. ⌜ r ≡ between low high z ⌝ }
+{
+    low <= z && z <= high
+}
+
 impl Tone {
     // The tone `by` higher.
     pub fn raise(self, by: Interval) -> Tone
@@ -171,7 +177,7 @@ impl Tone {
     {
         match self {
             Tone::Muted => true,
-            Tone::At(p) => -FARTHEST_TONE <= p.0 && p.0 <= FARTHEST_TONE,
+            Tone::At(p) => is_between(-FARTHEST_TONE, FARTHEST_TONE, p.0),
         }
     }
 
@@ -193,14 +199,14 @@ impl Tone {
 pub fn is_playable(p: Pitch) -> bool
     ensures { λ r. ⌜ r ≡ isPlayable (p .0) ⌝ }
 {
-    0 <= p.0 && p.0 <= HIGHEST_PITCH
+    is_between(0, HIGHEST_PITCH, p.0)
 }
 
 // Whether a state may have this period.
 pub fn is_period(p: Interval) -> bool
     ensures { λ r. ⌜ r ≡ isPeriod (p .0) ⌝ }
 {
-    0 <= p.0 && p.0 <= LONGEST_PERIOD
+    is_between(0, LONGEST_PERIOD, p.0)
 }
 
 impl State {
