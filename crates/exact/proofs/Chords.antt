@@ -14,7 +14,7 @@ use Rattle.hexadecimal.specs.Digits.{digitOf, byteOf, bytesOf}
 use Rattle.frames.specs.Frames.{framed, frameOf}
 use Rattle.protocol.specs.Triggers.{firstLogic, firstOrder, struck}
 use Rattle.protocol.specs.Steps.{callOn, deskFrom, madeFrom, triggered, moveStep}
-use Rattle.protocol.specs.Answers.{startDesk, moveOutcome, frameOutcome, answerOf}
+use Rattle.protocol.specs.Answers.{moveOutcome, frameOutcome, answerOf}
 use Rattle.hexadecimal.specs.Digits.{hexOf, hexes}
 use Rattle.hexadecimal.specs.Numbers.{twos, fourOf}
 use Rattle.protocol.specs.Streams.{deskAfter, madeIn, linesOf}
@@ -25,10 +25,10 @@ use Rattle.exact.specs.Book.{entries, bookFrom, once}
 use Rattle.exact.specs.Actions.{entryWithin}
 use Rattle.exact.specs.Claim.{fedBy, bookAfter}
 use Rattle.exact.specs.Chords.{frames, lines, calls, Whole}
-use Rattle.exact.proofs.Fed.{fed}
+use Rattle.exact.proofs.Fed.{Answers, worked, fed}
 
 -- the lines, and the calls
-answers : (linesOf (tablesOf program) startDesk frames ≡ lines) × (madeIn (tablesOf program) startDesk frames ≡ calls)
+answers : Answers program frames lines calls
 unfolding Option·elim plus total shifted ranged valueAt valueOf writtenAll joined rowOf filledFrom tablesOf validTables declarationRight isOwn rowsRight declarations
     kindsFrom partsFollow ordersRight eachRight allZero allNought called firstFailing anyBeyond validState allMuted has added removed setOf all any matches
     digitOf byteOf bytesOf framed frameOf firstLogic firstOrder struck callOn deskFrom madeFrom triggered moveStep moveOutcome frameOutcome answerOf linesOf
@@ -41,4 +41,4 @@ book = fed program frames calls (answers .1)
 
 pub chords : Whole
 unfolding entryWithin once fedBy bookFrom
-chords = record { worked = record { read = chords-read; answered = answers .0; made = answers .1 }; anchor = rw book; width = rw book }
+chords = record { worked = worked chords-read answers; anchor = rw book; width = rw book }

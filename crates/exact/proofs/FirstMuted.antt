@@ -1,8 +1,7 @@
 -- Document 02, 2/13, of the exact book: where position 0 sounds its distances are document 01's, and by whole periods every key keeps its entry; then the worked
 -- streams, by computing. Assumes nothing.
 use mathlib.Core.Path.{_≡_, refl, sym, fun-ext}
-use mathlib.Core.List.{List}
-use Prim.Native.Nat.{ℕ, _<_}
+use Prim.Native.Nat.{_<_}
 use mathlib.Core.Option.{Option·elim}
 use lib.Count.{leadingZeros}
 use Rattle.integers.proofs.Difference.{mul-assocℤ}
@@ -22,12 +21,11 @@ use Rattle.harmonies.specs.Harmonies.{matches}
 use Rattle.hexadecimal.specs.Digits.{digitOf, byteOf, bytesOf}
 use Rattle.frames.specs.Frames.{framed, frameOf}
 use Rattle.protocol.specs.Triggers.{firstLogic, firstOrder, struck}
-use Rattle.protocol.specs.Steps.{Made, callOn, deskFrom, madeFrom, triggered, moveStep}
-use Rattle.protocol.specs.Answers.{startDesk, letterOutcome, keyOutcome, moveOutcome, frameOutcome, answerOf}
+use Rattle.protocol.specs.Steps.{callOn, deskFrom, madeFrom, triggered, moveStep}
+use Rattle.protocol.specs.Answers.{letterOutcome, keyOutcome, moveOutcome, frameOutcome, answerOf}
 use Rattle.hexadecimal.specs.Digits.{hexOf, hexes}
 use Rattle.hexadecimal.specs.Numbers.{twos, fourOf}
-use Rattle.protocol.specs.Streams.{Lent, deskAfter, madeIn, linesOf}
-use Rattle.program.specs.Program.{Program}
+use Rattle.protocol.specs.Streams.{deskAfter, madeIn, linesOf}
 use Rattle.program.specs.Meaning.{valueOf}
 use Rattle.program.specs.Pentatonic as pentatonic
 use Rattle.program.specs.NineOctaves as nineOctaves
@@ -37,7 +35,7 @@ use Rattle.exact.specs.Book.{entries, bookFrom, once}
 use Rattle.exact.specs.Actions.{entryWithin}
 use Rattle.exact.specs.Claim.{fedBy}
 use Rattle.exact.specs.FirstMuted.{pentatonicFrames, pentatonicLines, pentatonicCalls, nineOctavesFrames, nineOctavesLines, nineOctavesCalls, mutedChordFrames, mutedChordLines, mutedChordCalls, doubledBook, nineBook, chordBook, Whole}
-use Rattle.exact.proofs.Fed.{fed}
+use Rattle.exact.proofs.Fed.{Answers, worked, fed}
 
 -- entries add up as whole numbers do, name by name
 entries-steps : Steps entries
@@ -57,9 +55,6 @@ pub book-whole-periods : (b : Tuning entries) → 0 < width entries b → WholeP
 book-whole-periods = whole-periods entries entries-steps
 
 -- what is answered and what is called, all at once, since what is computed is opened at each
-abbrev Answers : Program → List Lent → List (List ℕ) → List Made → Type 0
-Answers p frames lines calls = (linesOf (tablesOf p) startDesk frames ≡ lines) × (madeIn (tablesOf p) startDesk frames ≡ calls)
-
 answers : Answers pentatonic.program pentatonicFrames pentatonicLines pentatonicCalls × Answers nineOctaves.program nineOctavesFrames nineOctavesLines nineOctavesCalls
     × Answers mutedChord.program mutedChordFrames mutedChordLines mutedChordCalls
 unfolding Option·elim leadingZeros highestBit bits L measure nearest plus total shifted ranged valueAt valueOf writtenAll joined rowOf filledFrom tablesOf
@@ -85,9 +80,9 @@ pub first-muted : Whole
 unfolding entryWithin once fedBy bookFrom
 first-muted =
     record {
-      pentatonic = record { read = pentatonic-read; answered = answers .0 .0; made = answers .0 .1 };
-      nineOctaves = record { read = nine-octaves-read; answered = answers .1 .0; made = answers .1 .1 };
-      mutedChord = record { read = muted-chord-read; answered = answers .2 .0; made = answers .2 .1 };
+      pentatonic = worked pentatonic-read (answers .0);
+      nineOctaves = worked nine-octaves-read (answers .1);
+      mutedChord = worked muted-chord-read (answers .2);
       doubledWidth = rw doubled;
       doubledPeriod = rw doubled;
       stillSilent = rw doubled;

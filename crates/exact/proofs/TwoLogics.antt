@@ -15,7 +15,7 @@ use Rattle.hexadecimal.specs.Digits.{digitOf, byteOf, bytesOf}
 use Rattle.frames.specs.Frames.{framed, frameOf}
 use Rattle.protocol.specs.Triggers.{firstLogic, firstOrder, struck}
 use Rattle.protocol.specs.Steps.{callOn, deskFrom, madeFrom, triggered}
-use Rattle.protocol.specs.Answers.{startDesk, letterOutcome, keyOutcome, frameOutcome, answerOf}
+use Rattle.protocol.specs.Answers.{letterOutcome, keyOutcome, frameOutcome, answerOf}
 use Rattle.hexadecimal.specs.Digits.{hexOf, hexes}
 use Rattle.hexadecimal.specs.Numbers.{twos, fourOf}
 use Rattle.answers.specs.Answer.{tonesBytes}
@@ -27,10 +27,10 @@ use Rattle.exact.specs.Book.{entries, bookFrom, once}
 use Rattle.exact.specs.Actions.{entryWithin}
 use Rattle.exact.specs.Claim.{fedBy, bookAfter}
 use Rattle.exact.specs.TwoLogics.{frames, lines, calls, Whole}
-use Rattle.exact.proofs.Fed.{fed}
+use Rattle.exact.proofs.Fed.{Answers, worked, fed}
 
 -- the lines, and the calls
-answers : (linesOf (tablesOf program) startDesk frames ≡ lines) × (madeIn (tablesOf program) startDesk frames ≡ calls)
+answers : Answers program frames lines calls
 unfolding Option·elim leadingZeros highestBit bits L measure nearest plus total shifted ranged valueAt valueOf writtenAll joined rowOf filledFrom tablesOf validTables
     declarationRight isOwn rowsRight declarations kindsFrom partsFollow ordersRight eachRight allZero allNought called firstFailing anyBeyond validState
     allMuted digitOf byteOf bytesOf framed frameOf firstLogic firstOrder struck callOn deskFrom madeFrom triggered letterOutcome keyOutcome frameOutcome answerOf
@@ -44,4 +44,4 @@ book = fed program frames calls (answers .1)
 pub two-logics : Whole
 unfolding entryWithin once fedBy bookFrom
 two-logics =
-    record { worked = record { read = two-logics-read; answered = answers .0; made = answers .1 }; anchor = rw book; width = rw book }
+    record { worked = worked two-logics-read answers; anchor = rw book; width = rw book }

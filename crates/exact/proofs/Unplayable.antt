@@ -2,7 +2,6 @@
 use mathlib.Core.Path.{_≡_, refl, sym, ap, _∙_, subst}
 use mathlib.Core.List.{List}
 use mathlib.Core.Option.{Option, Option·elim, Option·some-injective}
-use Prim.Native.Nat.{ℕ}
 use native.Mathlib.Omega.{arith}
 use lib.Count.{leadingZeros}
 use lib.IntN.{ℤ}
@@ -25,10 +24,9 @@ use Rattle.frames.specs.Frames.{framed, frameOf}
 use Rattle.answers.specs.Answer.{tonesBytes}
 use Rattle.answers.specs.Told.{KeyTold}
 use Rattle.protocol.specs.Triggers.{firstLogic, firstOrder, struck}
-use Rattle.protocol.specs.Steps.{Made, callOn, deskFrom, madeFrom, triggered, moveStep}
-use Rattle.protocol.specs.Answers.{startDesk, letterOutcome, keyOutcome, moveOutcome, frameOutcome, answerOf}
-use Rattle.protocol.specs.Streams.{Lent, deskAfter, madeIn, linesOf}
-use Rattle.program.specs.Program.{Program}
+use Rattle.protocol.specs.Steps.{callOn, deskFrom, madeFrom, triggered, moveStep}
+use Rattle.protocol.specs.Answers.{letterOutcome, keyOutcome, moveOutcome, frameOutcome, answerOf}
+use Rattle.protocol.specs.Streams.{deskAfter, madeIn, linesOf}
 use Rattle.program.specs.Meaning.{valueOf}
 use Rattle.program.specs.TenOctaves as tenOctaves
 use Rattle.program.specs.BothLimits as bothLimits
@@ -43,7 +41,7 @@ use Rattle.exact.specs.Claim.{bookAfter, fedBy, AnswerNear, told-silent,
 use Rattle.exact.specs.Unplayable.{Says, BytesSay, tenOctavesFrames, tenOctavesLines, tenOctavesCalls, bothLimitsFrames, bothLimitsLines, bothLimitsCalls}
 use Rattle.exact.specs.Unplayable.{farEndsFrames, farEndsLines, farEndsCalls, chordFrames, chordLines, chordCalls, farBook, Whole}
 use Rattle.exact.proofs.DemandThree.{demand-three, tighter-distance}
-use Rattle.exact.proofs.Fed.{fed}
+use Rattle.exact.proofs.Fed.{Answers, worked, fed}
 
 -- ---- what the bytes say
 
@@ -81,9 +79,7 @@ bytes-say-sharper = claimed-say tighter-distance
 
 -- ---- the worked streams
 
-abbrev Answers : Program → List Lent → List (List ℕ) → List Made → Type 0
-Answers p frames lines calls = (linesOf (tablesOf p) startDesk frames ≡ lines) × (madeIn (tablesOf p) startDesk frames ≡ calls)
-
+-- all at once, since what is computed is opened at each
 answers : Answers tenOctaves.program tenOctavesFrames tenOctavesLines tenOctavesCalls × Answers bothLimits.program bothLimitsFrames bothLimitsLines bothLimitsCalls
     × Answers farEnds.program farEndsFrames farEndsLines farEndsCalls × Answers unplayableChord.program chordFrames chordLines chordCalls
 unfolding Option·elim leadingZeros highestBit bits L measure nearest plus total shifted ranged valueAt valueOf writtenAll joined rowOf filledFrom tablesOf
@@ -101,10 +97,10 @@ pub unplayable : Whole
 unfolding entryWithin once fedBy bookFrom
 unplayable =
     record {
-      tenOctaves = record { read = ten-octaves-read; answered = answers .0 .0; made = answers .0 .1 };
-      bothLimits = record { read = both-limits-read; answered = answers .1 .0; made = answers .1 .1 };
-      farEnds = record { read = far-ends-read; answered = answers .2 .0; made = answers .2 .1 };
-      chord = record { read = unplayable-chord-read; answered = answers .3 .0; made = answers .3 .1 };
+      tenOctaves = worked ten-octaves-read (answers .0);
+      bothLimits = worked both-limits-read (answers .1);
+      farEnds = worked far-ends-read (answers .2);
+      chord = worked unplayable-chord-read (answers .3);
       farAnchor = rw far;
       farWidth = rw far;
       farOctaves = rw far;

@@ -43,7 +43,7 @@ toldOf t = record { number = keyNumber t; sound = playable t }
 
 -- "A key answer shall give a pitch only from 0 to 12,799,999": a pitch that is read from the bytes of its line is one of these, it is what the key sounds, and its
 -- number is 0
-pub record Given (d : Desk) (k : ℕ) (told : KeyTold) (z : ℤ) : Type 0 where
+pub record GivesPitch (d : Desk) (k : ℕ) (told : KeyTold) (z : ℤ) : Type 0 where
   pub within : isPlayable z ≡ true
   pub sounding : soundAt d k ≡ sounds z
   pub number : told .number ≡ done
@@ -51,4 +51,4 @@ pub record Given (d : Desk) (k : ℕ) (told : KeyTold) (z : ℤ) : Type 0 where
 unfoldable pub PitchGiven : Type 0
 PitchGiven =
     (d : Desk) (house k : ℕ) → house < 256 → k < 256 → (told : KeyTold) → toldBy (keyOutcome d house k .line) ≡ some told → (z : ℤ) → told .sound ≡ sounds z
-    → Given d k told z
+    → GivesPitch d k told z
