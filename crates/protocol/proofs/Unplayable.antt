@@ -21,7 +21,7 @@ use Rattle.answers.specs.Told.{KeyTold, toldBy}
 use Rattle.answers.proofs.Told.{Told, key-told}
 use Rattle.protocol.specs.declared.Desk.{Desk}
 use Rattle.protocol.specs.Answers.{Outcome, soundAt, keyNumber, keyOutcome, frameOutcome, validDesk, answerOf}
-use Rattle.protocol.specs.Unplayable.{unplayableOutcome, AsksUnplayable, WhereFifteen, toldOf, PitchGiven}
+use Rattle.protocol.specs.Unplayable.{AsksUnplayable, unplayableOutcome, Unplayable, WhereFifteen, toldOf, PitchGiven}
 use Rattle.protocol.proofs.Ways.{by-outcome}
 use Rattle.protocol.proofs.Numbers.{OfFrames, frame-number}
 
@@ -33,14 +33,19 @@ unfolding keyOutcome
 key-there d house k z e out = rw (e, out)
 
 module _ (t : Tables) (d : Desk) (frame : List ℕ) (room : ℕ) where
-  there : smallestBuffer ≤ room → validDesk t d ≡ true → (a : AsksUnplayable d frame) → answerOf t d frame room ≡ unplayableOutcome d (a .house) (a .asked)
-  unfolding answerOf frameOutcome
-  there h v a = rw (le-ltb room smallestBuffer h, v, a .read) (key-there d (a .house) (a .asked) (a .pitch) (a .sounding) (a .beyond))
+  frame-there : (a : AsksUnplayable d frame) → frameOutcome t d (frameOf frame) ≡ unplayableOutcome d (a .house) (a .asked)
+  unfolding frameOutcome
+  frame-there a = rw (a .read) (key-there d (a .house) (a .asked) (a .pitch) (a .sounding) (a .beyond))
 
-  abbrev Told15 : ℕ → Type 0
-  Told15 n = n ≡ keyUnplayable → AsksUnplayable d frame
+  there : smallestBuffer ≤ room → validDesk t d ≡ true → AsksUnplayable d frame → answerOf t d frame room .number ≡ keyUnplayable
+  unfolding answerOf
+  there h v a = rw (le-ltb room smallestBuffer h, v) (ap (λ (o : Outcome). o .number) (frame-there a))
 
-  others : OfFrames Told15
+  -- what 15 says of the frame
+  abbrev OnFifteen : ℕ → Type 0
+  OnFifteen n = n ≡ keyUnplayable → AsksUnplayable d frame
+
+  others : OfFrames OnFifteen
   others = record {
     call = record {
       taken = λ e. absurd (omega arith);
@@ -56,21 +61,21 @@ module _ (t : Tables) (d : Desk) (frame : List ℕ) (room : ℕ) where
     bad = λ e. absurd (omega arith);
   }
 
-  asked : (house k : ℕ) → frameOf frame ≡ key house k → Told15 (keyNumber (soundAt d k))
+  asked : (house k : ℕ) → frameOf frame ≡ key house k → OnFifteen (keyNumber (soundAt d k))
   asked house k read = go (soundAt d k) refl
     where
-      by-test : (z : ℤ) → soundAt d k ≡ sounds z → (b : Bool) → isPlayable z ≡ b → Told15 (cond b 0 keyUnplayable)
+      by-test : (z : ℤ) → soundAt d k ≡ sounds z → (b : Bool) → isPlayable z ≡ b → OnFifteen (cond b 0 keyUnplayable)
       by-test z s true e = λ n. absurd (omega arith)
       by-test z s false e = λ n. record { house = house; asked = k; pitch = z; read = read; sounding = s; beyond = e }
 
-      go : (x : Sound ℤ) → soundAt d k ≡ x → Told15 (keyNumber x)
+      go : (x : Sound ℤ) → soundAt d k ≡ x → OnFifteen (keyNumber x)
       go muted s = λ n. absurd (omega arith)
       go (sounds z) s = by-test z s (isPlayable z) refl
 
-  only : answerOf t d frame room .number ≡ keyUnplayable → AsksUnplayable d frame
+  only : answerOf t d frame room .number ≡ keyUnplayable → Unplayable d frame (answerOf t d frame room)
   only =
-      by-outcome t d frame room (λ (o : Outcome). Told15 (o .number)) (λ e. absurd (omega arith)) (λ v e. absurd (omega arith))
-      (λ v. frame-number Told15 others t d (frameOf frame) asked)
+      by-outcome t d frame room (λ (o : Outcome). o .number ≡ keyUnplayable → Unplayable d frame o) (λ e. absurd (omega arith)) (λ v e. absurd (omega arith))
+      (λ v e. let a = frame-number OnFifteen others t d (frameOf frame) asked e in record { asks = a; whole = frame-there a })
 
 pub where-fifteen : WhereFifteen
 unfolding WhereFifteen

@@ -16,10 +16,6 @@ use Rattle.answers.specs.Told.{KeyTold, toldBy}
 use Rattle.protocol.specs.declared.Desk.{Desk}
 use Rattle.protocol.specs.Answers.{Outcome, soundAt, keyNumber, keyOutcome, validDesk, answerOf}
 
--- "15 after 20, pitch bytes 80000000, state unchanged"; and nothing is called
-abbrev pub unplayableOutcome : Desk → ℕ → ℕ → Outcome
-unplayableOutcome d house k = record { desk = d; number = keyUnplayable; made = []; line = lineOf (keyBytes house k keyUnplayable muted) }
-
 -- "Below or above it, the key counts as unplayable": a frame asks a key that sounds there
 pub record AsksUnplayable (d : Desk) (frame : List ℕ) : Type 0 where
   pub house : ℕ
@@ -29,10 +25,18 @@ pub record AsksUnplayable (d : Desk) (frame : List ℕ) : Type 0 where
   pub sounding : soundAt d asked ≡ sounds pitch
   pub beyond : isPlayable pitch ≡ false
 
--- so 15 comes after 19, 23, 22 and 20, and no other frame has it
+-- what that comes to: "15 after 20, pitch bytes 80000000, state unchanged"; and nothing is called
+abbrev pub unplayableOutcome : Desk → ℕ → ℕ → Outcome
+unplayableOutcome d house k = record { desk = d; number = keyUnplayable; made = []; line = lineOf (keyBytes house k keyUnplayable muted) }
+
+pub record Unplayable (d : Desk) (frame : List ℕ) (o : Outcome) : Type 0 where
+  pub asks : AsksUnplayable d frame
+  pub whole : o ≡ unplayableOutcome d (asks .house) (asks .asked)
+
+-- 15 is answered there, after 19, 23, 22 and 20, and nowhere else
 pub record Fifteen (t : Tables) (d : Desk) (frame : List ℕ) (room : ℕ) : Type 0 where
-  pub there : smallestBuffer ≤ room → validDesk t d ≡ true → (a : AsksUnplayable d frame) → answerOf t d frame room ≡ unplayableOutcome d (a .house) (a .asked)
-  pub only : answerOf t d frame room .number ≡ keyUnplayable → AsksUnplayable d frame
+  pub there : smallestBuffer ≤ room → validDesk t d ≡ true → AsksUnplayable d frame → answerOf t d frame room .number ≡ keyUnplayable
+  pub only : answerOf t d frame room .number ≡ keyUnplayable → Unplayable d frame (answerOf t d frame room)
 
 unfoldable pub WhereFifteen : Type 0
 WhereFifteen = (t : Tables) (d : Desk) (frame : List ℕ) (room : ℕ) → Fifteen t d frame room
