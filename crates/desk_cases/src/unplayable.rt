@@ -40,7 +40,7 @@ fn run_far_ends() {
 }
 
 // With 5/13: key 72 is unplayable, and held it makes up the harmony { 0 }: anchor 61 (3D).
-fn run_chord() {
+fn run_unplayable_chord() {
     let text = b"INTERVAL O = 2 : 1 HARMONY C = { 0 } RETUNING Ten = [ ] 10 O Up = @ + 1 [ ] \
         LOGIC T KEY T = Ten [ ] L C = Up [ ]";
     run_case(b"unplayable key in a chord", text, b"010154 010248 010548");
@@ -61,6 +61,6 @@ pub fn run_unplayable() {
     run_past_any_pipe();
     run_both_limits();
     run_far_ends();
-    run_chord();
+    run_unplayable_chord();
     run_in_order();
 }

@@ -53,14 +53,14 @@ module _ {near : Nearness} {ds : List (Option Declared)} where
   sounding-book (both-sound h) e = impossible (cc)
 
   says : {x : Sound Powers} {told : KeyTold} → AnswerNear near ds x told → Says near ds x told
-  says (told-silent h) = record { pitch = λ z e. impossible (cc); silent = λ e. silent-book h; no-other = λ e. refl }
+  says (told-silent h) = record { pitch = λ z e. impossible (cc); silent = λ e. silent-book h; noOther = λ e. refl }
   says (told-unplayable beyond h) =
-      record { pitch = λ z e. impossible (cc); silent = λ e. absurd (omega arith); no-other = λ e. absurd (sounding-book h e) }
+      record { pitch = λ z e. impossible (cc); silent = λ e. absurd (omega arith); noOther = λ e. absurd (sounding-book h e) }
   says {x} (told-pitch {z = y} within h) =
       record {
         pitch = λ z e. let same : y ≡ z = cc in (ap isPlayable (sym same) ∙ within, subst (λ (z : ℤ). KeyAgrees near ds x (sounds z)) same h);
         silent = λ e. absurd (omega arith);
-        no-other = λ e. absurd (sounding-book h e);
+        noOther = λ e. absurd (sounding-book h e);
       }
 
 claimed-say : {near : Nearness} → Claimed near → BytesSay near

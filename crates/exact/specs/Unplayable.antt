@@ -35,7 +35,7 @@ use Rattle.exact.specs.TwoLogics.{call, Worked}
 pub record Says (near : Nearness) (ds : List (Option Declared)) (book : Sound Powers) (told : KeyTold) : Type 0 where
   pub pitch : (z : ℤ) → told .sound ≡ sounds z → (isPlayable z ≡ true) × KeyAgrees near ds book (sounds z)
   pub silent : told .number ≡ keySilent → book ≡ muted
-  pub no-other : book ≡ muted → told .number ≡ keySilent
+  pub noOther : book ≡ muted → told .number ≡ keySilent
 
 -- of any accepted text, stream, house, key and buffer that serves
 abbrev pub BytesSay : Nearness → Type 0

@@ -2,12 +2,12 @@
 use mathlib.Core.Path.{refl}
 use Rattle.cents.specs.Sums.{Hold}
 use Rattle.tuning.specs.Desk.{firstFailing, anyBeyond, called}
-use Rattle.tuning.specs.AtLimits.{limits, unlimited}
+use Rattle.tuning.specs.AtLimits.{atLimits, unlimitedPitch}
 
-pub limits-hold : Hold limits
-unfolding Hold limits called firstFailing anyBeyond
-limits-hold = (refl, (refl, (refl, (refl, (refl, (refl, (refl, (refl, tt))))))))
+pub at-limits : Hold atLimits
+unfolding Hold atLimits called firstFailing anyBeyond
+at-limits = (refl, (refl, (refl, (refl, (refl, (refl, (refl, (refl, tt))))))))
 
-pub unlimited-hold : Hold unlimited
-unfolding Hold unlimited called firstFailing anyBeyond
-unlimited-hold = (refl, (refl, (refl, (refl, (refl, tt)))))
+pub unlimited-pitch : Hold unlimitedPitch
+unfolding Hold unlimitedPitch called firstFailing anyBeyond
+unlimited-pitch = (refl, (refl, (refl, (refl, (refl, tt)))))

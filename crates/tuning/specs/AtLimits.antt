@@ -15,8 +15,8 @@ abbrev pub nineOctaves : Tuning cents
 nineOctaves = tuningAfter (start cents) (periodTo (fresh (pos 10_800_000)))
 
 -- "only from 0 to 12,799,999": both ends, and one past each; the start's lowest key is at 0, its highest has a pitch too
-unfoldable pub limits : List Row
-limits =
+unfoldable pub atLimits : List Row
+atLimits =
     (playable (sounds (pos 0)) gives sounds (pos 0))
     ∷ (playable (sounds (negsuc 0)) gives muted)
     ∷ (playable (sounds (pos 12_799_999)) gives sounds (pos 12_799_999))
@@ -28,8 +28,8 @@ limits =
     ∷ []
 
 -- "Anchor and width retunings keep using the unlimited pitch": to key 73, and by it
-unfoldable pub unlimited : List Row
-unlimited =
+unfoldable pub unlimitedPitch : List Row
+unlimitedPitch =
     (soundOf cents nineOctaves 73 gives sounds (pos 16_900_000))
     ∷ (callNumber nineOctaves (anchorTo (Relative Plus 13)) gives Status.done)
     ∷ (soundOf cents (tuningAfter nineOctaves (anchorTo (Relative Plus 13))) 73 gives sounds (pos 16_900_000))
