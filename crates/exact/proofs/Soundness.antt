@@ -1,14 +1,11 @@
 -- 23 is never answered: an accepted text's tables are valid, and a right desk stays right along any stream.
 use mathlib.Core.Path.{_≡_}
-use mathlib.Core.Bool.{Bool, true, false, cond}
+use mathlib.Core.Bool.{true}
 use mathlib.Core.List.{List}
 use Prim.Native.Nat.{ℕ, _<_}
 use native.Mathlib.Omega.{arith}
-use lib.IntN.{ℤ}
-use Rattle.status.specs.Status.{done, keyUnplayable, tableDamaged}
+use Rattle.status.specs.Status.{tableDamaged}
 use Rattle.values.proofs.Cases.{clash}
-use Rattle.tuning.specs.Scale.{Sound, muted, sounds}
-use Rattle.tuning.specs.Desk.{isPlayable}
 use Rattle.tables.specs.Layout.{Tables}
 use Rattle.program.specs.Program.{Program}
 use Rattle.program.specs.Text.{accepted, readText}
@@ -17,10 +14,10 @@ use Rattle.filling.specs.Tables.{tablesOf}
 use Rattle.mutabor.proofs.ValidTables.{accepted-valid}
 use Rattle.frames.specs.Frames.{frameOf}
 use Rattle.protocol.specs.declared.Desk.{Desk}
-use Rattle.protocol.specs.Answers.{startDesk, Outcome, soundAt, keyNumber, validDesk, answerOf}
+use Rattle.protocol.specs.Answers.{startDesk, Outcome, soundAt, validDesk, answerOf}
 use Rattle.protocol.specs.Streams.{Lent, deskAfter}
 use Rattle.protocol.proofs.Ways.{by-outcome}
-use Rattle.protocol.proofs.Numbers.{OfFrames, frame-number}
+use Rattle.protocol.proofs.Numbers.{OfFrames, asked-number, frame-number}
 use Rattle.protocol.proofs.Stays.{right-valid, start-right, stream-right}
 use Rattle.exact.specs.Soundness.{StreamSound, NeverDamaged}
 
@@ -45,18 +42,10 @@ frames-below = record {
   bad = omega arith;
 }
 
-key-below : (x : Sound ℤ) → Below (keyNumber x)
-key-below muted = omega arith
-key-below (sounds z) = go (isPlayable z)
-  where
-    go : (b : Bool) → Below (cond b done keyUnplayable)
-    go true = omega arith
-    go false = omega arith
-
 answer-below : (t : Tables) (d : Desk) → validDesk t d ≡ true → (frame : List ℕ) (room : ℕ) → Below (answerOf t d frame room .number)
 answer-below t d h frame room =
     by-outcome t d frame room (λ (o : Outcome). Below (o .number)) (omega arith) (λ e. absurd (clash h e))
-    (λ e. frame-number Below frames-below t d (frameOf frame) (λ house k f. key-below (soundAt d k)))
+    (λ e. frame-number Below frames-below t d (frameOf frame) (λ house k f. asked-number Below (omega arith) (omega arith) (omega arith) (soundAt d k)))
 
 -- ---- the theorems
 

@@ -5,9 +5,11 @@ use mathlib.Core.List.{List, [], _∷_}
 use mathlib.Core.Option.{Option, some, none}
 use Prim.Native.Nat.{ℕ}
 use lib.Dec.{eqb}
-use Rattle.status.specs.Status.{done, anchorOutOfRange, widthOutOfRange, periodOutOfRange, endSilent, toneOutOfRange, keyHeld, keyNotHeld, letterUnbound, badFrame}
+use lib.IntN.{ℤ}
+use Rattle.status.specs.Status.{done, anchorOutOfRange, widthOutOfRange, periodOutOfRange, endSilent, toneOutOfRange, keyUnplayable, keyHeld, keyNotHeld, keySilent, letterUnbound, badFrame}
 use Rattle.tuning.specs.Tuning.{Tuning, Action, anchorTo, widthTo, periodTo, tonesTo, system}
-use Rattle.tuning.specs.Desk.{cents, Check, firstFailing, checks, called}
+use Rattle.tuning.specs.Scale.{Sound, muted, sounds}
+use Rattle.tuning.specs.Desk.{cents, isPlayable, Check, firstFailing, checks, called}
 use Rattle.tuning.specs.State.{held}
 use Rattle.tables.specs.Layout.{Tables}
 use Rattle.keys.specs.declared.HeldKeys.{HeldKeys}
@@ -79,6 +81,16 @@ module _ (P : ℕ → Type 0) where
     pub step-number : (t : Tables) (house : ℕ) (d : Desk) (x : Sought) {unfound : ℕ} → P unfound → P (triggered t house d x unfound .number)
     unfolding triggered
     step-number t house d x n = let z = struck t (d .active) x in made-number t house (withActive (z .active) d) (z .calls) n
+
+  -- ---- a key asked
+
+  pub asked-number : P keySilent → P keyUnplayable → P done → (x : Sound ℤ) → P (keyNumber x)
+  asked-number silent unplayable given muted = silent
+  asked-number silent unplayable given (sounds z) = go (isPlayable z)
+    where
+      go : (b : Bool) → P (cond b done keyUnplayable)
+      go true = given
+      go false = unplayable
 
   -- ---- a press
 

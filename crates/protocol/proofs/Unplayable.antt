@@ -23,7 +23,7 @@ use Rattle.protocol.specs.declared.Desk.{Desk}
 use Rattle.protocol.specs.Answers.{Outcome, soundAt, keyNumber, keyOutcome, frameOutcome, validDesk, answerOf}
 use Rattle.protocol.specs.Unplayable.{AsksUnplayable, unplayableOutcome, Unplayable, WhereFifteen, toldOf, PitchGiven}
 use Rattle.protocol.proofs.Ways.{by-outcome}
-use Rattle.protocol.proofs.Numbers.{OfFrames, frame-number}
+use Rattle.protocol.proofs.Numbers.{OfFrames, asked-number, frame-number}
 
 -- ---- where 15 is answered
 
@@ -92,12 +92,7 @@ playable-told (sounds z) = go (isPlayable z) refl
     go false e = tt
 
 number-small : (x : Sound ℤ) → keyNumber x < 256
-number-small muted = omega arith
-number-small (sounds z) = go (isPlayable z)
-  where
-    go : (b : Bool) → cond b 0 keyUnplayable < 256
-    go true = omega arith
-    go false = omega arith
+number-small = asked-number (λ (n : ℕ). n < 256) (omega arith) (omega arith) (omega arith)
 
 -- of a key asked: its number, and its pitch where an instrument has it
 pub asked-told : (d : Desk) (house k : ℕ) → house < 256 → k < 256 → toldBy (keyOutcome d house k .line) ≡ some (toldOf (soundAt d k))
