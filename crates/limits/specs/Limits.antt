@@ -102,3 +102,16 @@ highestPitch = 12_799_999
 
 abbrev pub mostDeclarations : ℕ
 mostDeclarations = mostIntervals + mostToneNames + mostSystems + mostRetunings + mostLogics + mostHarmonies
+
+-- ---- Document 02, 1/13: "one to four placeholder names in brackets"; "9 for a fifth name or number"
+
+abbrev pub mostPlaceholders : ℕ
+mostPlaceholders = 4
+
+-- "calls from orders and logic starts": an order makes one call, a logic's start one
+abbrev pub mostCalls : ℕ
+mostCalls = mostOrders + mostLogics
+
+-- so many rows has a program: one for each declaration, and one for each call, whose numbers may be written in
+abbrev pub mostRows : ℕ
+mostRows = mostDeclarations + mostCalls

@@ -67,3 +67,12 @@ pub const MOST_DECLARATIONS: usize = MOST_INTERVALS as usize
     + MOST_LOGICS as usize
     + MOST_RETUNINGS as usize
     + MOST_HARMONIES as usize;
+
+// Document 02, 1/13: placeholders of a retuning, and numbers of a call.
+pub const MOST_PLACEHOLDERS: u8 = 4;
+
+// One call for each order and each logic's start.
+pub const MOST_CALLS: usize = MOST_ORDERS as usize + MOST_LOGICS as usize;
+
+// So many rows has a program: one for each declaration, and one for each call, whose numbers may be written in.
+pub const MOST_ROWS: usize = MOST_DECLARATIONS + MOST_CALLS;

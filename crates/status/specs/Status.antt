@@ -42,7 +42,15 @@ dependsOnItself = 7
 abbrev pub valueOutOfRange : ℕ
 valueOutOfRange = 8
 
+-- document 02, request 1/13: "for a placeholder not named (without brackets none is), named twice, or a wrong count in a call"
+abbrev pub placeholderWrong : ℕ
+placeholderWrong = 24
+
 -- ---- of a retuning
+
+-- document 02, request 1/13: "at the call 25, before 10 to 14, for division by zero"
+abbrev pub divisionByZero : ℕ
+divisionByZero = 25
 
 -- "anchor not 0 to 127"
 abbrev pub anchorOutOfRange : ℕ

@@ -20,7 +20,11 @@ pub const DEPENDS_ON_ITSELF: u8 = 7;
 
 pub const VALUE_OUT_OF_RANGE: u8 = 8;
 
+pub const PLACEHOLDER_WRONG: u8 = 24;
+
 // Of a retuning.
+pub const DIVISION_BY_ZERO: u8 = 25;
+
 pub const ANCHOR_OUT_OF_RANGE: u8 = 10;
 
 pub const WIDTH_OUT_OF_RANGE: u8 = 11;
