@@ -3,9 +3,11 @@ use mathlib.Core.Path.{_≡_, refl, sym, _∙_, ap, subst}
 use mathlib.Core.Bool.{true, false}
 use mathlib.Core.List.{List, [], _∷_}
 use mathlib.Core.Option.{Option, some, none}
-use Prim.Native.Nat.{ℕ, _+_, _≤_, _<_}
+use Prim.Native.Nat.{ℕ, _+_, _≤_, _<_, _^_}
 use types.Run.{OneOf, miss}
-use lib.IntN.{ℤ}
+use lib.IntN.{ℤ, pos}
+use Rattle.grammar.specs.declared.Form.{Form}
+use Rattle.grammar.specs.declared.Form.the-variants.{AnchorTo, AnchorUp, AnchorDown, WidthTo, WidthUp, WidthDown, WidthTimes, WidthOver}
 use Rattle.grammar.specs.declared.Item.{Item}
 use Rattle.grammar.specs.declared.Item.the-variants as item
 use Rattle.grammar.specs.Items.{itemAt}
@@ -17,7 +19,7 @@ use Rattle.tables.specs.Layout.{soundingOf, pitchOf, changeCode, changeNumber}
 use Rattle.tables.specs.declared.Counts.{Counts}
 use Rattle.tables.specs.declared.Row.{Row}
 use Rattle.tables.specs.declared.Row.the-variants as row
-use Rattle.program.specs.Program.{Declaration, declarationOf, periodBy, periodOf, termThen, freshPeriod, onwardPeriod, termsOf, system, tones, logic, harmony, Position, Trigger, Order, asListed, grouped, startOf, ordersOf, keysOf}
+use Rattle.program.specs.Program.{Declaration, asking, declarationOf, periodBy, periodOf, termThen, freshPeriod, onwardPeriod, termsOf, system, tones, logic, harmony, Position, Trigger, Order, asListed, grouped, startOf, ordersOf, keysOf}
 use Rattle.harmonies.specs.Harmonies.{HarmonyKey}
 use Rattle.valuation.specs.Inner.{itemsBetween}
 use Rattle.filling.specs.Tables.{tonesOf, changesOf, rowOf}
@@ -25,6 +27,35 @@ use Rattle.filling.specs.Inner.{valueIn, triggerOf, callOf, asTrigger, b
 use Rattle.filling.proofs.Inside.{tag, Inside, add, subtract, muted, kept, tone, letter, start, order, trigger, key, starred, outside, no-begin, some-or-none, some-same}
 use Rattle.valuation.proofs.Between.{between-none}
 use Rattle.filling.proofs.Items.{item-next}
+
+-- ---- an anchor or width retuning with its n
+
+asking-fits : (values : List ℤ) (f : Form) {n : ℕ} → FitParts values (asking f n) → n < 2 ^ 16
+asking-fits values AnchorTo h = h
+asking-fits values AnchorUp h = h
+asking-fits values AnchorDown h = h
+asking-fits values WidthTo h = h
+asking-fits values WidthUp h = h
+asking-fits values WidthDown h = h
+asking-fits values WidthTimes h = h
+asking-fits values WidthOver h = h
+
+pub asking-small : (values : List ℤ) {i : Item} (f : Form) (n : ℕ) → i ≡ item.Amount f n → FitParts values (declarationOf (i ∷ [])) → n < 2 ^ 16
+asking-small values f n e h = asking-fits values f (subst (λ (x : Item). FitParts values (declarationOf (x ∷ []))) e h)
+
+-- it has no value
+asking-plain : (y z : ℤ) (f : Form) (n : ℕ) → plainRow y (asking f n) ≡ plainRow z (asking f n)
+asking-plain y z AnchorTo n = refl
+asking-plain y z AnchorUp n = refl
+asking-plain y z AnchorDown n = refl
+asking-plain y z WidthTo n = refl
+asking-plain y z WidthUp n = refl
+asking-plain y z WidthDown n = refl
+asking-plain y z WidthTimes n = refl
+asking-plain y z WidthOver n = refl
+
+pub as-asking : (z : ℤ) {i : Item} {r : Row} (f : Form) (n : ℕ) → i ≡ item.Amount f n → r ≡ plainRow (pos 0) (asking f n) → r ≡ plainRow z (declarationOf (i ∷ []))
+as-asking z f n e h = h ∙ asking-plain (pos 0) z f n ∙ ap (λ (x : Item). plainRow z (declarationOf (x ∷ []))) (sym e)
 
 -- what the items after the first do not matter for
 pub record Plain (values : List ℤ) (used : Counts) (i : Item) (rest : List Item) : Type 0 where
@@ -36,7 +67,7 @@ pub record Plain (values : List ℤ) (used : Counts) (i : Item) (rest : List Ite
 
 -- no tone, no anchor and no width: the row is an interval's
 abbrev pub intervals : List ℕ
-intervals = 0 ∷ 1 ∷ 2 ∷ 3 ∷ 4 ∷ 7 ∷ 8 ∷ 9 ∷ 10 ∷ 21 ∷ 22 ∷ 23 ∷ 24 ∷ 25 ∷ 26 ∷ 27 ∷ 28 ∷ []
+intervals = 0 ∷ 1 ∷ 2 ∷ 3 ∷ 4 ∷ 7 ∷ 8 ∷ 9 ∷ 10 ∷ 14 ∷ 15 ∷ 16 ∷ 17 ∷ 18 ∷ 19 ∷ 20 ∷ 21 ∷ []
 
 pub as-interval : (z : ℤ) (i : Item) → OneOf intervals (tag i) → row.Interval (record { 0 = z }) ≡ plainRow z (declarationOf (i ∷ []))
 as-interval z (item.Declared a b) h = refl
@@ -51,15 +82,8 @@ as-interval z item.MutedPosition h = refl
 as-interval z item.KeptPosition h = refl
 as-interval z (item.TonePosition a) h = refl
 as-interval z item.AnchorKept h = absurd (miss intervals 11 tt h)
-as-interval z (item.AnchorTo a) h = absurd (miss intervals 12 tt h)
-as-interval z (item.AnchorUp a) h = absurd (miss intervals 13 tt h)
-as-interval z (item.AnchorDown a) h = absurd (miss intervals 14 tt h)
-as-interval z item.WidthKept h = absurd (miss intervals 15 tt h)
-as-interval z (item.WidthTo a) h = absurd (miss intervals 16 tt h)
-as-interval z (item.WidthUp a) h = absurd (miss intervals 17 tt h)
-as-interval z (item.WidthDown a) h = absurd (miss intervals 18 tt h)
-as-interval z (item.WidthTimes a) h = absurd (miss intervals 19 tt h)
-as-interval z (item.WidthOver a) h = absurd (miss intervals 20 tt h)
+as-interval z (item.Amount f a) h = absurd (miss intervals 13 tt h)
+as-interval z item.WidthKept h = absurd (miss intervals 12 tt h)
 as-interval z item.Period h = refl
 as-interval z item.Onward h = refl
 as-interval z (item.Letter a) h = refl
@@ -71,7 +95,7 @@ as-interval z (item.StarredKey a) h = refl
 
 -- `[ ]` and no `@`: the period is a new one
 abbrev pub noOnward : List ℕ
-noOnward = 0 ∷ 1 ∷ 2 ∷ 3 ∷ 4 ∷ 5 ∷ 6 ∷ 7 ∷ 8 ∷ 9 ∷ 10 ∷ 11 ∷ 12 ∷ 13 ∷ 14 ∷ 15 ∷ 16 ∷ 17 ∷ 18 ∷ 19 ∷ 20 ∷ 21 ∷ 23 ∷ 24 ∷ 25 ∷ 26 ∷ 27 ∷ 28 ∷ []
+noOnward = 0 ∷ 1 ∷ 2 ∷ 3 ∷ 4 ∷ 5 ∷ 6 ∷ 7 ∷ 8 ∷ 9 ∷ 10 ∷ 11 ∷ 12 ∷ 13 ∷ 14 ∷ 16 ∷ 17 ∷ 18 ∷ 19 ∷ 20 ∷ 21 ∷ []
 
 pub as-fresh : (i : Item) → OneOf noOnward (tag i) → (rest : List Item) → periodOf (i ∷ rest) ≡ freshPeriod (termsOf (i ∷ rest))
 as-fresh (item.Declared a b) h rest = refl
@@ -86,17 +110,10 @@ as-fresh item.MutedPosition h rest = refl
 as-fresh item.KeptPosition h rest = refl
 as-fresh (item.TonePosition a) h rest = refl
 as-fresh item.AnchorKept h rest = refl
-as-fresh (item.AnchorTo a) h rest = refl
-as-fresh (item.AnchorUp a) h rest = refl
-as-fresh (item.AnchorDown a) h rest = refl
+as-fresh (item.Amount f a) h rest = refl
 as-fresh item.WidthKept h rest = refl
-as-fresh (item.WidthTo a) h rest = refl
-as-fresh (item.WidthUp a) h rest = refl
-as-fresh (item.WidthDown a) h rest = refl
-as-fresh (item.WidthTimes a) h rest = refl
-as-fresh (item.WidthOver a) h rest = refl
 as-fresh item.Period h rest = refl
-as-fresh item.Onward h rest = absurd (miss noOnward 22 tt h)
+as-fresh item.Onward h rest = absurd (miss noOnward 15 tt h)
 as-fresh (item.Letter a) h rest = refl
 as-fresh (item.Start a) h rest = refl
 as-fresh (item.Order a) h rest = refl
@@ -106,7 +123,7 @@ as-fresh (item.StarredKey a) h rest = refl
 
 -- no list and no sum, where it is no position and no trigger
 abbrev pub plains : List ℕ
-plains = 0 ∷ 1 ∷ 2 ∷ 3 ∷ 4 ∷ 5 ∷ 6 ∷ 8 ∷ 9 ∷ 10 ∷ 11 ∷ 12 ∷ 13 ∷ 14 ∷ 15 ∷ 16 ∷ 17 ∷ 18 ∷ 19 ∷ 20 ∷ 23 ∷ 24 ∷ 25 ∷ 26 ∷ []
+plains = 0 ∷ 1 ∷ 2 ∷ 3 ∷ 4 ∷ 5 ∷ 6 ∷ 8 ∷ 9 ∷ 10 ∷ 11 ∷ 12 ∷ 13 ∷ 16 ∷ 17 ∷ 18 ∷ 19 ∷ []
 
 pub as-plain : (values : List ℤ) (used : Counts) (i : Item) → OneOf plains (tag i) → begins (part i) ≡ false → asTrigger (asListed (part i)) ≡ none → (rest : List Item)
     → Plain values used i rest
@@ -122,23 +139,23 @@ as-plain values used item.MutedPosition h e n rest = absurd (clash refl e)
 as-plain values used item.KeptPosition h e n rest = absurd (clash refl e)
 as-plain values used (item.TonePosition a) h e n rest = absurd (clash refl e)
 as-plain values used item.AnchorKept h e n rest = record { row = refl; lists = λ l. refl; fit = λ f. f }
-as-plain values used (item.AnchorTo a) h e n rest = record { row = refl; lists = λ l. refl; fit = λ f. f }
-as-plain values used (item.AnchorUp a) h e n rest = record { row = refl; lists = λ l. refl; fit = λ f. f }
-as-plain values used (item.AnchorDown a) h e n rest = record { row = refl; lists = λ l. refl; fit = λ f. f }
+as-plain values used (item.Amount AnchorTo a) h e n rest = record { row = refl; lists = λ l. refl; fit = λ f. f }
+as-plain values used (item.Amount AnchorUp a) h e n rest = record { row = refl; lists = λ l. refl; fit = λ f. f }
+as-plain values used (item.Amount AnchorDown a) h e n rest = record { row = refl; lists = λ l. refl; fit = λ f. f }
+as-plain values used (item.Amount WidthTo a) h e n rest = record { row = refl; lists = λ l. refl; fit = λ f. f }
+as-plain values used (item.Amount WidthUp a) h e n rest = record { row = refl; lists = λ l. refl; fit = λ f. f }
+as-plain values used (item.Amount WidthDown a) h e n rest = record { row = refl; lists = λ l. refl; fit = λ f. f }
+as-plain values used (item.Amount WidthTimes a) h e n rest = record { row = refl; lists = λ l. refl; fit = λ f. f }
+as-plain values used (item.Amount WidthOver a) h e n rest = record { row = refl; lists = λ l. refl; fit = λ f. f }
 as-plain values used item.WidthKept h e n rest = record { row = refl; lists = λ l. refl; fit = λ f. f }
-as-plain values used (item.WidthTo a) h e n rest = record { row = refl; lists = λ l. refl; fit = λ f. f }
-as-plain values used (item.WidthUp a) h e n rest = record { row = refl; lists = λ l. refl; fit = λ f. f }
-as-plain values used (item.WidthDown a) h e n rest = record { row = refl; lists = λ l. refl; fit = λ f. f }
-as-plain values used (item.WidthTimes a) h e n rest = record { row = refl; lists = λ l. refl; fit = λ f. f }
-as-plain values used (item.WidthOver a) h e n rest = record { row = refl; lists = λ l. refl; fit = λ f. f }
-as-plain values used item.Period h e n rest = absurd (miss plains 21 tt h)
-as-plain values used item.Onward h e n rest = absurd (miss plains 22 tt h)
+as-plain values used item.Period h e n rest = absurd (miss plains 14 tt h)
+as-plain values used item.Onward h e n rest = absurd (miss plains 15 tt h)
 as-plain values used (item.Letter a) h e n rest = absurd (some-or-none n)
 as-plain values used (item.Start a) h e n rest = record { row = refl; lists = λ l. refl; fit = λ f. f }
 as-plain values used (item.Order a) h e n rest = record { row = refl; lists = λ l. refl; fit = λ f. f }
 as-plain values used (item.Trigger a) h e n rest = absurd (some-or-none n)
-as-plain values used (item.Key a) h e n rest = absurd (miss plains 27 tt h)
-as-plain values used (item.StarredKey a) h e n rest = absurd (miss plains 28 tt h)
+as-plain values used (item.Key a) h e n rest = absurd (miss plains 20 tt h)
+as-plain values used (item.StarredKey a) h e n rest = absurd (miss plains 21 tt h)
 
 -- ---- positions
 

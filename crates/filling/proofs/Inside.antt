@@ -56,15 +56,8 @@ inside item.MutedPosition = muted
 inside item.KeptPosition = kept
 inside (item.TonePosition a) = tone
 inside item.AnchorKept = outside refl
-inside (item.AnchorTo a) = outside refl
-inside (item.AnchorUp a) = outside refl
-inside (item.AnchorDown a) = outside refl
+inside (item.Amount a b) = outside refl
 inside item.WidthKept = outside refl
-inside (item.WidthTo a) = outside refl
-inside (item.WidthUp a) = outside refl
-inside (item.WidthDown a) = outside refl
-inside (item.WidthTimes a) = outside refl
-inside (item.WidthOver a) = outside refl
 inside item.Period = outside refl
 inside item.Onward = outside refl
 inside (item.Letter a) = letter
@@ -81,7 +74,7 @@ tag i = tagOf variants.the-type i
 
 -- the variants but those of terms
 abbrev pub noTerms : List ℕ
-noTerms = 0 ∷ 1 ∷ 2 ∷ 5 ∷ 6 ∷ 7 ∷ 8 ∷ 9 ∷ 10 ∷ 11 ∷ 12 ∷ 13 ∷ 14 ∷ 15 ∷ 16 ∷ 17 ∷ 18 ∷ 19 ∷ 20 ∷ 21 ∷ 22 ∷ 23 ∷ 24 ∷ 25 ∷ 26 ∷ 27 ∷ 28 ∷ []
+noTerms = 0 ∷ 1 ∷ 2 ∷ 5 ∷ 6 ∷ 7 ∷ 8 ∷ 9 ∷ 10 ∷ 11 ∷ 12 ∷ 13 ∷ 14 ∷ 15 ∷ 16 ∷ 17 ∷ 18 ∷ 19 ∷ 20 ∷ 21 ∷ []
 
 pub no-term : {i : Item} → Inside i → OneOf noTerms (tag i) → termThen (part i) [] ≡ []
 no-term add h = absurd (miss noTerms 3 tt h)
@@ -99,7 +92,7 @@ no-term (outside o) h = ap (λ (q : AsListed). withTerm q []) o
 
 -- but those of a tone system's positions
 abbrev pub noPlaces : List ℕ
-noPlaces = 0 ∷ 1 ∷ 2 ∷ 3 ∷ 4 ∷ 5 ∷ 6 ∷ 7 ∷ 9 ∷ 11 ∷ 12 ∷ 13 ∷ 14 ∷ 15 ∷ 16 ∷ 17 ∷ 18 ∷ 19 ∷ 20 ∷ 21 ∷ 22 ∷ 23 ∷ 24 ∷ 25 ∷ 26 ∷ 27 ∷ 28 ∷ []
+noPlaces = 0 ∷ 1 ∷ 2 ∷ 3 ∷ 4 ∷ 5 ∷ 6 ∷ 7 ∷ 9 ∷ 11 ∷ 12 ∷ 13 ∷ 14 ∷ 15 ∷ 16 ∷ 17 ∷ 18 ∷ 19 ∷ 20 ∷ 21 ∷ []
 
 pub no-place : {i : Item} → Inside i → OneOf noPlaces (tag i) → systemPositionThen (part i) [] ≡ []
 no-place add h = refl
@@ -117,7 +110,7 @@ no-place (outside o) h = ap (λ (q : AsListed). withSystemPosition q []) o
 
 -- but those with which positions of a tones retuning begin
 abbrev pub noPositions : List ℕ
-noPositions = 0 ∷ 1 ∷ 2 ∷ 3 ∷ 4 ∷ 5 ∷ 6 ∷ 7 ∷ 11 ∷ 12 ∷ 13 ∷ 14 ∷ 15 ∷ 16 ∷ 17 ∷ 18 ∷ 19 ∷ 20 ∷ 21 ∷ 22 ∷ 23 ∷ 24 ∷ 25 ∷ 26 ∷ 27 ∷ 28 ∷ []
+noPositions = 0 ∷ 1 ∷ 2 ∷ 3 ∷ 4 ∷ 5 ∷ 6 ∷ 7 ∷ 11 ∷ 12 ∷ 13 ∷ 14 ∷ 15 ∷ 16 ∷ 17 ∷ 18 ∷ 19 ∷ 20 ∷ 21 ∷ []
 
 pub no-position : {i : Item} → Inside i → OneOf noPositions (tag i) → (ts : List Term) → positionBy (part i) ts ≡ []
 no-position add h ts = refl
@@ -135,7 +128,7 @@ no-position (outside o) h ts = ap (λ (q : AsListed). withGroup q (record { befo
 
 -- but a trigger
 abbrev pub noTriggers : List ℕ
-noTriggers = 0 ∷ 1 ∷ 2 ∷ 3 ∷ 4 ∷ 5 ∷ 6 ∷ 7 ∷ 8 ∷ 9 ∷ 10 ∷ 11 ∷ 12 ∷ 13 ∷ 14 ∷ 15 ∷ 16 ∷ 17 ∷ 18 ∷ 19 ∷ 20 ∷ 21 ∷ 22 ∷ 24 ∷ 25 ∷ 27 ∷ 28 ∷ []
+noTriggers = 0 ∷ 1 ∷ 2 ∷ 3 ∷ 4 ∷ 5 ∷ 6 ∷ 7 ∷ 8 ∷ 9 ∷ 10 ∷ 11 ∷ 12 ∷ 13 ∷ 14 ∷ 15 ∷ 17 ∷ 18 ∷ 20 ∷ 21 ∷ []
 
 pub no-trigger : {i : Item} → Inside i → OneOf noTriggers (tag i) → asTrigger (asListed (part i)) ≡ none
 no-trigger add h = refl
@@ -143,17 +136,17 @@ no-trigger subtract h = refl
 no-trigger muted h = refl
 no-trigger kept h = refl
 no-trigger tone h = refl
-no-trigger letter h = absurd (miss noTriggers 23 tt h)
+no-trigger letter h = absurd (miss noTriggers 16 tt h)
 no-trigger start h = refl
 no-trigger order h = refl
-no-trigger trigger h = absurd (miss noTriggers 26 tt h)
+no-trigger trigger h = absurd (miss noTriggers 19 tt h)
 no-trigger key h = refl
 no-trigger starred h = refl
 no-trigger (outside o) h = ap asTrigger o
 
 -- but what an order calls
 abbrev pub noCalls : List ℕ
-noCalls = 0 ∷ 1 ∷ 2 ∷ 3 ∷ 4 ∷ 5 ∷ 6 ∷ 7 ∷ 8 ∷ 9 ∷ 10 ∷ 11 ∷ 12 ∷ 13 ∷ 14 ∷ 15 ∷ 16 ∷ 17 ∷ 18 ∷ 19 ∷ 20 ∷ 21 ∷ 22 ∷ 23 ∷ 24 ∷ 26 ∷ 27 ∷ 28 ∷ []
+noCalls = 0 ∷ 1 ∷ 2 ∷ 3 ∷ 4 ∷ 5 ∷ 6 ∷ 7 ∷ 8 ∷ 9 ∷ 10 ∷ 11 ∷ 12 ∷ 13 ∷ 14 ∷ 15 ∷ 16 ∷ 17 ∷ 19 ∷ 20 ∷ 21 ∷ []
 
 -- before a trigger no call waits
 trigger-call : (x : Trigger) (called : Option ℕ) (l : List Order) → triggeredBy x called l .call ≡ none
@@ -168,7 +161,7 @@ no-call kept h g = refl
 no-call tone h g = refl
 no-call (letter {c}) h g = trigger-call (byLetter c) (g .call) (g .orders)
 no-call start h g = refl
-no-call order h g = absurd (miss noCalls 25 tt h)
+no-call order h g = absurd (miss noCalls 18 tt h)
 no-call (trigger {n}) h g = trigger-call (byHarmony n) (g .call) (g .orders)
 no-call key h g = refl
 no-call starred h g = refl
@@ -176,7 +169,7 @@ no-call (outside o) h g = ap (λ (q : AsListed). withOrder q g .call) o
 
 -- but a start
 abbrev pub noStarts : List ℕ
-noStarts = 0 ∷ 1 ∷ 2 ∷ 3 ∷ 4 ∷ 5 ∷ 6 ∷ 7 ∷ 8 ∷ 9 ∷ 10 ∷ 11 ∷ 12 ∷ 13 ∷ 14 ∷ 15 ∷ 16 ∷ 17 ∷ 18 ∷ 19 ∷ 20 ∷ 21 ∷ 22 ∷ 23 ∷ 25 ∷ 26 ∷ 27 ∷ 28 ∷ []
+noStarts = 0 ∷ 1 ∷ 2 ∷ 3 ∷ 4 ∷ 5 ∷ 6 ∷ 7 ∷ 8 ∷ 9 ∷ 10 ∷ 11 ∷ 12 ∷ 13 ∷ 14 ∷ 15 ∷ 16 ∷ 18 ∷ 19 ∷ 20 ∷ 21 ∷ []
 
 pub no-start : {i : Item} → Inside i → OneOf noStarts (tag i) → (s : Option ℕ) → startThen (part i) s ≡ s
 no-start add h s = refl
@@ -185,7 +178,7 @@ no-start muted h s = refl
 no-start kept h s = refl
 no-start tone h s = refl
 no-start letter h s = refl
-no-start start h s = absurd (miss noStarts 24 tt h)
+no-start start h s = absurd (miss noStarts 17 tt h)
 no-start order h s = refl
 no-start trigger h s = refl
 no-start key h s = refl
@@ -194,7 +187,7 @@ no-start (outside o) h s = ap (λ (q : AsListed). withStart q s) o
 
 -- but a key of a harmony
 abbrev pub noKeys : List ℕ
-noKeys = 0 ∷ 1 ∷ 2 ∷ 3 ∷ 4 ∷ 5 ∷ 6 ∷ 7 ∷ 8 ∷ 9 ∷ 10 ∷ 11 ∷ 12 ∷ 13 ∷ 14 ∷ 15 ∷ 16 ∷ 17 ∷ 18 ∷ 19 ∷ 20 ∷ 21 ∷ 22 ∷ 23 ∷ 24 ∷ 25 ∷ 26 ∷ []
+noKeys = 0 ∷ 1 ∷ 2 ∷ 3 ∷ 4 ∷ 5 ∷ 6 ∷ 7 ∷ 8 ∷ 9 ∷ 10 ∷ 11 ∷ 12 ∷ 13 ∷ 14 ∷ 15 ∷ 16 ∷ 17 ∷ 18 ∷ 19 ∷ []
 
 pub no-key : {i : Item} → Inside i → OneOf noKeys (tag i) → keyThen (part i) [] ≡ []
 no-key add h = refl
@@ -206,8 +199,8 @@ no-key letter h = refl
 no-key start h = refl
 no-key order h = refl
 no-key trigger h = refl
-no-key key h = absurd (miss noKeys 27 tt h)
-no-key starred h = absurd (miss noKeys 28 tt h)
+no-key key h = absurd (miss noKeys 20 tt h)
+no-key starred h = absurd (miss noKeys 21 tt h)
 no-key (outside o) h = ap (λ (q : AsListed). withKey q []) o
 
 -- ---- one that is none of them begins no position

@@ -9,6 +9,7 @@ use crate::triggers::TriggerHere;
 use crate::triggers::code_of;
 use crate::triggers::read_trigger;
 use cents::KeyNumber;
+use grammar::Form;
 use grammar::Item;
 use grammar::items;
 use tables::CHANGES_AT;
@@ -28,9 +29,10 @@ use tuning::Retuning;
 ghost use mathlib.Core.Path.{_≡_};
 ghost use mathlib.Core.List.{[], _∷_};
 ghost use Prim.Native.Nat.{_+_, _≤_, _<_};
+ghost use lib.IntN.{pos};
 ghost use lib.ListN.{length};
 ghost use Rattle.tables.specs.Layout.{tablesIn, triggersIn, callsIn, mostRows, mostOrders, soundingOf, pitchOf, changeCode, changeNumber};
-ghost use Rattle.program.specs.Program.{declarationOf, periodOf, tones, grouped, startOf, ordersOf, keysOf};
+ghost use Rattle.program.specs.Program.{asking, declarationOf, periodOf, tones, grouped, startOf, ordersOf, keysOf};
 ghost use Rattle.harmonies.specs.Harmonies.{harmonyOf};
 ghost use Rattle.valuation.specs.Inner.{itemsBetween};
 ghost use Rattle.tables.specs.Values.{Slices};
@@ -58,6 +60,22 @@ fn make_width(amount: Amount) -> Row
     }
 }
 
+// The row of an anchor or width retuning with its n.
+fn make_asking(form: Form, n: u16) -> Row
+    ensures { λ r. ⌜ r ≡ plainRow (pos 0) (asking form n) ⌝ }
+{
+    match form {
+        Form::AnchorTo => make_anchor(Amount::Absolute(n)),
+        Form::AnchorUp => make_anchor(Amount::Relative(Operator::Plus, n)),
+        Form::AnchorDown => make_anchor(Amount::Relative(Operator::Minus, n)),
+        Form::WidthTo => make_width(Amount::Absolute(n)),
+        Form::WidthUp => make_width(Amount::Relative(Operator::Plus, n)),
+        Form::WidthDown => make_width(Amount::Relative(Operator::Minus, n)),
+        Form::WidthTimes => make_width(Amount::Relative(Operator::Times, n)),
+        Form::WidthOver => make_width(Amount::Relative(Operator::Divide, n)),
+    }
+}
+
 // The row of a declaration with no list and no sum of its own.
 fn make_plain(item: Item, values: &[i64], row: usize) -> Row
     requires { ⌜ FitValue (now values) row ⌝ }
@@ -68,15 +86,8 @@ fn make_plain(item: Item, values: &[i64], row: usize) -> Row
         Item::Frequency(_) => Row::Tone(pitch_at(values, row)),
         Item::Base(_) => Row::Tone(pitch_at(values, row)),
         Item::AnchorKept => make_anchor(Amount::Kept),
-        Item::AnchorTo(n) => make_anchor(Amount::Absolute(n as u16)),
-        Item::AnchorUp(n) => make_anchor(Amount::Relative(Operator::Plus, n as u16)),
-        Item::AnchorDown(n) => make_anchor(Amount::Relative(Operator::Minus, n as u16)),
         Item::WidthKept => make_width(Amount::Kept),
-        Item::WidthTo(n) => make_width(Amount::Absolute(n as u16)),
-        Item::WidthUp(n) => make_width(Amount::Relative(Operator::Plus, n as u16)),
-        Item::WidthDown(n) => make_width(Amount::Relative(Operator::Minus, n as u16)),
-        Item::WidthTimes(n) => make_width(Amount::Relative(Operator::Times, n as u16)),
-        Item::WidthOver(n) => make_width(Amount::Relative(Operator::Divide, n as u16)),
+        Item::Amount(form, n) => make_asking(form, n as u16),
         _ => Row::Interval(interval_at(values, row)),
     }
 }

@@ -3,8 +3,9 @@ use mathlib.Core.Path.{_≡_, refl}
 use mathlib.Core.Bool.{true, false}
 use Prim.Native.Nat.{_+_}
 use Rattle.grammar.specs.declared.Kind.the-variants.{Interval, Tone, System, Retuning, Logic, Order as AnOrder, Harmony}
+use Rattle.grammar.specs.declared.Form.the-variants.{AnchorTo, AnchorUp, AnchorDown, WidthTo, WidthUp, WidthDown, WidthTimes, WidthOver}
 use Rattle.grammar.specs.declared.NumberUse.{NumberUse}
-use Rattle.grammar.specs.declared.NumberUse.the-variants.{RatioFirst, RatioSecond, Degree, Radicand, FirstFactor, Factor, Frequency, AnchorKey, AnchorTo, AnchorUp, AnchorDown, WidthTo, WidthUp, WidthDown, WidthTimes, WidthOver, Key, StarredKey}
+use Rattle.grammar.specs.declared.NumberUse.the-variants.{RatioFirst, RatioSecond, Degree, Radicand, FirstFactor, Factor, Frequency, AnchorKey, Amount, Key, StarredKey}
 use Rattle.grammar.specs.declared.NameUse.the-variants.{Term, Base, Position, Start, Order, Trigger, CountedTrigger}
 use Rattle.grammar.specs.declared.MarkUse.the-variants.{MutedPosition, KeptPosition, KeptAnchor, KeptWidth, Period, Onward, Star}
 use Rattle.grammar.specs.declared.Action.{Action}
@@ -22,14 +23,14 @@ uses FirstFactor = (refl, refl)
 uses Factor = (refl, refl)
 uses Frequency = (refl, refl)
 uses AnchorKey = (refl, refl)
-uses AnchorTo = (refl, refl)
-uses AnchorUp = (refl, refl)
-uses AnchorDown = (refl, refl)
-uses WidthTo = (refl, refl)
-uses WidthUp = (refl, refl)
-uses WidthDown = (refl, refl)
-uses WidthTimes = (refl, refl)
-uses WidthOver = (refl, refl)
+uses (Amount AnchorTo) = (refl, refl)
+uses (Amount AnchorUp) = (refl, refl)
+uses (Amount AnchorDown) = (refl, refl)
+uses (Amount WidthTo) = (refl, refl)
+uses (Amount WidthUp) = (refl, refl)
+uses (Amount WidthDown) = (refl, refl)
+uses (Amount WidthTimes) = (refl, refl)
+uses (Amount WidthOver) = (refl, refl)
 uses Key = (refl, refl)
 uses StarredKey = (refl, refl)
 

@@ -14,7 +14,7 @@ use Rattle.numerals.specs.declared.WrittenNumber.{WrittenNumber}
 use Rattle.numerals.specs.declared.WrittenNumber.the-variants.{Outside, Value}
 use Rattle.grammar.specs.declared.Kind.the-variants.{Order as AnOrder}
 use Rattle.grammar.specs.declared.NumberUse.{NumberUse}
-use Rattle.grammar.specs.declared.NumberUse.the-variants.{RatioFirst, RatioSecond, Degree, Radicand, FirstFactor, Factor, Frequency, AnchorKey, AnchorTo, AnchorUp, AnchorDown, WidthTo, WidthUp, WidthDown, WidthTimes, WidthOver, Key, StarredKey}
+use Rattle.grammar.specs.declared.NumberUse.the-variants.{RatioFirst, RatioSecond, Degree, Radicand, FirstFactor, Factor, Frequency, AnchorKey, Amount, Key, StarredKey}
 use Rattle.grammar.specs.declared.NameUse.the-variants.{Term, Base, Position, Start, Order, Trigger, CountedTrigger}
 use Rattle.grammar.specs.declared.MarkUse.the-variants.{MutedPosition, KeptPosition, KeptAnchor, KeptWidth, Period, Onward, Star}
 use Rattle.grammar.specs.declared.Action.{Action}
@@ -88,14 +88,7 @@ module _ (text : List ℕ) (s : Progress) (x : Span) where
   used-why a Factor v k = tt
   used-why a Frequency v k = tt
   used-why a AnchorKey v k = tt
-  used-why a AnchorTo v k = tt
-  used-why a AnchorUp v k = tt
-  used-why a AnchorDown v k = tt
-  used-why a WidthTo v k = tt
-  used-why a WidthUp v k = tt
-  used-why a WidthDown v k = tt
-  used-why a WidthTimes v k = tt
-  used-why a WidthOver v k = tt
+  used-why a (Amount f) v k = tt
   used-why a Key v k = key-why a v _ (k plain)
   used-why a StarredKey v k = key-why a v _ (k starred)
 

@@ -8,11 +8,23 @@ use native.Mathlib.Omega.{arith}
 use lib.ListN.{length, getD, set, drop, length-append, length-drop, length-set, List·getD-eq-default}
 use lib.Seq.{sets, sets-eq, set-out, take-at, drop-append-add, drop-drop}
 use Rattle.grammar.specs.declared.Kind.the-variants.{Interval, Tone, System, Retuning, Logic, Order as AnOrder, Harmony}
+use Rattle.grammar.specs.declared.Form.{Form}
+use Rattle.grammar.specs.declared.Form.the-variants.{AnchorTo, AnchorUp, AnchorDown, WidthTo, WidthUp, WidthDown, WidthTimes, WidthOver}
 use Rattle.grammar.specs.declared.Item.{Item}
-use Rattle.grammar.specs.declared.Item.the-variants.{Declared, Ratio, Root, Add, Subtract, Frequency, Base, AnchorKey, MutedPosition, KeptPosition, TonePosition, AnchorKept, AnchorTo, AnchorUp, AnchorDown, WidthKept, WidthTo, WidthUp, WidthDown, WidthTimes, WidthOver, Period, Onward, Letter, Start, Order, Trigger, Key, StarredKey}
-use Rattle.grammar.specs.Items.{code, value, place, row, rowSize, rows, holding, itemOf, itemAt}
+use Rattle.grammar.specs.declared.Item.the-variants.{Declared, Ratio, Root, Add, Subtract, Frequency, Base, AnchorKey, MutedPosition, KeptPosition, TonePosition, AnchorKept, WidthKept, Amount, Period, Onward, Letter, Start, Order, Trigger, Key, StarredKey}
+use Rattle.grammar.specs.Items.{formAt, formNumber, code, value, place, row, rowSize, rows, holding, itemOf, itemAt}
 
 -- ---- an item comes back from its numbers
+
+pub form-back : (f : Form) → formAt (formNumber f) ≡ f
+form-back AnchorTo = refl
+form-back AnchorUp = refl
+form-back AnchorDown = refl
+form-back WidthTo = refl
+form-back WidthUp = refl
+form-back WidthDown = refl
+form-back WidthTimes = refl
+form-back WidthOver = refl
 
 pub item-back : (i : Item) → itemOf (code i) (value i) (place i) ≡ i
 unfolding itemOf
@@ -34,15 +46,8 @@ item-back MutedPosition = refl
 item-back KeptPosition = refl
 item-back (TonePosition p) = refl
 item-back AnchorKept = refl
-item-back (AnchorTo n) = refl
-item-back (AnchorUp n) = refl
-item-back (AnchorDown n) = refl
+item-back (Amount f n) = ap (λ (g : Form). Amount g n) (form-back f)
 item-back WidthKept = refl
-item-back (WidthTo n) = refl
-item-back (WidthUp n) = refl
-item-back (WidthDown n) = refl
-item-back (WidthTimes n) = refl
-item-back (WidthOver n) = refl
 item-back Period = refl
 item-back Onward = refl
 item-back (Letter c) = refl

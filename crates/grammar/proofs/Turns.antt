@@ -28,7 +28,7 @@ use Rattle.symbols.proofs.Progress.{Placed as Within, next-placed, after-within
 use Rattle.grammar.specs.declared.Kind.{Kind}
 use Rattle.grammar.specs.declared.Kind.the-variants.{Order as AnOrder}
 use Rattle.grammar.specs.declared.NumberUse.{NumberUse}
-use Rattle.grammar.specs.declared.NumberUse.the-variants.{RatioFirst, RatioSecond, Degree, Radicand, FirstFactor, Factor, Frequency, AnchorKey, AnchorTo, AnchorUp, AnchorDown, WidthTo, WidthUp, WidthDown, WidthTimes, WidthOver, Key, StarredKey}
+use Rattle.grammar.specs.declared.NumberUse.the-variants.{RatioFirst, RatioSecond, Degree, Radicand, FirstFactor, Factor, Frequency, AnchorKey, Amount, Key, StarredKey}
 use Rattle.grammar.specs.declared.NameUse.the-variants.{Term, Base, Position, Start, Order, Trigger, CountedTrigger}
 use Rattle.grammar.specs.declared.MarkUse.the-variants.{MutedPosition, KeptPosition, KeptAnchor, KeptWidth, Period, Onward, Star}
 use Rattle.grammar.specs.declared.Action.{Action}
@@ -111,14 +111,7 @@ used-grown s FirstFactor v x = omega arith
 used-grown s Factor v x = omega arith
 used-grown s Frequency v x = omega arith
 used-grown s AnchorKey v x = omega arith
-used-grown s AnchorTo v x = omega arith
-used-grown s AnchorUp v x = omega arith
-used-grown s AnchorDown v x = omega arith
-used-grown s WidthTo v x = omega arith
-used-grown s WidthUp v x = omega arith
-used-grown s WidthDown v x = omega arith
-used-grown s WidthTimes v x = omega arith
-used-grown s WidthOver v x = omega arith
+used-grown s (Amount f) v x = omega arith
 used-grown s Key v x = key-grown s v _ x
 used-grown s StarredKey v x = key-grown s v _ x
 

@@ -5,8 +5,10 @@ use lib.ListN.{length, drop, getD}
 use Rattle.grammar.specs.declared.Kind.{Kind}
 use Rattle.grammar.specs.declared.Kind.the-variants.{Interval, Tone, System, Retuning, Logic, Order as AnOrder, Harmony}
 use Rattle.grammar.specs.Reading.{mostBytes}
+use Rattle.grammar.specs.declared.Form.{Form}
+use Rattle.grammar.specs.declared.Form.the-variants.{AnchorTo, AnchorUp, AnchorDown, WidthTo, WidthUp, WidthDown, WidthTimes, WidthOver}
 use Rattle.grammar.specs.declared.Item.{Item}
-use Rattle.grammar.specs.declared.Item.the-variants.{Declared, Ratio, Root, Add, Subtract, Frequency, Base, AnchorKey, MutedPosition, KeptPosition, TonePosition, AnchorKept, AnchorTo, AnchorUp, AnchorDown, WidthKept, WidthTo, WidthUp, WidthDown, WidthTimes, WidthOver, Period, Onward, Letter, Start, Order, Trigger, Key, StarredKey}
+use Rattle.grammar.specs.declared.Item.the-variants.{Declared, Ratio, Root, Add, Subtract, Frequency, Base, AnchorKey, MutedPosition, KeptPosition, TonePosition, AnchorKept, WidthKept, Amount, Period, Onward, Letter, Start, Order, Trigger, Key, StarredKey}
 
 -- the number of an item's variant
 abbrev pub declaredCode : Kind → ℕ
@@ -16,9 +18,26 @@ declaredCode System = 3
 declaredCode Retuning = 4
 declaredCode Logic = 5
 declaredCode AnOrder = 6
-declaredCode Harmony = 32
+declaredCode Harmony = 25
 
--- an item in three numbers: that of its variant, its number if it has one, and a name's place or a second number
+-- the forms with an n by number, and the number of one
+abbrev pub forms : List Form
+forms = AnchorTo ∷ AnchorUp ∷ AnchorDown ∷ WidthTo ∷ WidthUp ∷ WidthDown ∷ WidthTimes ∷ WidthOver ∷ []
+
+abbrev pub formAt : ℕ → Form
+formAt n = getD forms n AnchorTo
+
+abbrev pub formNumber : Form → ℕ
+formNumber AnchorTo = 0
+formNumber AnchorUp = 1
+formNumber AnchorDown = 2
+formNumber WidthTo = 3
+formNumber WidthUp = 4
+formNumber WidthDown = 5
+formNumber WidthTimes = 6
+formNumber WidthOver = 7
+
+-- an item in three numbers: that of its variant, its number or its form's if it has one, and a name's place or a second number
 pub record Cells : Type 0 where
   pub code : ℕ
   pub value : ℕ
@@ -40,23 +59,16 @@ cells MutedPosition = cellsOf 14 0 0
 cells KeptPosition = cellsOf 15 0 0
 cells (TonePosition p) = cellsOf 16 0 p
 cells AnchorKept = cellsOf 17 0 0
-cells (AnchorTo n) = cellsOf 18 n 0
-cells (AnchorUp n) = cellsOf 19 n 0
-cells (AnchorDown n) = cellsOf 20 n 0
-cells WidthKept = cellsOf 21 0 0
-cells (WidthTo n) = cellsOf 22 n 0
-cells (WidthUp n) = cellsOf 23 n 0
-cells (WidthDown n) = cellsOf 24 n 0
-cells (WidthTimes n) = cellsOf 25 n 0
-cells (WidthOver n) = cellsOf 26 n 0
-cells Period = cellsOf 27 0 0
-cells Onward = cellsOf 28 0 0
-cells (Letter c) = cellsOf 29 c 0
-cells (Start p) = cellsOf 30 0 p
-cells (Order p) = cellsOf 31 0 p
-cells (Trigger p) = cellsOf 33 0 p
-cells (Key v) = cellsOf 34 v 0
-cells (StarredKey v) = cellsOf 35 v 0
+cells WidthKept = cellsOf 18 0 0
+cells (Amount f n) = cellsOf 19 (formNumber f) n
+cells Period = cellsOf 20 0 0
+cells Onward = cellsOf 21 0 0
+cells (Letter c) = cellsOf 22 c 0
+cells (Start p) = cellsOf 23 0 p
+cells (Order p) = cellsOf 24 0 p
+cells (Trigger p) = cellsOf 26 0 p
+cells (Key v) = cellsOf 27 v 0
+cells (StarredKey v) = cellsOf 28 v 0
 
 abbrev pub code : Item → ℕ
 code i = cells i .code
@@ -96,8 +108,7 @@ variants v p =
     ∷ Declared Interval p ∷ Declared Tone p ∷ Declared System p ∷ Declared Retuning p ∷ Declared Logic p ∷ Declared AnOrder p
     ∷ Ratio v p ∷ Root v p ∷ Add v p ∷ Subtract v p ∷ Frequency v ∷ Base p
     ∷ AnchorKey v ∷ MutedPosition ∷ KeptPosition ∷ TonePosition p
-    ∷ AnchorKept ∷ AnchorTo v ∷ AnchorUp v ∷ AnchorDown v
-    ∷ WidthKept ∷ WidthTo v ∷ WidthUp v ∷ WidthDown v ∷ WidthTimes v ∷ WidthOver v
+    ∷ AnchorKept ∷ WidthKept ∷ Amount (formAt v) p
     ∷ Period ∷ Onward ∷ Letter v ∷ Start p ∷ Order p
     ∷ Declared Harmony p ∷ Trigger p ∷ Key v ∷ StarredKey v ∷ []
 

@@ -8,8 +8,9 @@ use lib.Dec.{eqb}
 use lib.ListN.{getD}
 use Rattle.grammar.specs.declared.Kind.{Kind}
 use Rattle.grammar.specs.declared.Kind.the-variants.{Interval, Tone, System, Retuning, Logic, Order as AnOrder, Harmony}
+use Rattle.grammar.specs.declared.Form.the-variants.{AnchorTo, AnchorUp, AnchorDown, WidthTo, WidthUp, WidthDown, WidthTimes, WidthOver}
 use Rattle.grammar.specs.declared.NumberUse.{NumberUse}
-use Rattle.grammar.specs.declared.NumberUse.the-variants.{RatioFirst, RatioSecond, Degree, Radicand, FirstFactor, Factor, Frequency, AnchorKey, AnchorTo, AnchorUp, AnchorDown, WidthTo, WidthUp, WidthDown, WidthTimes, WidthOver, Key, StarredKey}
+use Rattle.grammar.specs.declared.NumberUse.the-variants.{RatioFirst, RatioSecond, Degree, Radicand, FirstFactor, Factor, Frequency, AnchorKey, Amount, Key, StarredKey}
 use Rattle.grammar.specs.declared.NameUse.{NameUse}
 use Rattle.grammar.specs.declared.NameUse.the-variants.{Term, Base, Position, Start, Order, Trigger, CountedTrigger}
 use Rattle.grammar.specs.declared.MarkUse.{MarkUse}
@@ -20,6 +21,7 @@ use Rattle.grammar.specs.declared.moves.Move.{Move}
 use Rattle.grammar.specs.declared.moves.Move.the-variants.{Missing, To}
 use Rattle.grammar.specs.Syntax.{Terminal, interval, tone, tonesystem, retuning, logic, key, root, harmony, unused, letter, name, number, equals, colon, plus, minus, times, divide, opening, closing, comma, at, braceOpen, braceClose, widthOpen, widthClose, arrow, end, nothing, Node, Begin, Finish, IntervalName, IntervalEquals, IntervalBody, IntervalKind, SecondPart, RootRadicand, IntervalSign, IntervalTerm, IntervalTermName, IntervalNext, ToneName, ToneEquals, ToneBody, ToneSign, ToneTerm, ToneTermName, ToneNext, SystemName, SystemEquals, SystemAnchor, SystemOpen, SystemFirst, SystemPosition, SystemComma, SystemPeriod, SystemSign, SystemTerm, SystemTermName, RetuningName, RetuningEquals, RetuningBody, RetuningInside, RetuningNext, AnchorOperator, AnchorPlusNumber, AnchorMinusNumber, AnchorOpen, AnchorClose, WidthBody, WidthOperator, WidthPlusNumber, WidthMinusNumber, WidthTimesNumber, WidthOverNumber, WidthClose, WidthBracket, PeriodBody, PeriodSign, PeriodTerm, PeriodTermName, TonesSign, TonesTerm, TonesTermName, TonesPosition, LogicName, LogicTrigger, LogicLetter, LogicEquals, LogicStart, LogicOpen, OrderTrigger, OrderLetter, OrderArrow, OrderName, LogicNext, HarmonyName, HarmonyEquals, HarmonyOpen, HarmonyKey, HarmonyStarred, HarmonyComma, HarmonyNext, Rule, rules}
 use Rattle.grammar.specs.Terminals.{terminalNumber, picked}
+use Rattle.grammar.specs.Items.{formNumber}
 
 -- ---- nodes and terminals
 
@@ -136,8 +138,8 @@ kinds = Interval ∷ Tone ∷ System ∷ Retuning ∷ Logic ∷ AnOrder ∷ Harm
 
 abbrev pub numberUses : List NumberUse
 numberUses =
-    RatioFirst ∷ RatioSecond ∷ Degree ∷ Radicand ∷ FirstFactor ∷ Factor ∷ Frequency ∷ AnchorKey ∷ AnchorTo ∷ AnchorUp ∷ AnchorDown
-    ∷ WidthTo ∷ WidthUp ∷ WidthDown ∷ WidthTimes ∷ WidthOver ∷ Key ∷ StarredKey ∷ []
+    RatioFirst ∷ RatioSecond ∷ Degree ∷ Radicand ∷ FirstFactor ∷ Factor ∷ Frequency ∷ AnchorKey ∷ Amount AnchorTo ∷ Amount AnchorUp
+    ∷ Amount AnchorDown ∷ Amount WidthTo ∷ Amount WidthUp ∷ Amount WidthDown ∷ Amount WidthTimes ∷ Amount WidthOver ∷ Key ∷ StarredKey ∷ []
 
 abbrev pub nameUses : List NameUse
 nameUses = Term ∷ Base ∷ Position ∷ Start ∷ Order ∷ Trigger ∷ CountedTrigger ∷ []
@@ -183,14 +185,7 @@ numberUseNumber FirstFactor = 4
 numberUseNumber Factor = 5
 numberUseNumber Frequency = 6
 numberUseNumber AnchorKey = 7
-numberUseNumber AnchorTo = 8
-numberUseNumber AnchorUp = 9
-numberUseNumber AnchorDown = 10
-numberUseNumber WidthTo = 11
-numberUseNumber WidthUp = 12
-numberUseNumber WidthDown = 13
-numberUseNumber WidthTimes = 14
-numberUseNumber WidthOver = 15
+numberUseNumber (Amount f) = 8 + formNumber f
 numberUseNumber Key = 16
 numberUseNumber StarredKey = 17
 

@@ -12,8 +12,10 @@ use Rattle.numerals.specs.declared.WrittenNumber.{WrittenNumber}
 use Rattle.numerals.specs.declared.WrittenNumber.the-variants.{Outside, Value}
 use Rattle.grammar.specs.declared.Kind.{Kind}
 use Rattle.grammar.specs.declared.Kind.the-variants.{Interval, Tone, System, Retuning, Logic, Order as AnOrder, Harmony}
+use Rattle.grammar.specs.declared.Form.{Form}
+use Rattle.grammar.specs.declared.Form.the-variants.{AnchorTo, AnchorUp, AnchorDown, WidthTo, WidthUp, WidthDown, WidthTimes, WidthOver}
 use Rattle.grammar.specs.declared.NumberUse.{NumberUse}
-use Rattle.grammar.specs.declared.NumberUse.the-variants.{RatioFirst, RatioSecond, Degree, Radicand, FirstFactor, Factor, Frequency, AnchorKey, AnchorTo, AnchorUp, AnchorDown, WidthTo, WidthUp, WidthDown, WidthTimes, WidthOver, Key, StarredKey}
+use Rattle.grammar.specs.declared.NumberUse.the-variants.{RatioFirst, RatioSecond, Degree, Radicand, FirstFactor, Factor, Frequency, AnchorKey, Amount, Key, StarredKey}
 use Rattle.grammar.specs.declared.NumberRange.{NumberRange}
 use Rattle.grammar.specs.declared.NumberRange.the-variants.{Decimal, Whole}
 use Rattle.grammar.specs.declared.NameUse.{NameUse}
@@ -42,8 +44,19 @@ use Rattle.grammar.specs.Terminals.{terminalOf, startOf, spanOf, isNothi
 
 -- ---- "Numbers allowed"
 
+-- "n in anchor and width retunings: whole, 0 to 9,999; after `/` from 1"
+abbrev pub allowedAmount : Form → NumberRange
+allowedAmount AnchorTo = Whole 0 mostAmount
+allowedAmount AnchorUp = Whole 0 mostAmount
+allowedAmount AnchorDown = Whole 0 mostAmount
+allowedAmount WidthTo = Whole 0 mostAmount
+allowedAmount WidthUp = Whole 0 mostAmount
+allowedAmount WidthDown = Whole 0 mostAmount
+allowedAmount WidthTimes = Whole 0 mostAmount
+allowedAmount WidthOver = Whole leastDivisor mostAmount
+
 -- a number by its use: "ratio parts, radicand, frequency .. at most four places", "root degree: whole, 1 to 65,535", "factor: whole, 0 to 999",
--- "anchor in a tone system: whole, 0 to 127", "n in anchor and width retunings: whole, 0 to 9,999; after `/` from 1"; of a harmony "key numbers from 0 to 59"
+-- "anchor in a tone system: whole, 0 to 127"; of a harmony "key numbers from 0 to 59"
 abbrev pub allowed : NumberUse → NumberRange
 allowed RatioFirst = Decimal
 allowed RatioSecond = Decimal
@@ -53,14 +66,7 @@ allowed Degree = Whole leastDegree mostDegree
 allowed FirstFactor = Whole 0 mostFactor
 allowed Factor = Whole 0 mostFactor
 allowed AnchorKey = Whole 0 mostAnchor
-allowed AnchorTo = Whole 0 mostAmount
-allowed AnchorUp = Whole 0 mostAmount
-allowed AnchorDown = Whole 0 mostAmount
-allowed WidthTo = Whole 0 mostAmount
-allowed WidthUp = Whole 0 mostAmount
-allowed WidthDown = Whole 0 mostAmount
-allowed WidthTimes = Whole 0 mostAmount
-allowed WidthOver = Whole leastDivisor mostAmount
+allowed (Amount f) = allowedAmount f
 allowed Key = Whole 0 mostHarmonyKey
 allowed StarredKey = Whole 0 mostHarmonyKey
 
@@ -206,14 +212,7 @@ used s FirstFactor v x = termed s v x
 used s Factor v x = Go (nextTerm (s .term .minus) v (s .term .before) s)
 used s Frequency v x = Give s (item.Frequency v)
 used s AnchorKey v x = Give s (item.AnchorKey v)
-used s AnchorTo v x = Give s (item.AnchorTo v)
-used s AnchorUp v x = Give s (item.AnchorUp v)
-used s AnchorDown v x = Give s (item.AnchorDown v)
-used s WidthTo v x = Give s (item.WidthTo v)
-used s WidthUp v x = Give s (item.WidthUp v)
-used s WidthDown v x = Give s (item.WidthDown v)
-used s WidthTimes v x = Give s (item.WidthTimes v)
-used s WidthOver v x = Give s (item.WidthOver v)
+used s (Amount f) v x = Give s (item.Amount f v)
 used s Key v x = keyNamed s v (item.Key v) x
 used s StarredKey v x = keyNamed s v (item.StarredKey v) x
 

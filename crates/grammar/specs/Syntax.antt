@@ -6,7 +6,8 @@ use Rattle.grammar.specs.declared.Kind.{Kind}
 use Rattle.grammar.specs.declared.Kind.the-variants.{Interval, Tone, System, Retuning, Logic, Harmony}
 use Rattle.grammar.specs.declared.Action.{Action}
 use Rattle.grammar.specs.declared.Action.the-variants.{Pass, Declare, Hold, Held, Number, Sign, Name, Mark, Letter, CountOrder}
-use Rattle.grammar.specs.declared.NumberUse.the-variants.{RatioFirst, RatioSecond, Degree, Radicand, FirstFactor, Factor, Frequency, AnchorKey, AnchorTo, AnchorUp, AnchorDown, WidthTo, WidthUp, WidthDown, WidthTimes, WidthOver, Key, StarredKey}
+use Rattle.grammar.specs.declared.Form.the-variants.{AnchorTo, AnchorUp, AnchorDown, WidthTo, WidthUp, WidthDown, WidthTimes, WidthOver}
+use Rattle.grammar.specs.declared.NumberUse.the-variants.{RatioFirst, RatioSecond, Degree, Radicand, FirstFactor, Factor, Frequency, AnchorKey, Amount, Key, StarredKey}
 use Rattle.grammar.specs.declared.NameUse.the-variants.{Term, Base, Position, Start as CalledAtStart, Order, Trigger, CountedTrigger}
 use Rattle.grammar.specs.declared.MarkUse.the-variants.{MutedPosition, KeptPosition, KeptAnchor, KeptWidth, Period, Onward, Star}
 
@@ -102,26 +103,26 @@ rules SystemTermName = onName SystemSign (Name Term)
 -- RETUNING name = ..
 rules RetuningName = onName RetuningEquals (Declare Retuning)
 rules RetuningEquals = on equals RetuningBody Pass ∷ []
-rules RetuningBody = on number AnchorOpen (Number AnchorTo) ∷ on at AnchorOperator Pass ∷ on opening RetuningInside Pass ∷ []
+rules RetuningBody = on number AnchorOpen (Number (Amount AnchorTo)) ∷ on at AnchorOperator Pass ∷ on opening RetuningInside Pass ∷ []
 rules RetuningInside =
     on widthOpen WidthBody Pass ∷ on closing PeriodBody (Mark Period) ∷ on comma TonesPosition (Mark MutedPosition)
     ∷ on at TonesSign (Mark KeptPosition) ∷ onName TonesSign (Name Position)
 rules RetuningNext = declarations Retuning RetuningEquals
 -- "Anchor: `n [ ]`, `@ [ ]`, `@ + n [ ]`, `@ - n [ ]`."
 rules AnchorOperator = on opening AnchorClose (Mark KeptAnchor) ∷ on plus AnchorPlusNumber Pass ∷ on minus AnchorMinusNumber Pass ∷ []
-rules AnchorPlusNumber = on number AnchorOpen (Number AnchorUp) ∷ []
-rules AnchorMinusNumber = on number AnchorOpen (Number AnchorDown) ∷ []
+rules AnchorPlusNumber = on number AnchorOpen (Number (Amount AnchorUp)) ∷ []
+rules AnchorMinusNumber = on number AnchorOpen (Number (Amount AnchorDown)) ∷ []
 rules AnchorOpen = on opening AnchorClose Pass ∷ []
 rules AnchorClose = on closing RetuningNext Pass ∷ []
 -- "Width: `[ << n >> ]`, `@` or `@` with `+ - * /` and n inside."
-rules WidthBody = on number WidthClose (Number WidthTo) ∷ on at WidthOperator Pass ∷ []
+rules WidthBody = on number WidthClose (Number (Amount WidthTo)) ∷ on at WidthOperator Pass ∷ []
 rules WidthOperator =
     on widthClose WidthBracket (Mark KeptWidth) ∷ on plus WidthPlusNumber Pass ∷ on minus WidthMinusNumber Pass ∷ on times WidthTimesNumber Pass
     ∷ on divide WidthOverNumber Pass ∷ []
-rules WidthPlusNumber = on number WidthClose (Number WidthUp) ∷ []
-rules WidthMinusNumber = on number WidthClose (Number WidthDown) ∷ []
-rules WidthTimesNumber = on number WidthClose (Number WidthTimes) ∷ []
-rules WidthOverNumber = on number WidthClose (Number WidthOver) ∷ []
+rules WidthPlusNumber = on number WidthClose (Number (Amount WidthUp)) ∷ []
+rules WidthMinusNumber = on number WidthClose (Number (Amount WidthDown)) ∷ []
+rules WidthTimesNumber = on number WidthClose (Number (Amount WidthTimes)) ∷ []
+rules WidthOverNumber = on number WidthClose (Number (Amount WidthOver)) ∷ []
 rules WidthClose = on widthClose WidthBracket Pass ∷ []
 rules WidthBracket = on closing RetuningNext Pass ∷ []
 -- "Period: `[ ]` then a sequence, or `@` with any signed terms."

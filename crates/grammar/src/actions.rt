@@ -2,6 +2,7 @@
 use crate::Action;
 use crate::Counts;
 use crate::FirstNumber;
+use crate::Form;
 use crate::Item;
 use crate::Kind;
 use crate::MarkUse;
@@ -39,7 +40,7 @@ ghost use lib.Seq.{slice};
 ghost use Rattle.status.specs.Status.{itemTooMany};
 ghost use Rattle.limits.specs.Limits.{mostHarmonyKey};
 ghost use Rattle.grammar.specs.Terminals.{letterAt};
-ghost use Rattle.grammar.specs.Reading.{allowed, judged, limit, soFar, oneMore, heldFirst, judgedFirst, noTerm, nextTerm, counted, signed, termed, positioned, named, marked, used, numbered, orderCounted, withOrder, keyCounted, keyNamed, acted};
+ghost use Rattle.grammar.specs.Reading.{allowedAmount, allowed, judged, limit, soFar, oneMore, heldFirst, judgedFirst, noTerm, nextTerm, counted, signed, termed, positioned, named, marked, used, numbered, orderCounted, withOrder, keyCounted, keyNamed, acted};
 ghost use Rattle.grammar.specs.Inner.{roomForTerm, inRange};
 
 const MOST_ANCHOR_KEY: u32 = MOST_ANCHOR as u32;
@@ -295,6 +296,22 @@ fn keep_first(mut s: Progress, value: u32) -> Progress
     s
 }
 
+// n in an anchor or width retuning; after `/` from 1.
+fn range_of_amount(form: Form) -> NumberRange
+    ensures { λ r. ⌜ r ≡ allowedAmount form ⌝ }
+{
+    match form {
+        Form::AnchorTo => NumberRange::Whole(0, MOST_AMOUNT),
+        Form::AnchorUp => NumberRange::Whole(0, MOST_AMOUNT),
+        Form::AnchorDown => NumberRange::Whole(0, MOST_AMOUNT),
+        Form::WidthTo => NumberRange::Whole(0, MOST_AMOUNT),
+        Form::WidthUp => NumberRange::Whole(0, MOST_AMOUNT),
+        Form::WidthDown => NumberRange::Whole(0, MOST_AMOUNT),
+        Form::WidthTimes => NumberRange::Whole(0, MOST_AMOUNT),
+        Form::WidthOver => NumberRange::Whole(LEAST_DIVISOR, MOST_AMOUNT),
+    }
+}
+
 fn range_of(purpose: NumberUse) -> NumberRange
     ensures { λ r. ⌜ r ≡ allowed purpose ⌝ }
 {
@@ -307,14 +324,7 @@ fn range_of(purpose: NumberUse) -> NumberRange
         NumberUse::Factor => NumberRange::Whole(0, MOST_FACTOR),
         NumberUse::Frequency => NumberRange::Decimal,
         NumberUse::AnchorKey => NumberRange::Whole(0, MOST_ANCHOR_KEY),
-        NumberUse::AnchorTo => NumberRange::Whole(0, MOST_AMOUNT),
-        NumberUse::AnchorUp => NumberRange::Whole(0, MOST_AMOUNT),
-        NumberUse::AnchorDown => NumberRange::Whole(0, MOST_AMOUNT),
-        NumberUse::WidthTo => NumberRange::Whole(0, MOST_AMOUNT),
-        NumberUse::WidthUp => NumberRange::Whole(0, MOST_AMOUNT),
-        NumberUse::WidthDown => NumberRange::Whole(0, MOST_AMOUNT),
-        NumberUse::WidthTimes => NumberRange::Whole(0, MOST_AMOUNT),
-        NumberUse::WidthOver => NumberRange::Whole(LEAST_DIVISOR, MOST_AMOUNT),
+        NumberUse::Amount(form) => range_of_amount(form),
         NumberUse::Key => NumberRange::Whole(0, LAST_KEY),
         NumberUse::StarredKey => NumberRange::Whole(0, LAST_KEY),
     }
@@ -343,14 +353,7 @@ fn use_number(s: Progress, purpose: NumberUse, value: u32, x: Span) -> Outcome
         NumberUse::Factor => Outcome::Go(await_term(s, s.term.minus, value, s.term.before)),
         NumberUse::Frequency => Outcome::Give(s, Item::Frequency(value)),
         NumberUse::AnchorKey => Outcome::Give(s, Item::AnchorKey(value)),
-        NumberUse::AnchorTo => Outcome::Give(s, Item::AnchorTo(value)),
-        NumberUse::AnchorUp => Outcome::Give(s, Item::AnchorUp(value)),
-        NumberUse::AnchorDown => Outcome::Give(s, Item::AnchorDown(value)),
-        NumberUse::WidthTo => Outcome::Give(s, Item::WidthTo(value)),
-        NumberUse::WidthUp => Outcome::Give(s, Item::WidthUp(value)),
-        NumberUse::WidthDown => Outcome::Give(s, Item::WidthDown(value)),
-        NumberUse::WidthTimes => Outcome::Give(s, Item::WidthTimes(value)),
-        NumberUse::WidthOver => Outcome::Give(s, Item::WidthOver(value)),
+        NumberUse::Amount(form) => Outcome::Give(s, Item::Amount(form, value)),
         NumberUse::Key => name_key(s, value, Item::Key(value), x),
         NumberUse::StarredKey => name_key(s, value, Item::StarredKey(value), x),
     }

@@ -1,11 +1,12 @@
 // Items in a slice: rows of three numbers, one after the other.
+use crate::Form;
 use crate::Item;
 use crate::Kind;
 ghost use mathlib.Core.Path.{_≡_};
 ghost use Prim.Native.Nat.{_+_, _*_};
 ghost use lib.ListN.{getD, set};
 ghost use lib.Seq.{sets};
-ghost use Rattle.grammar.specs.Items.{declaredCode, row, rowSize, itemOf, itemAt};
+ghost use Rattle.grammar.specs.Items.{declaredCode, formNumber, formAt, row, rowSize, itemOf, itemAt};
 
 const ROW_SIZE: usize = 3;
 
@@ -19,11 +20,41 @@ fn declared_code(kind: Kind) -> u32
         Kind::Retuning => 4,
         Kind::Logic => 5,
         Kind::Order => 6,
-        Kind::Harmony => 32,
+        Kind::Harmony => 25,
     }
 }
 
-// The number of an item's variant, its number if it has one, and a name's place or a second number.
+fn form_number(form: Form) -> u32
+    ensures { λ r. ⌜ r ≡ formNumber form ⌝ }
+{
+    match form {
+        Form::AnchorTo => 0,
+        Form::AnchorUp => 1,
+        Form::AnchorDown => 2,
+        Form::WidthTo => 3,
+        Form::WidthUp => 4,
+        Form::WidthDown => 5,
+        Form::WidthTimes => 6,
+        Form::WidthOver => 7,
+    }
+}
+
+fn form_at(number: u32) -> Form
+    ensures { λ r. ⌜ r ≡ formAt number ⌝ }
+{
+    match number {
+        1 => Form::AnchorUp,
+        2 => Form::AnchorDown,
+        3 => Form::WidthTo,
+        4 => Form::WidthUp,
+        5 => Form::WidthDown,
+        6 => Form::WidthTimes,
+        7 => Form::WidthOver,
+        _ => Form::AnchorTo,
+    }
+}
+
+// The number of an item's variant, its number or its form's if it has one, and a name's place or a second number.
 fn row_of(item: Item) -> [u32; 3]
     ensures { λ r. ⌜ r ≡ row item ⌝ }
 {
@@ -40,23 +71,16 @@ fn row_of(item: Item) -> [u32; 3]
         Item::KeptPosition => [15, 0, 0],
         Item::TonePosition(name) => [16, 0, name],
         Item::AnchorKept => [17, 0, 0],
-        Item::AnchorTo(n) => [18, n, 0],
-        Item::AnchorUp(n) => [19, n, 0],
-        Item::AnchorDown(n) => [20, n, 0],
-        Item::WidthKept => [21, 0, 0],
-        Item::WidthTo(n) => [22, n, 0],
-        Item::WidthUp(n) => [23, n, 0],
-        Item::WidthDown(n) => [24, n, 0],
-        Item::WidthTimes(n) => [25, n, 0],
-        Item::WidthOver(n) => [26, n, 0],
-        Item::Period => [27, 0, 0],
-        Item::Onward => [28, 0, 0],
-        Item::Letter(letter) => [29, letter, 0],
-        Item::Start(name) => [30, 0, name],
-        Item::Order(name) => [31, 0, name],
-        Item::Trigger(name) => [33, 0, name],
-        Item::Key(n) => [34, n, 0],
-        Item::StarredKey(n) => [35, n, 0],
+        Item::WidthKept => [18, 0, 0],
+        Item::Amount(form, n) => [19, form_number(form), n],
+        Item::Period => [20, 0, 0],
+        Item::Onward => [21, 0, 0],
+        Item::Letter(letter) => [22, letter, 0],
+        Item::Start(name) => [23, 0, name],
+        Item::Order(name) => [24, 0, name],
+        Item::Trigger(name) => [26, 0, name],
+        Item::Key(n) => [27, n, 0],
+        Item::StarredKey(n) => [28, n, 0],
     }
 }
 
@@ -81,24 +105,17 @@ fn item_of(code: u32, value: u32, place: u32) -> Item
         15 => Item::KeptPosition,
         16 => Item::TonePosition(place),
         17 => Item::AnchorKept,
-        18 => Item::AnchorTo(value),
-        19 => Item::AnchorUp(value),
-        20 => Item::AnchorDown(value),
-        21 => Item::WidthKept,
-        22 => Item::WidthTo(value),
-        23 => Item::WidthUp(value),
-        24 => Item::WidthDown(value),
-        25 => Item::WidthTimes(value),
-        26 => Item::WidthOver(value),
-        27 => Item::Period,
-        28 => Item::Onward,
-        29 => Item::Letter(value),
-        30 => Item::Start(place),
-        31 => Item::Order(place),
-        32 => Item::Declared(Kind::Harmony, place),
-        33 => Item::Trigger(place),
-        34 => Item::Key(value),
-        35 => Item::StarredKey(value),
+        18 => Item::WidthKept,
+        19 => Item::Amount(form_at(value), place),
+        20 => Item::Period,
+        21 => Item::Onward,
+        22 => Item::Letter(value),
+        23 => Item::Start(place),
+        24 => Item::Order(place),
+        25 => Item::Declared(Kind::Harmony, place),
+        26 => Item::Trigger(place),
+        27 => Item::Key(value),
+        28 => Item::StarredKey(value),
         _ => Item::MutedPosition,
     }
 }

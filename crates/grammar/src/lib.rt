@@ -16,6 +16,18 @@ pub enum Kind {
     Harmony,
 }
 
+// The forms of anchor and width retunings that have an n: n itself, or `@` with an operator and n.
+pub enum Form {
+    AnchorTo,
+    AnchorUp,
+    AnchorDown,
+    WidthTo,
+    WidthUp,
+    WidthDown,
+    WidthTimes,
+    WidthOver,
+}
+
 // What a number is for.
 pub enum NumberUse {
     RatioFirst,
@@ -26,14 +38,7 @@ pub enum NumberUse {
     Factor,
     Frequency,
     AnchorKey,
-    AnchorTo,
-    AnchorUp,
-    AnchorDown,
-    WidthTo,
-    WidthUp,
-    WidthDown,
-    WidthTimes,
-    WidthOver,
+    Amount(Form),
     Key,
     StarredKey,
 }
@@ -98,15 +103,9 @@ pub enum Item {
     KeptPosition,
     TonePosition(u32),
     AnchorKept,
-    AnchorTo(u32),
-    AnchorUp(u32),
-    AnchorDown(u32),
     WidthKept,
-    WidthTo(u32),
-    WidthUp(u32),
-    WidthDown(u32),
-    WidthTimes(u32),
-    WidthOver(u32),
+    // The n of an anchor or width retuning.
+    Amount(Form, u32),
     // A period retuning: a sequence follows, or, with `@`, terms onto the old period.
     Period,
     Onward,

@@ -1,5 +1,6 @@
 // The moves of the syntax diagrams.
 use crate::Action;
+use crate::Form;
 use crate::Kind;
 use crate::MarkUse;
 use crate::NameUse;
@@ -220,14 +221,14 @@ fn number_use_at(index: u8) -> NumberUse
         5 => NumberUse::Factor,
         6 => NumberUse::Frequency,
         7 => NumberUse::AnchorKey,
-        8 => NumberUse::AnchorTo,
-        9 => NumberUse::AnchorUp,
-        10 => NumberUse::AnchorDown,
-        11 => NumberUse::WidthTo,
-        12 => NumberUse::WidthUp,
-        13 => NumberUse::WidthDown,
-        14 => NumberUse::WidthTimes,
-        15 => NumberUse::WidthOver,
+        8 => NumberUse::Amount(Form::AnchorTo),
+        9 => NumberUse::Amount(Form::AnchorUp),
+        10 => NumberUse::Amount(Form::AnchorDown),
+        11 => NumberUse::Amount(Form::WidthTo),
+        12 => NumberUse::Amount(Form::WidthUp),
+        13 => NumberUse::Amount(Form::WidthDown),
+        14 => NumberUse::Amount(Form::WidthTimes),
+        15 => NumberUse::Amount(Form::WidthOver),
         16 => NumberUse::Key,
         17 => NumberUse::StarredKey,
         _ => NumberUse::RatioFirst,

@@ -22,7 +22,7 @@ use Rattle.numerals.specs.declared.WrittenNumber.the-variants.{Outside, Value}
 use Rattle.grammar.specs.declared.Kind.{Kind}
 use Rattle.grammar.specs.declared.Kind.the-variants.{Interval, Tone, System, Retuning, Logic, Order as AnOrder, Harmony}
 use Rattle.grammar.specs.declared.NumberUse.{NumberUse}
-use Rattle.grammar.specs.declared.NumberUse.the-variants.{RatioFirst, RatioSecond, Degree, Radicand, FirstFactor, Factor, Frequency, AnchorKey, AnchorTo, AnchorUp, AnchorDown, WidthTo, WidthUp, WidthDown, WidthTimes, WidthOver, Key, StarredKey}
+use Rattle.grammar.specs.declared.NumberUse.the-variants.{RatioFirst, RatioSecond, Degree, Radicand, FirstFactor, Factor, Frequency, AnchorKey, Amount, Key, StarredKey}
 use Rattle.grammar.specs.declared.NameUse.the-variants.{Term, Base, Position, Start, Order, Trigger, CountedTrigger}
 use Rattle.grammar.specs.declared.MarkUse.the-variants.{MutedPosition, KeptPosition, KeptAnchor, KeptWidth, Period, Onward, Star}
 use Rattle.grammar.specs.declared.Action.{Action}
@@ -142,14 +142,7 @@ module _ (s : Progress) (x : Span) where
   used-counts Factor v = same
   used-counts Frequency v = same
   used-counts AnchorKey v = same
-  used-counts AnchorTo v = same
-  used-counts AnchorUp v = same
-  used-counts AnchorDown v = same
-  used-counts WidthTo v = same
-  used-counts WidthUp v = same
-  used-counts WidthDown v = same
-  used-counts WidthTimes v = same
-  used-counts WidthOver v = same
+  used-counts (Amount f) v = same
   used-counts Key v = key-counts v _ refl
   used-counts StarredKey v = key-counts v _ refl
 

@@ -1,14 +1,14 @@
 -- The items of a text by what they are: a declared name, a number given, a name used, or a mark's say.
 use Prim.Native.Nat.{ℕ}
 use Rattle.grammar.specs.declared.Kind.{Kind}
+use Rattle.grammar.specs.declared.Form.{Form}
 use Rattle.grammar.specs.declared.Item.{Item}
 use Rattle.grammar.specs.declared.Item.the-variants as item
 
 -- the numbers that a declaration may give
 pub data Given : Type 0 where
   ratio root frequency anchorKey : Given
-  anchorTo anchorUp anchorDown : Given
-  widthTo widthUp widthDown widthTimes widthOver : Given
+  amount : Form → Given
   letter : Given
   key starredKey : Given
 
@@ -32,14 +32,7 @@ part (item.Ratio p q) = gives ratio p q
 part (item.Root a b) = gives root a b
 part (item.Frequency f) = gives frequency f 0
 part (item.AnchorKey n) = gives anchorKey n 0
-part (item.AnchorTo n) = gives anchorTo n 0
-part (item.AnchorUp n) = gives anchorUp n 0
-part (item.AnchorDown n) = gives anchorDown n 0
-part (item.WidthTo n) = gives widthTo n 0
-part (item.WidthUp n) = gives widthUp n 0
-part (item.WidthDown n) = gives widthDown n 0
-part (item.WidthTimes n) = gives widthTimes n 0
-part (item.WidthOver n) = gives widthOver n 0
+part (item.Amount f n) = gives (amount f) 0 n
 part (item.Letter c) = gives letter c 0
 part (item.Key v) = gives key v 0
 part (item.StarredKey v) = gives starredKey v 0

@@ -14,7 +14,7 @@ use Rattle.status.specs.Status.{done, symbolNotAllowed}
 use Rattle.grammar.specs.declared.Kind.{Kind}
 use Rattle.grammar.specs.declared.Kind.the-variants.{Interval, Tone, System, Retuning, Logic, Order as AnOrder, Harmony}
 use Rattle.grammar.specs.declared.NumberUse.{NumberUse}
-use Rattle.grammar.specs.declared.NumberUse.the-variants.{RatioFirst, RatioSecond, Degree, Radicand, FirstFactor, Factor, Frequency, AnchorKey, AnchorTo, AnchorUp, AnchorDown, WidthTo, WidthUp, WidthDown, WidthTimes, WidthOver, Key, StarredKey}
+use Rattle.grammar.specs.declared.NumberUse.the-variants.{RatioFirst, RatioSecond, Degree, Radicand, FirstFactor, Factor, Frequency, AnchorKey, Amount, Key, StarredKey}
 use Rattle.grammar.specs.declared.NameUse.the-variants.{Term, Base, Position, Start, Order, Trigger, CountedTrigger}
 use Rattle.grammar.specs.declared.MarkUse.the-variants.{MutedPosition, KeptPosition, KeptAnchor, KeptWidth, Period, Onward, Star}
 use Rattle.grammar.specs.declared.Action.{Action}
@@ -144,14 +144,7 @@ module _ (s : Progress) (x : Span) where
     used-counting Factor v = passing w refl
     used-counting Frequency v = giving w refl refl refl
     used-counting AnchorKey v = giving w refl refl refl
-    used-counting AnchorTo v = giving w refl refl refl
-    used-counting AnchorUp v = giving w refl refl refl
-    used-counting AnchorDown v = giving w refl refl refl
-    used-counting WidthTo v = giving w refl refl refl
-    used-counting WidthUp v = giving w refl refl refl
-    used-counting WidthDown v = giving w refl refl refl
-    used-counting WidthTimes v = giving w refl refl refl
-    used-counting WidthOver v = giving w refl refl refl
+    used-counting (Amount f) v = giving w refl refl refl
     used-counting Key v = key-counting v (item.Key v) (giving w refl refl refl)
     used-counting StarredKey v = key-counting v (item.StarredKey v) (giving w refl refl refl)
 

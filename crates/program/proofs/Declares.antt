@@ -8,9 +8,12 @@ use lib.ListN.{length}
 use Rattle.limits.specs.Limits.{mostHarmonyKey, mostHarmonyKeys}
 use Rattle.harmonies.specs.Harmonies.{HarmonyKey}
 use Rattle.grammar.specs.declared.Kind.{Kind}
+use Rattle.grammar.specs.declared.Kind.the-variants.{Retuning}
+use Rattle.grammar.specs.declared.Form.{Form}
+use Rattle.grammar.specs.declared.Form.the-variants.{AnchorTo, AnchorUp, AnchorDown, WidthTo, WidthUp, WidthDown, WidthTimes, WidthOver}
 use Rattle.grammar.specs.declared.Item.{Item}
 use Rattle.grammar.specs.declared.Item.the-variants as item
-use Rattle.grammar.specs.Reading.{mostTerms}
+use Rattle.grammar.specs.Reading.{allowedAmount, mostTerms}
 use Rattle.names.specs.Parts as parts
 use Rattle.names.specs.Parts.{Part, declares, gives, uses, says, part}
 use Rattle.names.specs.Names.{Named, namedBy, declared, meant}
@@ -21,8 +24,8 @@ use Rattle.program.proofs.Formed.{TermItems, no-term, add-term, subtrac
 use Rattle.program.proofs.Formed.{PositionItems, no-position, muted-position, kept-position, tone-position}
 use Rattle.program.proofs.Formed.{StartItems, no-start, a-start, by-letter, by-harmony, OrderItems, no-order, an-order, KeyItems, no-key, plain-key, starred-key, Some, something}
 use Rattle.program.proofs.Formed.{Body, a-ratio, a-root, a-sequence, a-frequency, from-tone, a-system, a-tones, a-logic, a-harmony}
-use Rattle.program.proofs.Formed.{anchor-kept, anchor-to, anchor-up, anchor-down, fresh-period, onward-period}
-use Rattle.program.proofs.Formed.{width-kept, width-to, width-up, width-down, width-times, width-over}
+use Rattle.program.proofs.Formed.{anchor-kept, width-kept, an-amount, fresh-period, onward-period}
+use Rattle.program.proofs.Ranges.{InRange}
 use Rattle.program.proofs.Formed.{orderPart, orderItems}
 
 -- ---- items inside of a declaration: no declared name, and n orders
@@ -284,6 +287,16 @@ module _ (p : Program) where
   known {is} d e h w f =
       record { kind = ap kindOf e ∙ h; inside = subst (λ c. Inside (orderCount c) is) (sym e) w; fits = λ r. subst (Fits p) (sym e) (f r) }
 
+  amount-fits : (f : Form) (n : ℕ) → InRange (allowedAmount f) n → Declares Retuning (item.Amount f n ∷ [])
+  amount-fits AnchorTo n h = alone refl (plain tt no-item) (h .1)
+  amount-fits AnchorUp n h = alone refl (plain tt no-item) (h .1)
+  amount-fits AnchorDown n h = alone refl (plain tt no-item) (h .1)
+  amount-fits WidthTo n h = alone refl (plain tt no-item) (h .1)
+  amount-fits WidthUp n h = alone refl (plain tt no-item) (h .1)
+  amount-fits WidthDown n h = alone refl (plain tt no-item) (h .1)
+  amount-fits WidthTimes n h = alone refl (plain tt no-item) (h .1)
+  amount-fits WidthOver n h = alone refl (plain tt no-item) h
+
   pub declares-fit : {k : Kind} {is : List Item} → Body k is → Declares k is
   declares-fit (a-ratio a b) = alone refl (plain tt no-item) (a, b)
   declares-fit (a-root a b) = alone refl (plain tt no-item) (a, b)
@@ -297,15 +310,8 @@ module _ (p : Program) where
       let l = places-each t w (v .0) in
       record { anchor = h; positions = record { some = some-place t w s; few = l .0 }; each = l .1; period = terms-fit t (v .1) })
   declares-fit anchor-kept = alone refl (plain tt no-item) tt
-  declares-fit (anchor-to h) = alone refl (plain tt no-item) h
-  declares-fit (anchor-up h) = alone refl (plain tt no-item) h
-  declares-fit (anchor-down h) = alone refl (plain tt no-item) h
   declares-fit width-kept = alone refl (plain tt no-item) tt
-  declares-fit (width-to h) = alone refl (plain tt no-item) h
-  declares-fit (width-up h) = alone refl (plain tt no-item) h
-  declares-fit (width-down h) = alone refl (plain tt no-item) h
-  declares-fit (width-times h) = alone refl (plain tt no-item) h
-  declares-fit (width-over l h) = alone refl (plain tt no-item) (l, h)
+  declares-fit (an-amount {f} {n} h) = amount-fits f n h
   declares-fit (fresh-period {is} w) = known (freshPeriod (termsOf is)) (period-of w) refl (plain tt (terms-inside w)) (λ r. terms-fit w (r .1))
   declares-fit (onward-period w) = record { kind = refl; inside = plain tt (plain tt (terms-inside w)); fits = λ r. terms-fit w (r .1 .1) }
   declares-fit (a-tones {is} w s) = known (tones (grouped is .positions)) (tones-of w s) refl (positions-inside w) (λ r.

@@ -9,14 +9,16 @@ use Rattle.limits.specs.Limits.{mostHarmonyKey, mostHarmonyKeys}
 use Rattle.sets.specs.Sets.{has, added}
 use Rattle.grammar.specs.declared.Kind.{Kind}
 use Rattle.grammar.specs.declared.Kind.the-variants.{Interval, Tone, System, Retuning, Logic, Order as AnOrder, Harmony}
+use Rattle.grammar.specs.declared.Form.{Form}
 use Rattle.grammar.specs.declared.Item.{Item}
 use Rattle.grammar.specs.declared.Item.the-variants as item
 use Rattle.grammar.specs.Moves.{kindNumber}
-use Rattle.grammar.specs.Reading.{limit, mostTerms, mostPositions}
+use Rattle.grammar.specs.Reading.{allowedAmount, limit, mostTerms, mostPositions}
 use Rattle.names.specs.Parts as parts
 use Rattle.names.specs.Parts.{Part, declares, gives, uses, says, part}
 use Rattle.names.specs.Names.{Named, declared}
 use Rattle.program.specs.Allowed.{Decimal, Degree, Letter, ifKind}
+use Rattle.program.proofs.Ranges.{InRange}
 
 -- at most n terms
 pub data TermItems : ℕ → List Item → Type 0 where
@@ -69,15 +71,8 @@ pub data Body : Kind → List Item → Type 0 where
   from-tone : {q : ℕ} {is : List Item} → TermItems mostTerms is → Body Tone (item.Base q ∷ is)
   a-system : {a : ℕ} {ps is : List Item} → a ≤ 127 → PlaceItems mostPositions ps → Some ps → TermItems mostTerms is → Body System (item.AnchorKey a ∷ ps ++ is)
   anchor-kept : Body Retuning (item.AnchorKept ∷ [])
-  anchor-to : {n : ℕ} → n ≤ 9999 → Body Retuning (item.AnchorTo n ∷ [])
-  anchor-up : {n : ℕ} → n ≤ 9999 → Body Retuning (item.AnchorUp n ∷ [])
-  anchor-down : {n : ℕ} → n ≤ 9999 → Body Retuning (item.AnchorDown n ∷ [])
   width-kept : Body Retuning (item.WidthKept ∷ [])
-  width-to : {n : ℕ} → n ≤ 9999 → Body Retuning (item.WidthTo n ∷ [])
-  width-up : {n : ℕ} → n ≤ 9999 → Body Retuning (item.WidthUp n ∷ [])
-  width-down : {n : ℕ} → n ≤ 9999 → Body Retuning (item.WidthDown n ∷ [])
-  width-times : {n : ℕ} → n ≤ 9999 → Body Retuning (item.WidthTimes n ∷ [])
-  width-over : {n : ℕ} → 1 ≤ n → n ≤ 9999 → Body Retuning (item.WidthOver n ∷ [])
+  an-amount : {f : Form} {n : ℕ} → InRange (allowedAmount f) n → Body Retuning (item.Amount f n ∷ [])
   fresh-period : {is : List Item} → TermItems mostTerms is → Body Retuning (item.Period ∷ is)
   onward-period : {is : List Item} → TermItems mostTerms is → Body Retuning (item.Period ∷ item.Onward ∷ is)
   a-tones : {is : List Item} → PositionItems mostPositions is → Some is → Body Retuning is

@@ -15,8 +15,7 @@ use Rattle.program.proofs.Formed.{TermItems, no-term, add-term, subtrac
 use Rattle.program.proofs.Formed.{PositionItems, no-position, muted-position, kept-position, tone-position}
 use Rattle.program.proofs.Formed.{StartItems, no-start, a-start, TriggerItem, by-letter, by-harmony, OrderItems, no-order, an-order, KeyItems, no-key, plain-key, starred-key, Some, something}
 use Rattle.program.proofs.Formed.{Body, a-ratio, a-root, a-sequence, a-frequency, from-tone, a-system, a-tones, a-logic, a-harmony}
-use Rattle.program.proofs.Formed.{anchor-kept, anchor-to, anchor-up, anchor-down, fresh-period, onward-period}
-use Rattle.program.proofs.Formed.{width-kept, width-to, width-up, width-down, width-times, width-over}
+use Rattle.program.proofs.Formed.{anchor-kept, width-kept, an-amount, fresh-period, onward-period}
 use Rattle.program.proofs.Formed.{Formed, no-more, declaration, orderPart, orderItems, FormedText}
 
 -- an item with the number of its name's declaration; `number` gives it from the use and the place of the name
@@ -73,15 +72,8 @@ module _ (number : Use → ℕ → ℕ) where
   body-kept (from-tone w) = from-tone (terms-kept w)
   body-kept (a-system a w s t) = rw map-append (a-system a (places-kept w) (some-kept s) (terms-kept t))
   body-kept anchor-kept = anchor-kept
-  body-kept (anchor-to h) = anchor-to h
-  body-kept (anchor-up h) = anchor-up h
-  body-kept (anchor-down h) = anchor-down h
   body-kept width-kept = width-kept
-  body-kept (width-to h) = width-to h
-  body-kept (width-up h) = width-up h
-  body-kept (width-down h) = width-down h
-  body-kept (width-times h) = width-times h
-  body-kept (width-over l h) = width-over l h
+  body-kept (an-amount h) = an-amount h
   body-kept (fresh-period w) = fresh-period (terms-kept w)
   body-kept (onward-period w) = onward-period (terms-kept w)
   body-kept (a-tones w s) = a-tones (positions-kept w) (some-kept s)

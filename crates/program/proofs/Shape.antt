@@ -19,7 +19,7 @@ use Rattle.program.specs.Allowed.{Each}
 use Rattle.program.proofs.Formed.{no-term, no-order, Formed, no-more}
 use Rattle.program.proofs.Walk.{Kept, walk}
 use Rattle.program.proofs.Ahead.{Stage, nothing, body, secondPart, radicand, sequence, term, terms, period, place, places, positions, toneTerm, toneTerms, start, orders, order, key, keys, no-item, Ahead, ahead, Fit, Move, keeps-ahead}
-use Rattle.program.proofs.Steps.{passing, Ending, declaring, ending, frequency, anchor-number, anchor-plus, anchor-minus, anchor-same, width-number, width-plus, width-minus, width-asterisk, width-slash, width-same, hold, ratio-first, ratio-second, root-degree, root-radicand, fit-one}
+use Rattle.program.proofs.Steps.{passing, Ending, declaring, ending, frequency, amount, anchor-same, width-same, hold, ratio-first, ratio-second, root-degree, root-radicand, fit-one}
 use Rattle.program.proofs.TermSteps.{opens-term, opens-sequence, opens-interval, opens-period, sign, factor, named-term, factor-first, base, period-mark, period-onward, tone-sign, tone-factor, tone-term}
 use Rattle.program.proofs.ListSteps.{next-place, no-more-places, system-anchor, muted-place-mark, tone-place-name, place-end, further, first, next-position, no-more-positions, muted-mark, kept-mark, tone-name, position-end, positions-may-end}
 use Rattle.program.proofs.LogicSteps.{logic-letter, logic-harmony, order-letter, order-harmony, start-name, start-none, order-key, order-name}
@@ -159,21 +159,21 @@ good SystemTerm = (factor opens-term, (named-term opens-term, (named-term opens-
 good SystemTermName = (named-term opens-term, (named-term opens-term, tt))
 good RetuningName = (declaring whole, (declaring whole, tt))
 good RetuningEquals = (same-body, tt)
-good RetuningBody = (anchor-number, (same-body, (same-body, tt)))
+good RetuningBody = (amount, (same-body, (same-body, tt)))
 good RetuningInside =
     (same-body, (period-mark, (muted-mark first next-position, (kept-mark first, (tone-name first, (tone-name first, tt))))))
 good RetuningNext = (declaring whole, (declaring whole, new-block whole))
 good AnchorOperator = (anchor-same, (same-body, (same-body, tt)))
-good AnchorPlusNumber = (anchor-plus, tt)
-good AnchorMinusNumber = (anchor-minus, tt)
+good AnchorPlusNumber = (amount, tt)
+good AnchorMinusNumber = (amount, tt)
 good AnchorOpen = (ending whole, tt)
 good AnchorClose = (ending whole, tt)
-good WidthBody = (width-number, (same-body, tt))
+good WidthBody = (amount, (same-body, tt))
 good WidthOperator = (width-same, (same-body, (same-body, (same-body, (same-body, tt)))))
-good WidthPlusNumber = (width-plus, tt)
-good WidthMinusNumber = (width-minus, tt)
-good WidthTimesNumber = (width-asterisk, tt)
-good WidthOverNumber = (width-slash, tt)
+good WidthPlusNumber = (amount, tt)
+good WidthMinusNumber = (amount, tt)
+good WidthTimesNumber = (amount, tt)
+good WidthOverNumber = (amount, tt)
 good WidthClose = (ending whole, tt)
 good WidthBracket = (ending whole, tt)
 good PeriodBody = (period-onward, (factor opens-period, (named-term opens-period, (named-term opens-period, tt))))

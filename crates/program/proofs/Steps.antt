@@ -6,9 +6,10 @@ use native.Mathlib.Omega.{arith}
 use Rattle.grammar.specs.declared.Kind.{Kind}
 use Rattle.grammar.specs.declared.Kind.the-variants.{Interval, Tone, Retuning}
 use Rattle.grammar.specs.declared.NumberUse.{NumberUse}
-use Rattle.grammar.specs.declared.NumberUse.the-variants.{RatioFirst, RatioSecond, Degree, Radicand, Frequency, AnchorTo, AnchorUp, AnchorDown, WidthTo, WidthUp, WidthDown, WidthTimes, WidthOver}
+use Rattle.grammar.specs.declared.NumberUse.the-variants.{RatioFirst, RatioSecond, Degree, Radicand, Frequency, Amount}
 use Rattle.grammar.specs.declared.MarkUse.the-variants.{KeptAnchor, KeptWidth}
 use Rattle.grammar.specs.declared.Action.the-variants.{Pass, Declare, Hold, Held, Number, Mark}
+use Rattle.grammar.specs.declared.Form.{Form}
 use Rattle.grammar.specs.declared.Item.{Item}
 use Rattle.grammar.specs.declared.Item.the-variants as item
 use Rattle.grammar.specs.declared.Progress.{Progress}
@@ -18,7 +19,7 @@ use Rattle.grammar.specs.declared.Outcome.the-variants.{Give}
 use Rattle.grammar.specs.Syntax.{Terminal}
 use Rattle.grammar.specs.Terminals.{spanOf}
 use Rattle.grammar.specs.Reading.{allowed, limit, soFar, unlessFull, used, acted}
-use Rattle.program.proofs.Formed.{Body, a-ratio, a-root, a-frequency, anchor-kept, anchor-to, anchor-up, anchor-down, width-kept, width-to, width-up, width-down, width-times, width-over}
+use Rattle.program.proofs.Formed.{Body, a-ratio, a-root, a-frequency, anchor-kept, width-kept, an-amount}
 use Rattle.program.proofs.Ranges.{InRange, degree}
 use Rattle.program.proofs.Outcomes.{unless-full, if-allowed}
 use Rattle.program.proofs.Ahead.{Stage, nothing, body, secondPart, radicand, Nothing, no-item, Comes, FitFactor, Leads, refused, passed, given, declares, Move}
@@ -88,33 +89,12 @@ module _ {t : Terminal} where
   pub frequency : Move t (body Tone) (Number Frequency) nothing
   frequency = numbering (λ s x v h. only (a-frequency h))
 
-  pub anchor-number : Move t (body Retuning) (Number AnchorTo) nothing
-  anchor-number = numbering (λ s x v h. only (anchor-to (h .1)))
-
-  pub anchor-plus : Move t (body Retuning) (Number AnchorUp) nothing
-  anchor-plus = numbering (λ s x v h. only (anchor-up (h .1)))
-
-  pub anchor-minus : Move t (body Retuning) (Number AnchorDown) nothing
-  anchor-minus = numbering (λ s x v h. only (anchor-down (h .1)))
+  pub amount : {f : Form} → Move t (body Retuning) (Number (Amount f)) nothing
+  amount = numbering (λ s x v h. only (an-amount h))
 
   pub anchor-same : Move t (body Retuning) (Mark KeptAnchor) nothing
   unfolding acted
   anchor-same = record { leads = λ text s y e. only anchor-kept }
-
-  pub width-number : Move t (body Retuning) (Number WidthTo) nothing
-  width-number = numbering (λ s x v h. only (width-to (h .1)))
-
-  pub width-plus : Move t (body Retuning) (Number WidthUp) nothing
-  width-plus = numbering (λ s x v h. only (width-up (h .1)))
-
-  pub width-minus : Move t (body Retuning) (Number WidthDown) nothing
-  width-minus = numbering (λ s x v h. only (width-down (h .1)))
-
-  pub width-asterisk : Move t (body Retuning) (Number WidthTimes) nothing
-  width-asterisk = numbering (λ s x v h. only (width-times (h .1)))
-
-  pub width-slash : Move t (body Retuning) (Number WidthOver) nothing
-  width-slash = numbering (λ s x v h. only (width-over (h .0) (h .1)))
 
   pub width-same : Move t (body Retuning) (Mark KeptWidth) nothing
   unfolding acted

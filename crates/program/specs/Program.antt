@@ -6,6 +6,8 @@ use mathlib.Core.Option.{Option, some, none}
 use Prim.Native.Nat.{ℕ}
 use Rattle.grammar.specs.declared.Kind.{Kind}
 use Rattle.grammar.specs.declared.Kind.the-variants.{Interval, Tone, System, Retuning, Logic, Order as AnOrder}
+use Rattle.grammar.specs.declared.Form.{Form}
+use Rattle.grammar.specs.declared.Form.the-variants.{AnchorTo, AnchorUp, AnchorDown, WidthTo, WidthUp, WidthDown, WidthTimes, WidthOver}
 use Rattle.grammar.specs.declared.Item.{Item}
 use Rattle.names.specs.Parts as parts
 use Rattle.names.specs.Parts.{Part, declares, gives, uses, says, part, Given, Use, Said}
@@ -123,14 +125,7 @@ givenListed parts.ratio a = unlisted
 givenListed parts.root a = unlisted
 givenListed parts.frequency a = unlisted
 givenListed parts.anchorKey a = unlisted
-givenListed parts.anchorTo a = unlisted
-givenListed parts.anchorUp a = unlisted
-givenListed parts.anchorDown a = unlisted
-givenListed parts.widthTo a = unlisted
-givenListed parts.widthUp a = unlisted
-givenListed parts.widthDown a = unlisted
-givenListed parts.widthTimes a = unlisted
-givenListed parts.widthOver a = unlisted
+givenListed (parts.amount f) a = unlisted
 
 abbrev pub useListed : Use → ℕ → ℕ → AsListed
 useListed parts.add f n = a-term (record { minus = false; factor = f; of = n })
@@ -286,19 +281,23 @@ keysOf (i ∷ is) = keyThen (part i) (keysOf is)
 
 -- ---- a declaration from its parts, of which the first tells the form; `rest` are the parts after it
 
+-- "Anchor: `n [ ]`, .. `@ + n [ ]`, `@ - n [ ]`. Width: `[ << n >> ]`, .. `@` with `+ - * /` and n inside."
+abbrev pub asking : Form → ℕ → Declaration
+asking AnchorTo n = anchor (Absolute n)
+asking AnchorUp n = anchor (Relative Plus n)
+asking AnchorDown n = anchor (Relative Minus n)
+asking WidthTo n = width (Absolute n)
+asking WidthUp n = width (Relative Plus n)
+asking WidthDown n = width (Relative Minus n)
+asking WidthTimes n = width (Relative Times n)
+asking WidthOver n = width (Relative Divide n)
+
 abbrev pub byNumber : Given → ℕ → ℕ → List Item → Declaration
 byNumber parts.ratio a b rest = ratio a b
 byNumber parts.root a b rest = root a b
 byNumber parts.frequency a b rest = frequency a
 byNumber parts.anchorKey a b rest = system a (systemPositionsOf rest) (termsOf rest)
-byNumber parts.anchorTo a b rest = anchor (Absolute a)
-byNumber parts.anchorUp a b rest = anchor (Relative Plus a)
-byNumber parts.anchorDown a b rest = anchor (Relative Minus a)
-byNumber parts.widthTo a b rest = width (Absolute a)
-byNumber parts.widthUp a b rest = width (Relative Plus a)
-byNumber parts.widthDown a b rest = width (Relative Minus a)
-byNumber parts.widthTimes a b rest = width (Relative Times a)
-byNumber parts.widthOver a b rest = width (Relative Divide a)
+byNumber (parts.amount f) a b rest = asking f b
 byNumber parts.letter a b rest = logic (byLetter a) (startOf rest) (ordersOf rest)
 byNumber parts.key a b rest = harmony (keyOf a false ∷ keysOf rest)
 byNumber parts.starredKey a b rest = harmony (keyOf a true ∷ keysOf rest)

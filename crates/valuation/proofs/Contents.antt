@@ -8,6 +8,7 @@ use native.Mathlib.Omega.{arith}
 use lib.IntN.{ℤ}
 use lib.ListN.{length, set}
 use lib.Seq.{sets}
+use Rattle.grammar.specs.declared.Form.the-variants.{AnchorTo, AnchorUp, AnchorDown, WidthTo, WidthUp, WidthDown, WidthTimes, WidthOver}
 use Rattle.grammar.specs.declared.Item.{Item}
 use Rattle.names.specs.Parts as parts
 use Rattle.names.specs.Parts.{Part, declares, gives, uses, says, part}
@@ -32,14 +33,7 @@ terms-by (gives parts.ratio a b) ts = refl
 terms-by (gives parts.root a b) ts = refl
 terms-by (gives parts.frequency a b) ts = refl
 terms-by (gives parts.anchorKey a b) ts = refl
-terms-by (gives parts.anchorTo a b) ts = refl
-terms-by (gives parts.anchorUp a b) ts = refl
-terms-by (gives parts.anchorDown a b) ts = refl
-terms-by (gives parts.widthTo a b) ts = refl
-terms-by (gives parts.widthUp a b) ts = refl
-terms-by (gives parts.widthDown a b) ts = refl
-terms-by (gives parts.widthTimes a b) ts = refl
-terms-by (gives parts.widthOver a b) ts = refl
+terms-by (gives (parts.amount f) a b) ts = refl
 terms-by (gives parts.letter a b) ts = refl
 terms-by (gives parts.key a b) ts = refl
 terms-by (gives parts.starredKey a b) ts = refl
@@ -94,14 +88,14 @@ module _ (p : Program) (few : length p ≤ rows) where
   valued-by i is (gives parts.root a b) e = record { own = refl; measurable = λ f. f }
   valued-by i is (gives parts.frequency a b) e = record { own = refl; measurable = λ f. f }
   valued-by i is (gives parts.anchorKey a b) e = record { own = ap (λ ts. ownBy content.Period ts) (sym e); measurable = λ _. tt }
-  valued-by i is (gives parts.anchorTo a b) e = plain refl
-  valued-by i is (gives parts.anchorUp a b) e = plain refl
-  valued-by i is (gives parts.anchorDown a b) e = plain refl
-  valued-by i is (gives parts.widthTo a b) e = plain refl
-  valued-by i is (gives parts.widthUp a b) e = plain refl
-  valued-by i is (gives parts.widthDown a b) e = plain refl
-  valued-by i is (gives parts.widthTimes a b) e = plain refl
-  valued-by i is (gives parts.widthOver a b) e = plain refl
+  valued-by i is (gives (parts.amount AnchorTo) a b) e = plain refl
+  valued-by i is (gives (parts.amount AnchorUp) a b) e = plain refl
+  valued-by i is (gives (parts.amount AnchorDown) a b) e = plain refl
+  valued-by i is (gives (parts.amount WidthTo) a b) e = plain refl
+  valued-by i is (gives (parts.amount WidthUp) a b) e = plain refl
+  valued-by i is (gives (parts.amount WidthDown) a b) e = plain refl
+  valued-by i is (gives (parts.amount WidthTimes) a b) e = plain refl
+  valued-by i is (gives (parts.amount WidthOver) a b) e = plain refl
   valued-by i is (gives parts.letter a b) e = plain refl
   valued-by i is (gives parts.key a b) e = plain refl
   valued-by i is (gives parts.starredKey a b) e = plain refl

@@ -15,7 +15,7 @@ use Rattle.names.proofs.role_of.Statement.{statement}
 use Rattle.names.proofs.role_of.Tie as tie
 
 nameless : List ℕ
-nameless = 1 ∷ 2 ∷ 5 ∷ 7 ∷ 8 ∷ 9 ∷ 11 ∷ 12 ∷ 13 ∷ 14 ∷ 15 ∷ 16 ∷ 17 ∷ 18 ∷ 19 ∷ 20 ∷ 21 ∷ 22 ∷ 23 ∷ 27 ∷ 28 ∷ []
+nameless = 1 ∷ 2 ∷ 5 ∷ 7 ∷ 8 ∷ 9 ∷ 11 ∷ 12 ∷ 13 ∷ 14 ∷ 15 ∷ 16 ∷ 20 ∷ 21 ∷ []
 
 without : (i : Item) → OneOf nameless (tagOf variants.the-type i) → Nothing ≡ roleOf (part i)
 unfolding nameless
@@ -31,21 +31,14 @@ without item.MutedPosition h = refl
 without item.KeptPosition h = refl
 without (item.TonePosition a) h = absurd (miss nameless 10 tt h)
 without item.AnchorKept h = refl
-without (item.AnchorTo a) h = refl
-without (item.AnchorUp a) h = refl
-without (item.AnchorDown a) h = refl
+without (item.Amount a b) h = refl
 without item.WidthKept h = refl
-without (item.WidthTo a) h = refl
-without (item.WidthUp a) h = refl
-without (item.WidthDown a) h = refl
-without (item.WidthTimes a) h = refl
-without (item.WidthOver a) h = refl
 without item.Period h = refl
 without item.Onward h = refl
 without (item.Letter a) h = refl
-without (item.Start a) h = absurd (miss nameless 24 tt h)
-without (item.Order a) h = absurd (miss nameless 25 tt h)
-without (item.Trigger a) h = absurd (miss nameless 26 tt h)
+without (item.Start a) h = absurd (miss nameless 17 tt h)
+without (item.Order a) h = absurd (miss nameless 18 tt h)
+without (item.Trigger a) h = absurd (miss nameless 19 tt h)
 without (item.Key a) h = refl
 without (item.StarredKey a) h = refl
 

@@ -16,7 +16,7 @@ use Rattle.valuation.proofs.content_of.Statement.{statement}
 use Rattle.valuation.proofs.content_of.Tie as tie
 
 empty : List ℕ
-empty = 0 ∷ 8 ∷ 9 ∷ 10 ∷ 11 ∷ 12 ∷ 13 ∷ 14 ∷ 15 ∷ 16 ∷ 17 ∷ 18 ∷ 19 ∷ 20 ∷ 21 ∷ 22 ∷ 23 ∷ 24 ∷ 25 ∷ 26 ∷ 27 ∷ 28 ∷ []
+empty = 0 ∷ 8 ∷ 9 ∷ 10 ∷ 11 ∷ 12 ∷ 13 ∷ 14 ∷ 15 ∷ 16 ∷ 17 ∷ 18 ∷ 19 ∷ 20 ∷ 21 ∷ []
 
 without : (i : Item) → OneOf empty (tagOf variants.the-type i) → Nothing ≡ contentOf (part i)
 unfolding empty
@@ -32,15 +32,8 @@ without item.MutedPosition h = refl
 without item.KeptPosition h = refl
 without (item.TonePosition a) h = refl
 without item.AnchorKept h = refl
-without (item.AnchorTo a) h = refl
-without (item.AnchorUp a) h = refl
-without (item.AnchorDown a) h = refl
+without (item.Amount a b) h = refl
 without item.WidthKept h = refl
-without (item.WidthTo a) h = refl
-without (item.WidthUp a) h = refl
-without (item.WidthDown a) h = refl
-without (item.WidthTimes a) h = refl
-without (item.WidthOver a) h = refl
 without item.Period h = refl
 without item.Onward h = refl
 without (item.Letter a) h = refl

@@ -39,41 +39,20 @@ enum-told-7 c = search needs
 enum-told-8 : tie.Need-enum-told-8
 enum-told-8 c = search needs
 
+enum-known-purpose : tie.Need-enum-known-purpose
+enum-known-purpose c = search needs
+
 enum-told-9 : tie.Need-enum-told-9
 enum-told-9 c = search needs
+
+name-key-requires : tie.Need-name-key-requires
+name-key-requires c κs = simp (c .enum-told9 .given .1) at (c .before .before .pre .1)
 
 enum-told-10 : tie.Need-enum-told-10
 enum-told-10 c = search needs
 
-enum-told-11 : tie.Need-enum-told-11
-enum-told-11 c = search needs
-
-enum-told-12 : tie.Need-enum-told-12
-enum-told-12 c = search needs
-
-enum-told-13 : tie.Need-enum-told-13
-enum-told-13 c = search needs
-
-enum-told-14 : tie.Need-enum-told-14
-enum-told-14 c = search needs
-
-enum-told-15 : tie.Need-enum-told-15
-enum-told-15 c = search needs
-
-enum-told-16 : tie.Need-enum-told-16
-enum-told-16 c = search needs
-
-enum-told-17 : tie.Need-enum-told-17
-enum-told-17 c = search needs
-
-name-key-requires : tie.Need-name-key-requires
-name-key-requires c κs = simp (c .enum-told17 .given .1) at (c .before .before .pre .1)
-
-enum-told-18 : tie.Need-enum-told-18
-enum-told-18 c = search needs
-
 name-key-requires-2 : tie.Need-name-key-requires-2
-name-key-requires-2 c κs = simp (c .enum-told18 .given .1) at (c .before .before .pre .1)
+name-key-requires-2 c κs = simp (c .enum-told10 .given .1) at (c .before .before .pre .1)
 
 returns : tie.Need-returns
 returns c =
@@ -121,48 +100,20 @@ returns-8 c =
 
 returns-9 : tie.Need-returns-9
 returns-9 c =
-    simp (c .enum-told9 .given .1)
+    simp (c .before .purpose .given .1)
 
 returns-10 : tie.Need-returns-10
 returns-10 c =
-    simp (c .enum-told10 .given .1)
+    simp (
+      ← c .name-key .ensures,
+      c .before .enum-told9 .given .1,
+    )
 
 returns-11 : tie.Need-returns-11
 returns-11 c =
-    simp (c .enum-told11 .given .1)
-
-returns-12 : tie.Need-returns-12
-returns-12 c =
-    simp (c .enum-told12 .given .1)
-
-returns-13 : tie.Need-returns-13
-returns-13 c =
-    simp (c .enum-told13 .given .1)
-
-returns-14 : tie.Need-returns-14
-returns-14 c =
-    simp (c .enum-told14 .given .1)
-
-returns-15 : tie.Need-returns-15
-returns-15 c =
-    simp (c .enum-told15 .given .1)
-
-returns-16 : tie.Need-returns-16
-returns-16 c =
-    simp (c .enum-told16 .given .1)
-
-returns-17 : tie.Need-returns-17
-returns-17 c =
-    simp (
-      ← c .name-key .ensures,
-      c .before .enum-told17 .given .1,
-    )
-
-returns-18 : tie.Need-returns-18
-returns-18 c =
     simp (
       ← c .name-key2 .ensures,
-      c .before .enum-told18 .given .1,
+      c .before .enum-told10 .given .1,
     )
 
 pub use-number-spec : {M : Type 1} → statement M
@@ -181,17 +132,10 @@ use-number-spec =
     await-term-requires
     enum-told-7
     enum-told-8
+    enum-known-purpose
     enum-told-9
-    enum-told-10
-    enum-told-11
-    enum-told-12
-    enum-told-13
-    enum-told-14
-    enum-told-15
-    enum-told-16
-    enum-told-17
     name-key-requires
-    enum-told-18
+    enum-told-10
     name-key-requires-2
     returns
     returns-2
@@ -203,11 +147,4 @@ use-number-spec =
     returns-8
     returns-9
     returns-10
-    returns-11
-    returns-12
-    returns-13
-    returns-14
-    returns-15
-    returns-16
-    returns-17
-    returns-18)
+    returns-11)

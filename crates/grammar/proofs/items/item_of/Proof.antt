@@ -1,12 +1,14 @@
 -- Each number's variant; in the last arm the number is 0 or past the variants.
 -- Assumes nothing.
-use borrow.Author.Tests.{ne-eqb}
-use borrow.Author.Needs.{needs}
 use lib.ListN.{drop}
 use Rattle.grammar.specs.Items.{variants, itemOf}
 use Rattle.grammar.proofs.Arms.{rest}
+use borrow.Author.Needs.{needs}
 use Rattle.grammar.proofs.items.item_of.Statement.{statement}
 use Rattle.grammar.proofs.items.item_of.Tie as tie
+
+form-at-requires : tie.Need-form-at-requires
+form-at-requires c κs = search needs
 
 returns : tie.Need-returns
 unfolding itemOf
@@ -75,11 +77,13 @@ returns-13 c =
 
 returns-14 : tie.Need-returns-14
 unfolding itemOf
-returns-14 c = search needs
+returns-14 c =
+    simp (c .match .keys14)
 
 returns-15 : tie.Need-returns-15
 unfolding itemOf
-returns-15 c = search needs
+returns-15 c =
+    simp (c .match .keys15)
 
 returns-16 : tie.Need-returns-16
 unfolding itemOf
@@ -88,7 +92,8 @@ returns-16 c =
 
 returns-17 : tie.Need-returns-17
 unfolding itemOf
-returns-17 c = search needs
+returns-17 c =
+    simp (c .match .keys17)
 
 returns-18 : tie.Need-returns-18
 unfolding itemOf
@@ -98,7 +103,10 @@ returns-18 c =
 returns-19 : tie.Need-returns-19
 unfolding itemOf
 returns-19 c =
-    simp (c .match .keys19)
+    simp (
+      ← c .form-at .ensures,
+      c .before .match .keys19,
+    )
 
 returns-20 : tie.Need-returns-20
 unfolding itemOf
@@ -107,7 +115,8 @@ returns-20 c =
 
 returns-21 : tie.Need-returns-21
 unfolding itemOf
-returns-21 c = search needs
+returns-21 c =
+    simp (c .match .keys21)
 
 returns-22 : tie.Need-returns-22
 unfolding itemOf
@@ -136,55 +145,23 @@ returns-26 c =
 
 returns-27 : tie.Need-returns-27
 unfolding itemOf
-returns-27 c = search needs
+returns-27 c =
+    simp (c .match .keys27)
 
 returns-28 : tie.Need-returns-28
 unfolding itemOf
-returns-28 c = search needs
+returns-28 c =
+    simp (c .match .keys28)
 
 returns-29 : tie.Need-returns-29
 unfolding itemOf
-returns-29 c =
-    simp (c .match .keys29)
-
-returns-30 : tie.Need-returns-30
-unfolding itemOf
-returns-30 c =
-    simp (c .match .keys30)
-
-returns-31 : tie.Need-returns-31
-unfolding itemOf
-returns-31 c =
-    simp (c .match .keys31)
-
-returns-32 : tie.Need-returns-32
-unfolding itemOf
-returns-32 c =
-    simp (c .match .keys32)
-
-returns-33 : tie.Need-returns-33
-unfolding itemOf
-returns-33 c =
-    simp (c .match .keys33)
-
-returns-34 : tie.Need-returns-34
-unfolding itemOf
-returns-34 c =
-    simp (c .match .keys34)
-
-returns-35 : tie.Need-returns-35
-unfolding itemOf
-returns-35 c =
-    simp (c .match .keys35)
-
-returns-36 : tie.Need-returns-36
-unfolding itemOf
-returns-36 c = rest _ (drop 1 (variants (c .before .args .value) (c .before .args .place))) (c .before .args .code) (c .match .rest)
+returns-29 c = rest _ (drop 1 (variants (c .before .args .value) (c .before .args .place))) (c .before .args .code) (c .match .rest)
 
 pub item-of-spec : {M : Type 1} → statement M
 item-of-spec =
     tie.close
     (tie.spec
+    form-at-requires
     returns
     returns-2
     returns-3
@@ -213,11 +190,4 @@ item-of-spec =
     returns-26
     returns-27
     returns-28
-    returns-29
-    returns-30
-    returns-31
-    returns-32
-    returns-33
-    returns-34
-    returns-35
-    returns-36)
+    returns-29)

@@ -43,17 +43,26 @@ enum-known-item-9 c = search needs
 enum-told-3 : tie.Need-enum-told-3
 enum-told-3 c = search needs
 
+enum-told-4 : tie.Need-enum-told-4
+enum-told-4 c = search needs
+
 enum-known-item-10 : tie.Need-enum-known-item-10
 enum-known-item-10 c = search needs
+
+form-number-requires : tie.Need-form-number-requires
+form-number-requires c κs = search needs
+
+enum-told-5 : tie.Need-enum-told-5
+enum-told-5 c = search needs
+
+enum-told-6 : tie.Need-enum-told-6
+enum-told-6 c = search needs
 
 enum-known-item-11 : tie.Need-enum-known-item-11
 enum-known-item-11 c = search needs
 
 enum-known-item-12 : tie.Need-enum-known-item-12
 enum-known-item-12 c = search needs
-
-enum-told-4 : tie.Need-enum-told-4
-enum-told-4 c = search needs
 
 enum-known-item-13 : tie.Need-enum-known-item-13
 enum-known-item-13 c = search needs
@@ -66,33 +75,6 @@ enum-known-item-15 c = search needs
 
 enum-known-item-16 : tie.Need-enum-known-item-16
 enum-known-item-16 c = search needs
-
-enum-known-item-17 : tie.Need-enum-known-item-17
-enum-known-item-17 c = search needs
-
-enum-told-5 : tie.Need-enum-told-5
-enum-told-5 c = search needs
-
-enum-told-6 : tie.Need-enum-told-6
-enum-told-6 c = search needs
-
-enum-known-item-18 : tie.Need-enum-known-item-18
-enum-known-item-18 c = search needs
-
-enum-known-item-19 : tie.Need-enum-known-item-19
-enum-known-item-19 c = search needs
-
-enum-known-item-20 : tie.Need-enum-known-item-20
-enum-known-item-20 c = search needs
-
-enum-known-item-21 : tie.Need-enum-known-item-21
-enum-known-item-21 c = search needs
-
-enum-known-item-22 : tie.Need-enum-known-item-22
-enum-known-item-22 c = search needs
-
-enum-known-item-23 : tie.Need-enum-known-item-23
-enum-known-item-23 c = search needs
 
 returns : tie.Need-returns
 returns c =
@@ -147,71 +129,46 @@ returns-12 c =
 
 returns-13 : tie.Need-returns-13
 returns-13 c =
-    simp (c .before .item10 .given .1)
+    simp (c .enum-told4 .given .1)
 
 returns-14 : tie.Need-returns-14
 returns-14 c =
-    simp (c .before .item11 .given .1)
+    simp (
+      ← c .form-number .ensures,
+      c .before .before .item10 .given .1,
+    )
 
 returns-15 : tie.Need-returns-15
 returns-15 c =
-    simp (c .before .item12 .given .1)
+    simp (c .enum-told5 .given .1)
 
 returns-16 : tie.Need-returns-16
 returns-16 c =
-    simp (c .enum-told4 .given .1)
+    simp (c .enum-told6 .given .1)
 
 returns-17 : tie.Need-returns-17
 returns-17 c =
-    simp (c .before .item13 .given .1)
+    simp (c .before .item11 .given .1)
 
 returns-18 : tie.Need-returns-18
 returns-18 c =
-    simp (c .before .item14 .given .1)
+    simp (c .before .item12 .given .1)
 
 returns-19 : tie.Need-returns-19
 returns-19 c =
-    simp (c .before .item15 .given .1)
+    simp (c .before .item13 .given .1)
 
 returns-20 : tie.Need-returns-20
 returns-20 c =
-    simp (c .before .item16 .given .1)
+    simp (c .before .item14 .given .1)
 
 returns-21 : tie.Need-returns-21
 returns-21 c =
-    simp (c .before .item17 .given .1)
+    simp (c .before .item15 .given .1)
 
 returns-22 : tie.Need-returns-22
 returns-22 c =
-    simp (c .enum-told5 .given .1)
-
-returns-23 : tie.Need-returns-23
-returns-23 c =
-    simp (c .enum-told6 .given .1)
-
-returns-24 : tie.Need-returns-24
-returns-24 c =
-    simp (c .before .item18 .given .1)
-
-returns-25 : tie.Need-returns-25
-returns-25 c =
-    simp (c .before .item19 .given .1)
-
-returns-26 : tie.Need-returns-26
-returns-26 c =
-    simp (c .before .item20 .given .1)
-
-returns-27 : tie.Need-returns-27
-returns-27 c =
-    simp (c .before .item21 .given .1)
-
-returns-28 : tie.Need-returns-28
-returns-28 c =
-    simp (c .before .item22 .given .1)
-
-returns-29 : tie.Need-returns-29
-returns-29 c =
-    simp (c .before .item23 .given .1)
+    simp (c .before .item16 .given .1)
 
 pub row-of-spec : {M : Type 1} → statement M
 row-of-spec =
@@ -230,23 +187,17 @@ row-of-spec =
     enum-told-2
     enum-known-item-9
     enum-told-3
+    enum-told-4
     enum-known-item-10
+    form-number-requires
+    enum-told-5
+    enum-told-6
     enum-known-item-11
     enum-known-item-12
-    enum-told-4
     enum-known-item-13
     enum-known-item-14
     enum-known-item-15
     enum-known-item-16
-    enum-known-item-17
-    enum-told-5
-    enum-told-6
-    enum-known-item-18
-    enum-known-item-19
-    enum-known-item-20
-    enum-known-item-21
-    enum-known-item-22
-    enum-known-item-23
     returns
     returns-2
     returns-3
@@ -268,11 +219,4 @@ row-of-spec =
     returns-19
     returns-20
     returns-21
-    returns-22
-    returns-23
-    returns-24
-    returns-25
-    returns-26
-    returns-27
-    returns-28
-    returns-29)
+    returns-22)

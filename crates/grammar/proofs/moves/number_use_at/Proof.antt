@@ -28,28 +28,28 @@ returns-7 : tie.Need-returns-7
 returns-7 c = search needs
 
 returns-8 : tie.Need-returns-8
-returns-8 c = search needs
+returns-8 c = simp (c .match .keys8)
 
 returns-9 : tie.Need-returns-9
-returns-9 c = search needs
+returns-9 c = simp (c .match .keys9)
 
 returns-10 : tie.Need-returns-10
-returns-10 c = search needs
+returns-10 c = simp (c .match .keys10)
 
 returns-11 : tie.Need-returns-11
-returns-11 c = search needs
+returns-11 c = simp (c .match .keys11)
 
 returns-12 : tie.Need-returns-12
-returns-12 c = search needs
+returns-12 c = simp (c .match .keys12)
 
 returns-13 : tie.Need-returns-13
-returns-13 c = search needs
+returns-13 c = simp (c .match .keys13)
 
 returns-14 : tie.Need-returns-14
-returns-14 c = search needs
+returns-14 c = simp (c .match .keys14)
 
 returns-15 : tie.Need-returns-15
-returns-15 c = search needs
+returns-15 c = simp (c .match .keys15)
 
 returns-16 : tie.Need-returns-16
 returns-16 c = search needs
