@@ -5,8 +5,8 @@ use Prim.Native.Nat.{_+_}
 use Rattle.grammar.specs.declared.Kind.the-variants.{Interval, Tone, System, Retuning, Logic, Order as AnOrder, Harmony}
 use Rattle.grammar.specs.declared.Form.the-variants.{AnchorTo, AnchorUp, AnchorDown, WidthTo, WidthUp, WidthDown, WidthTimes, WidthOver}
 use Rattle.grammar.specs.declared.NumberUse.{NumberUse}
-use Rattle.grammar.specs.declared.NumberUse.the-variants.{RatioFirst, RatioSecond, Degree, Radicand, FirstFactor, Factor, Frequency, AnchorKey, Amount, Key, StarredKey}
-use Rattle.grammar.specs.declared.NameUse.the-variants.{Term, Base, Position, Start, Order, Trigger, CountedTrigger}
+use Rattle.grammar.specs.declared.NumberUse.the-variants.{RatioFirst, RatioSecond, Degree, Radicand, FirstFactor, Factor, Frequency, AnchorKey, Amount, Key, StarredKey, Argument}
+use Rattle.grammar.specs.declared.NameUse.the-variants.{Term, Base, Position, Start, Order, Trigger, CountedTrigger, Placeholder, Amount as NamedAmount}
 use Rattle.grammar.specs.declared.MarkUse.the-variants.{MutedPosition, KeptPosition, KeptAnchor, KeptWidth, Period, Onward, Star}
 use Rattle.grammar.specs.declared.Action.{Action}
 use Rattle.grammar.specs.declared.Action.the-variants.{Pass, Declare, Hold, Held, Number, Sign, Name, Mark, Letter, CountOrder}
@@ -33,6 +33,7 @@ uses (Amount WidthTimes) = (refl, refl)
 uses (Amount WidthOver) = (refl, refl)
 uses Key = (refl, refl)
 uses StarredKey = (refl, refl)
+uses Argument = (refl, refl)
 
 pub action-back : (a : Action) → actionAt (actionNumber a) ≡ a
 unfolding actionAt
@@ -58,6 +59,15 @@ action-back (Name Start) = refl
 action-back (Name Order) = refl
 action-back (Name Trigger) = refl
 action-back (Name CountedTrigger) = refl
+action-back (Name Placeholder) = refl
+action-back (Name (NamedAmount AnchorTo)) = refl
+action-back (Name (NamedAmount AnchorUp)) = refl
+action-back (Name (NamedAmount AnchorDown)) = refl
+action-back (Name (NamedAmount WidthTo)) = refl
+action-back (Name (NamedAmount WidthUp)) = refl
+action-back (Name (NamedAmount WidthDown)) = refl
+action-back (Name (NamedAmount WidthTimes)) = refl
+action-back (Name (NamedAmount WidthOver)) = refl
 action-back (Mark MutedPosition) = refl
 action-back (Mark KeptPosition) = refl
 action-back (Mark KeptAnchor) = refl

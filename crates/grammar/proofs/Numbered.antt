@@ -6,7 +6,7 @@ use Rattle.symbols.specs.declared.MarkKind.{MarkKind}
 use Rattle.symbols.specs.declared.MarkKind.the-variants as mark
 use Rattle.symbols.specs.declared.words.Word.{Word}
 use Rattle.symbols.specs.declared.words.Word.the-variants as word
-use Rattle.grammar.specs.Syntax.{Terminal, interval, tone, tonesystem, retuning, logic, key, root, harmony, unused, letter, name, number, equals, colon, plus, minus, times, divide, opening, closing, comma, at, braceOpen, braceClose, widthOpen, widthClose, arrow, end, nothing, Node, Begin, Finish, IntervalName, IntervalEquals, IntervalBody, IntervalKind, SecondPart, RootRadicand, IntervalSign, IntervalTerm, IntervalTermName, IntervalNext, ToneName, ToneEquals, ToneBody, ToneSign, ToneTerm, ToneTermName, ToneNext, SystemName, SystemEquals, SystemAnchor, SystemOpen, SystemFirst, SystemPosition, SystemComma, SystemPeriod, SystemSign, SystemTerm, SystemTermName, RetuningName, RetuningEquals, RetuningBody, RetuningInside, RetuningNext, AnchorOperator, AnchorPlusNumber, AnchorMinusNumber, AnchorOpen, AnchorClose, WidthBody, WidthOperator, WidthPlusNumber, WidthMinusNumber, WidthTimesNumber, WidthOverNumber, WidthClose, WidthBracket, PeriodBody, PeriodSign, PeriodTerm, PeriodTermName, TonesSign, TonesTerm, TonesTermName, TonesPosition, LogicName, LogicTrigger, LogicLetter, LogicEquals, LogicStart, LogicOpen, OrderTrigger, OrderLetter, OrderArrow, OrderName, LogicNext, HarmonyName, HarmonyEquals, HarmonyOpen, HarmonyKey, HarmonyStarred, HarmonyComma, HarmonyNext}
+use Rattle.grammar.specs.Syntax.{Terminal, interval, tone, tonesystem, retuning, logic, key, root, harmony, unused, letter, name, number, equals, colon, plus, minus, times, divide, opening, closing, comma, at, braceOpen, braceClose, bracketOpen, bracketClose, widthOpen, widthClose, arrow, end, nothing, Node, Begin, Finish, IntervalName, IntervalEquals, IntervalBody, IntervalKind, SecondPart, RootRadicand, IntervalSign, IntervalTerm, IntervalTermName, IntervalNext, ToneName, ToneEquals, ToneBody, ToneSign, ToneTerm, ToneTermName, ToneNext, SystemName, SystemEquals, SystemAnchor, SystemOpen, SystemFirst, SystemPosition, SystemComma, SystemPeriod, SystemSign, SystemTerm, SystemTermName, RetuningName, RetuningEquals, RetuningBody, RetuningInside, RetuningNext, AnchorOperator, AnchorPlusNumber, AnchorMinusNumber, AnchorOpen, AnchorClose, WidthBody, WidthOperator, WidthPlusNumber, WidthMinusNumber, WidthTimesNumber, WidthOverNumber, WidthClose, WidthBracket, PeriodBody, PeriodSign, PeriodTerm, PeriodTermName, TonesSign, TonesTerm, TonesTermName, TonesPosition, LogicName, LogicTrigger, LogicLetter, LogicEquals, LogicStart, LogicOpen, OrderTrigger, OrderLetter, OrderArrow, OrderName, LogicNext, HarmonyName, HarmonyEquals, HarmonyOpen, HarmonyKey, HarmonyStarred, HarmonyComma, HarmonyNext, PlaceholderName, PlaceholderComma, PlaceholderEquals, StartNumber, StartComma, StartOpen, OrderCalled, OrderNumber, OrderComma}
 use Rattle.grammar.specs.Terminals.{terminalNumber, sameTerminal, ofWord, ofMark}
 use Rattle.grammar.specs.Moves.{nodeNumber, nodeAt, terminalAt}
 
@@ -35,6 +35,8 @@ terminal-back comma = refl
 terminal-back at = refl
 terminal-back braceOpen = refl
 terminal-back braceClose = refl
+terminal-back bracketOpen = refl
+terminal-back bracketClose = refl
 terminal-back widthOpen = refl
 terminal-back widthClose = refl
 terminal-back arrow = refl
@@ -116,6 +118,15 @@ node-back HarmonyKey = refl
 node-back HarmonyStarred = refl
 node-back HarmonyComma = refl
 node-back HarmonyNext = refl
+node-back PlaceholderName = refl
+node-back PlaceholderComma = refl
+node-back PlaceholderEquals = refl
+node-back StartNumber = refl
+node-back StartComma = refl
+node-back StartOpen = refl
+node-back OrderCalled = refl
+node-back OrderNumber = refl
+node-back OrderComma = refl
 
 -- ---- words and marks
 
@@ -153,6 +164,8 @@ mark-test mark.Comma = tt
 mark-test mark.At = tt
 mark-test mark.BraceOpen = tt
 mark-test mark.BraceClose = tt
+mark-test mark.BracketOpen = tt
+mark-test mark.BracketClose = tt
 mark-test mark.WidthOpen = tt
 mark-test mark.WidthClose = tt
 mark-test mark.Arrow = tt

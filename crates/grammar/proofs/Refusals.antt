@@ -8,14 +8,14 @@ use Prim.Native.Nat.{ℕ}
 use lib.Dec.{T, leb, eqb}
 use lib.Seq.{slice}
 use Rattle.status.specs.Status.{symbolNotAllowed, numberOutOfRange, itemTooMany}
-use Rattle.limits.specs.Limits.{mostHarmonyKeys}
+use Rattle.limits.specs.Limits.{mostHarmonyKeys, mostPlaceholders}
 use Rattle.sets.specs.Sets.{has}
 use Rattle.numerals.specs.declared.WrittenNumber.{WrittenNumber}
 use Rattle.numerals.specs.declared.WrittenNumber.the-variants.{Outside, Value}
 use Rattle.grammar.specs.declared.Kind.the-variants.{Order as AnOrder}
 use Rattle.grammar.specs.declared.NumberUse.{NumberUse}
-use Rattle.grammar.specs.declared.NumberUse.the-variants.{RatioFirst, RatioSecond, Degree, Radicand, FirstFactor, Factor, Frequency, AnchorKey, Amount, Key, StarredKey}
-use Rattle.grammar.specs.declared.NameUse.the-variants.{Term, Base, Position, Start, Order, Trigger, CountedTrigger}
+use Rattle.grammar.specs.declared.NumberUse.the-variants.{RatioFirst, RatioSecond, Degree, Radicand, FirstFactor, Factor, Frequency, AnchorKey, Amount, Key, StarredKey, Argument}
+use Rattle.grammar.specs.declared.NameUse.the-variants.{Term, Base, Position, Start, Order, Trigger, CountedTrigger, Placeholder, Amount as NamedAmount}
 use Rattle.grammar.specs.declared.MarkUse.the-variants.{MutedPosition, KeptPosition, KeptAnchor, KeptWidth, Period, Onward, Star}
 use Rattle.grammar.specs.declared.Action.{Action}
 use Rattle.grammar.specs.declared.Action.the-variants.{Pass, Declare, Hold, Held, Number, Sign, Name, Mark, Letter, CountOrder}
@@ -91,6 +91,7 @@ module _ (text : List ℕ) (s : Progress) (x : Span) where
   used-why a (Amount f) v k = tt
   used-why a Key v k = key-why a v _ (k plain)
   used-why a StarredKey v k = key-why a v _ (k starred)
+  used-why a Argument v k = full-why a mostPlaceholders (s .bracketed) _ tt
 
   numbered-why : (a : Action) (u : NumberUse) (from to : ℕ)
       → ((v : ℕ) → judged u (slice from to text) ≡ Value v → KeyUse u → has (s .keys) v ≡ true → Why a symbolNotAllowed) → Explained a (numbered text s u from to x)
@@ -114,6 +115,8 @@ module _ (text : List ℕ) (s : Progress) (x : Span) where
   acted-why (Name Start) = tt
   acted-why (Name Order) = tt
   acted-why (Name Trigger) = tt
+  acted-why (Name Placeholder) = full-why (Name Placeholder) mostPlaceholders (s .bracketed) _ tt
+  acted-why (Name (NamedAmount f)) = tt
   acted-why (Name CountedTrigger) = full-why (Name CountedTrigger) (limit AnOrder) (soFar AnOrder (s .counts)) _ tt
   acted-why (Mark MutedPosition) = full-why (Mark MutedPosition) mostPositions (s .positions) _ tt
   acted-why (Mark KeptPosition) = full-why (Mark KeptPosition) mostPositions (s .positions) _ tt

@@ -11,7 +11,7 @@ use Rattle.grammar.specs.declared.Kind.the-variants.{Interval, Tone, Sys
 use Rattle.grammar.specs.declared.Form.{Form}
 use Rattle.grammar.specs.declared.Form.the-variants.{AnchorTo, AnchorUp, AnchorDown, WidthTo, WidthUp, WidthDown, WidthTimes, WidthOver}
 use Rattle.grammar.specs.declared.Item.{Item}
-use Rattle.grammar.specs.declared.Item.the-variants.{Declared, Ratio, Root, Add, Subtract, Frequency, Base, AnchorKey, MutedPosition, KeptPosition, TonePosition, AnchorKept, WidthKept, Amount, Period, Onward, Letter, Start, Order, Trigger, Key, StarredKey}
+use Rattle.grammar.specs.declared.Item.the-variants.{Declared, Ratio, Root, Add, Subtract, Frequency, Base, AnchorKey, MutedPosition, KeptPosition, TonePosition, AnchorKept, WidthKept, Amount, Period, Onward, Letter, Start, Order, Trigger, Key, StarredKey, AmountName, Placeholder, Argument}
 use Rattle.grammar.specs.Items.{formAt, formNumber, code, value, place, row, rowSize, rows, holding, itemOf, itemAt}
 
 -- ---- an item comes back from its numbers
@@ -51,11 +51,14 @@ item-back WidthKept = refl
 item-back Period = refl
 item-back Onward = refl
 item-back (Letter c) = refl
-item-back (Start p) = refl
-item-back (Order p) = refl
+item-back (Start q p) = refl
+item-back (Order q p) = refl
 item-back (Trigger p) = refl
 item-back (Key v) = refl
 item-back (StarredKey v) = refl
+item-back (AmountName f p) = ap (λ (g : Form). AmountName g p) (form-back f)
+item-back (Placeholder p) = refl
+item-back (Argument v) = refl
 
 -- ---- what the functions on rows leave
 

@@ -12,7 +12,7 @@ use lib.Dec.{leb, eqb}
 use lib.ListN.{length, length-append}
 use lib.Seq.{slice, sets, append-snoc}
 use Rattle.status.specs.Status.{done, textTooLong, noSymbol, symbolNotAllowed, itemTooMany, numberOutOfRange}
-use Rattle.limits.specs.Limits.{mostHarmonyKeys}
+use Rattle.limits.specs.Limits.{mostHarmonyKeys, mostPlaceholders}
 use Rattle.sets.specs.Sets.{has}
 use Rattle.symbols.specs.declared.Symbol.{Symbol}
 use Rattle.symbols.specs.declared.Symbol.the-variants.{Bad, End, Name as NameSymbol, Number as NumberSymbol, Mark as MarkSymbol}
@@ -28,8 +28,8 @@ use Rattle.symbols.proofs.Progress.{Placed as Within, next-placed, after-within
 use Rattle.grammar.specs.declared.Kind.{Kind}
 use Rattle.grammar.specs.declared.Kind.the-variants.{Order as AnOrder}
 use Rattle.grammar.specs.declared.NumberUse.{NumberUse}
-use Rattle.grammar.specs.declared.NumberUse.the-variants.{RatioFirst, RatioSecond, Degree, Radicand, FirstFactor, Factor, Frequency, AnchorKey, Amount, Key, StarredKey}
-use Rattle.grammar.specs.declared.NameUse.the-variants.{Term, Base, Position, Start, Order, Trigger, CountedTrigger}
+use Rattle.grammar.specs.declared.NumberUse.the-variants.{RatioFirst, RatioSecond, Degree, Radicand, FirstFactor, Factor, Frequency, AnchorKey, Amount, Key, StarredKey, Argument}
+use Rattle.grammar.specs.declared.NameUse.the-variants.{Term, Base, Position, Start, Order, Trigger, CountedTrigger, Placeholder, Amount as NamedAmount}
 use Rattle.grammar.specs.declared.MarkUse.the-variants.{MutedPosition, KeptPosition, KeptAnchor, KeptWidth, Period, Onward, Star}
 use Rattle.grammar.specs.declared.Action.{Action}
 use Rattle.grammar.specs.declared.Action.the-variants.{Pass, Declare, Hold, Held, Number, Sign, Name, Mark, Letter, CountOrder}
@@ -43,7 +43,7 @@ use Rattle.grammar.specs.declared.reading.Reading.{Reading}
 use Rattle.grammar.specs.Syntax.{Terminal, end, nothing, Node, Begin, Finish, Rule, rules}
 use Rattle.grammar.specs.Terminals.{terminalNumber, picked, ofLetter, terminalOf, startOf, endOf, spanOf}
 use Rattle.grammar.specs.Moves.{nodeNumber, moveBy, moveOf}
-use Rattle.grammar.specs.Reading.{Read, limit, mostTerms, mostPositions, soFar, oneMore, withCounts, withPositions, noTerm, nextTerm, unlessFull, counted, positioned, judged, used, ifAllowed, numbered, acted, standing, Moved, thenAt, notAllowed, byRule, stepped, begun, with, refusedAt, readFrom, mostBytes, readItems, answered, withKeys, withKey, keyCounted, keyNamed, orderCounted}
+use Rattle.grammar.specs.Reading.{Read, limit, mostTerms, mostPositions, soFar, oneMore, withCounts, withPositions, noTerm, nextTerm, unlessFull, counted, positioned, judged, used, ifAllowed, numbered, acted, standing, Moved, thenAt, notAllowed, byRule, stepped, begun, with, refusedAt, readFrom, mostBytes, readItems, answered, withKeys, withKey, withBracketed, inBrackets, keyCounted, keyNamed, orderCounted}
 use Rattle.grammar.specs.Reading as reading
 use Rattle.grammar.specs.Items.{row, rowSize, rows, holding, itemSlots}
 use Rattle.grammar.proofs.Numbered.{word-apart, mark-apart}
@@ -90,7 +90,7 @@ full-grown n most k x o h = go (leb most k)
 
 counted-grown : (s : Progress) (k : Kind) (i : Item) (x : Span) → Grown (s .term .before) (counted s k i x)
 counted-grown s k i x =
-    full-grown (s .term .before) (limit k) (soFar k (s .counts)) x (Give (withCounts (oneMore k (s .counts)) (withKeys 0 (withPositions 0 (noTerm s)))) i) (omega arith)
+    full-grown (s .term .before) (limit k) (soFar k (s .counts)) x (Give (withCounts (oneMore k (s .counts)) (withBracketed 0 (withKeys 0 (withPositions 0 (noTerm s))))) i) (omega arith)
 
 positioned-grown : (s : Progress) (i : Item) (x : Span) → Grown (s .term .before) (positioned s i x)
 positioned-grown s i x = full-grown (s .term .before) mostPositions (s .positions) x (Give (withPositions (s .positions + 1) (noTerm s)) i) (omega arith)
@@ -101,6 +101,9 @@ key-grown s v i x = go (has (s .keys) v)
     go : (b : Bool) → Grown (s .term .before) (cond b (Refuse symbolNotAllowed (x .start)) (keyCounted s x (Give (withKey v s) i)))
     go true = tt
     go false = full-grown (s .term .before) mostHarmonyKeys (s .positions) x (Give (withKey v s) i) (omega arith)
+
+bracketed-grown : (s : Progress) (i : Item) (x : Span) → Grown (s .term .before) (inBrackets s i x)
+bracketed-grown s i x = full-grown (s .term .before) mostPlaceholders (s .bracketed) x (Give (withBracketed (s .bracketed + 1) s) i) (omega arith)
 
 used-grown : (s : Progress) (u : NumberUse) (v : ℕ) (x : Span) → Grown (s .term .before) (used s u v x)
 used-grown s RatioFirst v x = omega arith
@@ -114,6 +117,7 @@ used-grown s AnchorKey v x = omega arith
 used-grown s (Amount f) v x = omega arith
 used-grown s Key v x = key-grown s v _ x
 used-grown s StarredKey v x = key-grown s v _ x
+used-grown s Argument v x = bracketed-grown s _ x
 
 numbered-grown : (text : List ℕ) (s : Progress) (u : NumberUse) (a b : ℕ) (x : Span) → Grown (s .term .before) (numbered text s u a b x)
 numbered-grown text s u a b x = go (judged u (slice a b text))
@@ -139,6 +143,8 @@ acted-grown text s (Name Position) x = positioned-grown s _ x
 acted-grown text s (Name Start) x = omega arith
 acted-grown text s (Name Order) x = omega arith
 acted-grown text s (Name Trigger) x = omega arith
+acted-grown text s (Name Placeholder) x = bracketed-grown s _ x
+acted-grown text s (Name (NamedAmount f)) x = omega arith
 acted-grown text s (Name CountedTrigger) x = order-grown s x _ (omega arith)
 acted-grown text s (Mark MutedPosition) x = positioned-grown s _ x
 acted-grown text s (Mark KeptPosition) x = positioned-grown s _ x

@@ -4,11 +4,12 @@ use Prim.Native.Nat.{ℕ, _+_, _*_}
 use lib.ListN.{length, drop, getD}
 use Rattle.grammar.specs.declared.Kind.{Kind}
 use Rattle.grammar.specs.declared.Kind.the-variants.{Interval, Tone, System, Retuning, Logic, Order as AnOrder, Harmony}
+use Rattle.limits.specs.Limits.{mostCalls}
 use Rattle.grammar.specs.Reading.{mostBytes}
 use Rattle.grammar.specs.declared.Form.{Form}
 use Rattle.grammar.specs.declared.Form.the-variants.{AnchorTo, AnchorUp, AnchorDown, WidthTo, WidthUp, WidthDown, WidthTimes, WidthOver}
 use Rattle.grammar.specs.declared.Item.{Item}
-use Rattle.grammar.specs.declared.Item.the-variants.{Declared, Ratio, Root, Add, Subtract, Frequency, Base, AnchorKey, MutedPosition, KeptPosition, TonePosition, AnchorKept, WidthKept, Amount, Period, Onward, Letter, Start, Order, Trigger, Key, StarredKey}
+use Rattle.grammar.specs.declared.Item.the-variants.{Declared, Ratio, Root, Add, Subtract, Frequency, Base, AnchorKey, MutedPosition, KeptPosition, TonePosition, AnchorKept, WidthKept, Amount, Period, Onward, Letter, Start, Order, Trigger, Key, StarredKey, AmountName, Placeholder, Argument}
 
 -- the number of an item's variant
 abbrev pub declaredCode : Kind → ℕ
@@ -64,11 +65,14 @@ cells (Amount f n) = cellsOf 19 (formNumber f) n
 cells Period = cellsOf 20 0 0
 cells Onward = cellsOf 21 0 0
 cells (Letter c) = cellsOf 22 c 0
-cells (Start p) = cellsOf 23 0 p
-cells (Order p) = cellsOf 24 0 p
+cells (Start q p) = cellsOf 23 q p
+cells (Order q p) = cellsOf 24 q p
 cells (Trigger p) = cellsOf 26 0 p
 cells (Key v) = cellsOf 27 v 0
 cells (StarredKey v) = cellsOf 28 v 0
+cells (AmountName f p) = cellsOf 29 (formNumber f) p
+cells (Placeholder p) = cellsOf 30 0 p
+cells (Argument v) = cellsOf 31 v 0
 
 abbrev pub code : Item → ℕ
 code i = cells i .code
@@ -95,9 +99,12 @@ rows (i ∷ is) = row i ++ rows is
 abbrev pub holding : List Item → List ℕ → List ℕ
 holding is before = rows is ++ drop (length (rows is)) before
 
--- room for an item at every byte of the longest text
+-- room for an item at every symbol of the longest text, its end too, and, document 02, 1/13, for two at each call, whose numbers may be written in
+abbrev pub mostItems : ℕ
+mostItems = mostBytes + 1 + 2 * mostCalls
+
 abbrev pub itemSlots : ℕ
-itemSlots = rowSize * mostBytes
+itemSlots = rowSize * mostItems
 
 -- ---- and back: the item of a row
 
@@ -109,8 +116,9 @@ variants v p =
     ∷ Ratio v p ∷ Root v p ∷ Add v p ∷ Subtract v p ∷ Frequency v ∷ Base p
     ∷ AnchorKey v ∷ MutedPosition ∷ KeptPosition ∷ TonePosition p
     ∷ AnchorKept ∷ WidthKept ∷ Amount (formAt v) p
-    ∷ Period ∷ Onward ∷ Letter v ∷ Start p ∷ Order p
-    ∷ Declared Harmony p ∷ Trigger p ∷ Key v ∷ StarredKey v ∷ []
+    ∷ Period ∷ Onward ∷ Letter v ∷ Start v p ∷ Order v p
+    ∷ Declared Harmony p ∷ Trigger p ∷ Key v ∷ StarredKey v
+    ∷ AmountName (formAt v) p ∷ Placeholder p ∷ Argument v ∷ []
 
 -- the item of three numbers (`item-back` of proofs/Rows.antt: those of an item give the item)
 unfoldable pub itemOf : ℕ → ℕ → ℕ → Item

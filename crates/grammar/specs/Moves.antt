@@ -10,16 +10,16 @@ use Rattle.grammar.specs.declared.Kind.{Kind}
 use Rattle.grammar.specs.declared.Kind.the-variants.{Interval, Tone, System, Retuning, Logic, Order as AnOrder, Harmony}
 use Rattle.grammar.specs.declared.Form.the-variants.{AnchorTo, AnchorUp, AnchorDown, WidthTo, WidthUp, WidthDown, WidthTimes, WidthOver}
 use Rattle.grammar.specs.declared.NumberUse.{NumberUse}
-use Rattle.grammar.specs.declared.NumberUse.the-variants.{RatioFirst, RatioSecond, Degree, Radicand, FirstFactor, Factor, Frequency, AnchorKey, Amount, Key, StarredKey}
+use Rattle.grammar.specs.declared.NumberUse.the-variants.{RatioFirst, RatioSecond, Degree, Radicand, FirstFactor, Factor, Frequency, AnchorKey, Amount, Key, StarredKey, Argument}
 use Rattle.grammar.specs.declared.NameUse.{NameUse}
-use Rattle.grammar.specs.declared.NameUse.the-variants.{Term, Base, Position, Start, Order, Trigger, CountedTrigger}
+use Rattle.grammar.specs.declared.NameUse.the-variants.{Term, Base, Position, Start, Order, Trigger, CountedTrigger, Placeholder, Amount as NamedAmount}
 use Rattle.grammar.specs.declared.MarkUse.{MarkUse}
 use Rattle.grammar.specs.declared.MarkUse.the-variants.{MutedPosition, KeptPosition, KeptAnchor, KeptWidth, Period, Onward, Star}
 use Rattle.grammar.specs.declared.Action.{Action}
 use Rattle.grammar.specs.declared.Action.the-variants.{Pass, Declare, Hold, Held, Number, Sign, Name, Mark, Letter, CountOrder}
 use Rattle.grammar.specs.declared.moves.Move.{Move}
 use Rattle.grammar.specs.declared.moves.Move.the-variants.{Missing, To}
-use Rattle.grammar.specs.Syntax.{Terminal, interval, tone, tonesystem, retuning, logic, key, root, harmony, unused, letter, name, number, equals, colon, plus, minus, times, divide, opening, closing, comma, at, braceOpen, braceClose, widthOpen, widthClose, arrow, end, nothing, Node, Begin, Finish, IntervalName, IntervalEquals, IntervalBody, IntervalKind, SecondPart, RootRadicand, IntervalSign, IntervalTerm, IntervalTermName, IntervalNext, ToneName, ToneEquals, ToneBody, ToneSign, ToneTerm, ToneTermName, ToneNext, SystemName, SystemEquals, SystemAnchor, SystemOpen, SystemFirst, SystemPosition, SystemComma, SystemPeriod, SystemSign, SystemTerm, SystemTermName, RetuningName, RetuningEquals, RetuningBody, RetuningInside, RetuningNext, AnchorOperator, AnchorPlusNumber, AnchorMinusNumber, AnchorOpen, AnchorClose, WidthBody, WidthOperator, WidthPlusNumber, WidthMinusNumber, WidthTimesNumber, WidthOverNumber, WidthClose, WidthBracket, PeriodBody, PeriodSign, PeriodTerm, PeriodTermName, TonesSign, TonesTerm, TonesTermName, TonesPosition, LogicName, LogicTrigger, LogicLetter, LogicEquals, LogicStart, LogicOpen, OrderTrigger, OrderLetter, OrderArrow, OrderName, LogicNext, HarmonyName, HarmonyEquals, HarmonyOpen, HarmonyKey, HarmonyStarred, HarmonyComma, HarmonyNext, Rule, rules}
+use Rattle.grammar.specs.Syntax.{Terminal, interval, tone, tonesystem, retuning, logic, key, root, harmony, unused, letter, name, number, equals, colon, plus, minus, times, divide, opening, closing, comma, at, braceOpen, braceClose, bracketOpen, bracketClose, widthOpen, widthClose, arrow, end, nothing, Node, Begin, Finish, IntervalName, IntervalEquals, IntervalBody, IntervalKind, SecondPart, RootRadicand, IntervalSign, IntervalTerm, IntervalTermName, IntervalNext, ToneName, ToneEquals, ToneBody, ToneSign, ToneTerm, ToneTermName, ToneNext, SystemName, SystemEquals, SystemAnchor, SystemOpen, SystemFirst, SystemPosition, SystemComma, SystemPeriod, SystemSign, SystemTerm, SystemTermName, RetuningName, RetuningEquals, RetuningBody, RetuningInside, RetuningNext, AnchorOperator, AnchorPlusNumber, AnchorMinusNumber, AnchorOpen, AnchorClose, WidthBody, WidthOperator, WidthPlusNumber, WidthMinusNumber, WidthTimesNumber, WidthOverNumber, WidthClose, WidthBracket, PeriodBody, PeriodSign, PeriodTerm, PeriodTermName, TonesSign, TonesTerm, TonesTermName, TonesPosition, LogicName, LogicTrigger, LogicLetter, LogicEquals, LogicStart, LogicOpen, OrderTrigger, OrderLetter, OrderArrow, OrderName, LogicNext, HarmonyName, HarmonyEquals, HarmonyOpen, HarmonyKey, HarmonyStarred, HarmonyComma, HarmonyNext, PlaceholderName, PlaceholderComma, PlaceholderEquals, StartNumber, StartComma, StartOpen, OrderCalled, OrderNumber, OrderComma, Rule, rules}
 use Rattle.grammar.specs.Terminals.{terminalNumber, picked}
 use Rattle.grammar.specs.Items.{formNumber}
 
@@ -101,6 +101,15 @@ nodeNumber HarmonyKey = 70
 nodeNumber HarmonyStarred = 71
 nodeNumber HarmonyComma = 72
 nodeNumber HarmonyNext = 73
+nodeNumber PlaceholderName = 74
+nodeNumber PlaceholderComma = 75
+nodeNumber PlaceholderEquals = 76
+nodeNumber StartNumber = 77
+nodeNumber StartComma = 78
+nodeNumber StartOpen = 79
+nodeNumber OrderCalled = 80
+nodeNumber OrderNumber = 81
+nodeNumber OrderComma = 82
 
 -- the nodes in the order of their numbers; past them nothing follows
 abbrev pub nodes : List Node
@@ -117,7 +126,8 @@ nodes =
     TonesTermName ∷ TonesPosition ∷ LogicName ∷ LogicTrigger ∷ LogicLetter ∷ LogicEquals ∷
     LogicStart ∷ LogicOpen ∷ OrderTrigger ∷ OrderLetter ∷ OrderArrow ∷ OrderName ∷
     LogicNext ∷ HarmonyName ∷ HarmonyEquals ∷ HarmonyOpen ∷ HarmonyKey ∷ HarmonyStarred ∷
-    HarmonyComma ∷ HarmonyNext ∷ []
+    HarmonyComma ∷ HarmonyNext ∷
+    PlaceholderName ∷ PlaceholderComma ∷ PlaceholderEquals ∷ StartNumber ∷ StartComma ∷ StartOpen ∷ OrderCalled ∷ OrderNumber ∷ OrderComma ∷ []
 
 abbrev pub nodeAt : ℕ → Node
 nodeAt n = getD nodes n Finish
@@ -126,7 +136,7 @@ nodeAt n = getD nodes n Finish
 abbrev pub terminals : List Terminal
 terminals =
     interval ∷ tone ∷ tonesystem ∷ retuning ∷ logic ∷ key ∷ root ∷ harmony ∷ unused ∷ letter ∷ name ∷ number ∷ equals ∷ colon ∷ plus ∷ minus
-    ∷ times ∷ divide ∷ opening ∷ closing ∷ comma ∷ at ∷ braceOpen ∷ braceClose ∷ widthOpen ∷ widthClose ∷ arrow ∷ end ∷ nothing ∷ []
+    ∷ times ∷ divide ∷ opening ∷ closing ∷ comma ∷ at ∷ braceOpen ∷ braceClose ∷ bracketOpen ∷ bracketClose ∷ widthOpen ∷ widthClose ∷ arrow ∷ end ∷ nothing ∷ []
 
 abbrev pub terminalAt : ℕ → Terminal
 terminalAt t = getD terminals t nothing
@@ -139,10 +149,13 @@ kinds = Interval ∷ Tone ∷ System ∷ Retuning ∷ Logic ∷ AnOrder ∷ Harm
 abbrev pub numberUses : List NumberUse
 numberUses =
     RatioFirst ∷ RatioSecond ∷ Degree ∷ Radicand ∷ FirstFactor ∷ Factor ∷ Frequency ∷ AnchorKey ∷ Amount AnchorTo ∷ Amount AnchorUp
-    ∷ Amount AnchorDown ∷ Amount WidthTo ∷ Amount WidthUp ∷ Amount WidthDown ∷ Amount WidthTimes ∷ Amount WidthOver ∷ Key ∷ StarredKey ∷ []
+    ∷ Amount AnchorDown ∷ Amount WidthTo ∷ Amount WidthUp ∷ Amount WidthDown ∷ Amount WidthTimes ∷ Amount WidthOver ∷ Key ∷ StarredKey ∷ Argument ∷ []
 
 abbrev pub nameUses : List NameUse
-nameUses = Term ∷ Base ∷ Position ∷ Start ∷ Order ∷ Trigger ∷ CountedTrigger ∷ []
+nameUses =
+    Term ∷ Base ∷ Position ∷ Start ∷ Order ∷ Trigger ∷ CountedTrigger ∷ Placeholder ∷ NamedAmount AnchorTo ∷ NamedAmount AnchorUp
+    ∷ NamedAmount AnchorDown ∷ NamedAmount WidthTo ∷ NamedAmount WidthUp ∷ NamedAmount WidthDown ∷ NamedAmount WidthTimes
+    ∷ NamedAmount WidthOver ∷ []
 
 abbrev pub markUses : List MarkUse
 markUses = MutedPosition ∷ KeptPosition ∷ KeptAnchor ∷ KeptWidth ∷ Period ∷ Onward ∷ Star ∷ []
@@ -188,6 +201,7 @@ numberUseNumber AnchorKey = 7
 numberUseNumber (Amount f) = 8 + formNumber f
 numberUseNumber Key = 16
 numberUseNumber StarredKey = 17
+numberUseNumber Argument = 18
 
 abbrev pub nameUseNumber : NameUse → ℕ
 nameUseNumber Term = 0
@@ -197,6 +211,8 @@ nameUseNumber Start = 3
 nameUseNumber Order = 4
 nameUseNumber Trigger = 5
 nameUseNumber CountedTrigger = 6
+nameUseNumber Placeholder = 7
+nameUseNumber (NamedAmount f) = 8 + formNumber f
 
 abbrev pub markUseNumber : MarkUse → ℕ
 markUseNumber MutedPosition = 0
@@ -240,10 +256,10 @@ MovesByName = (n : Node) (t : Terminal) → moveOf (nodeNumber n) (terminalNumbe
 -- ---- the code's two tables: for each node (row) and terminal (column) the next node's number and the action's, 0 where there is no rule
 
 abbrev pub nodeCount : ℕ
-nodeCount = 74
+nodeCount = 83
 
 abbrev pub terminalCount : ℕ
-terminalCount = 29
+terminalCount = 31
 
 abbrev pub nextBy : Option Rule → ℕ
 nextBy none = 0

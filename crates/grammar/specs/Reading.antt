@@ -1,4 +1,4 @@
--- Reading a text symbol by symbol into items: document 01, "Declarations", "Numbers allowed", and the numbers 2, 3, 4 and 9; document 02, 5/13.
+-- Reading a text symbol by symbol into items: document 01, "Declarations", "Numbers allowed", and the numbers 2, 3, 4 and 9; document 02, 5/13 and 1/13.
 use mathlib.Core.Bool.{Bool, true, false, cond}
 use mathlib.Core.List.{List, [], _∷_}
 use mathlib.Core.Option.{Option, some, none}
@@ -15,11 +15,11 @@ use Rattle.grammar.specs.declared.Kind.the-variants.{Interval, Tone, Sys
 use Rattle.grammar.specs.declared.Form.{Form}
 use Rattle.grammar.specs.declared.Form.the-variants.{AnchorTo, AnchorUp, AnchorDown, WidthTo, WidthUp, WidthDown, WidthTimes, WidthOver}
 use Rattle.grammar.specs.declared.NumberUse.{NumberUse}
-use Rattle.grammar.specs.declared.NumberUse.the-variants.{RatioFirst, RatioSecond, Degree, Radicand, FirstFactor, Factor, Frequency, AnchorKey, Amount, Key, StarredKey}
+use Rattle.grammar.specs.declared.NumberUse.the-variants.{RatioFirst, RatioSecond, Degree, Radicand, FirstFactor, Factor, Frequency, AnchorKey, Amount, Key, StarredKey, Argument}
 use Rattle.grammar.specs.declared.NumberRange.{NumberRange}
 use Rattle.grammar.specs.declared.NumberRange.the-variants.{Decimal, Whole}
 use Rattle.grammar.specs.declared.NameUse.{NameUse}
-use Rattle.grammar.specs.declared.NameUse.the-variants.{Term, Base, Position, Start, Order, Trigger, CountedTrigger}
+use Rattle.grammar.specs.declared.NameUse.the-variants.{Term, Base, Position, Start, Order, Trigger, CountedTrigger, Placeholder, Amount as NamedAmount}
 use Rattle.grammar.specs.declared.MarkUse.{MarkUse}
 use Rattle.grammar.specs.declared.MarkUse.the-variants.{MutedPosition, KeptPosition, KeptAnchor, KeptWidth, Period, Onward, Star}
 use Rattle.grammar.specs.declared.Action.{Action}
@@ -38,7 +38,7 @@ use Rattle.symbols.specs.declared.Symbol.{Symbol}
 use Rattle.grammar.specs.declared.reading.Reading.{Reading}
 use Rattle.grammar.specs.Syntax.{Terminal, Node, Begin, Rule, rules}
 use Rattle.sets.specs.Sets.{has, added}
-use Rattle.limits.specs.Limits.{leastDegree, mostDegree, mostFactor, mostAnchor, mostAmount, leastDivisor, mostIntervals, mostToneNames, mostSystems, mostLogics, mostRetunings, mostOrders, mostHarmonies, mostHarmonyKey, mostHarmonyKeys}
+use Rattle.limits.specs.Limits.{leastDegree, mostDegree, mostFactor, mostAnchor, mostAmount, leastDivisor, mostIntervals, mostToneNames, mostSystems, mostLogics, mostRetunings, mostOrders, mostHarmonies, mostHarmonyKey, mostHarmonyKeys, mostPlaceholders}
 pub use Rattle.limits.specs.Limits.{mostBytes, mostTerms, mostPositions}
 use Rattle.grammar.specs.Terminals.{terminalOf, startOf, spanOf, isNothing, picked, letterAt}
 
@@ -56,7 +56,7 @@ allowedAmount WidthTimes = Whole 0 mostAmount
 allowedAmount WidthOver = Whole leastDivisor mostAmount
 
 -- a number by its use: "ratio parts, radicand, frequency .. at most four places", "root degree: whole, 1 to 65,535", "factor: whole, 0 to 999",
--- "anchor in a tone system: whole, 0 to 127"; of a harmony "key numbers from 0 to 59"
+-- "anchor in a tone system: whole, 0 to 127"; of a harmony "key numbers from 0 to 59"; of a call "whole numbers from 0 to 9,999"
 abbrev pub allowed : NumberUse → NumberRange
 allowed RatioFirst = Decimal
 allowed RatioSecond = Decimal
@@ -69,6 +69,7 @@ allowed AnchorKey = Whole 0 mostAnchor
 allowed (Amount f) = allowedAmount f
 allowed Key = Whole 0 mostHarmonyKey
 allowed StarredKey = Whole 0 mostHarmonyKey
+allowed Argument = Whole 0 mostAmount
 
 -- the value of the number that these bytes write, if it is in a range
 abbrev pub numberIn : NumberRange → List ℕ → WrittenNumber
@@ -109,20 +110,24 @@ oneMore AnOrder c = record { intervals = c .intervals; tones = c .tones; systems
 oneMore Harmony c = record { intervals = c .intervals; tones = c .tones; systems = c .systems; retunings = c .retunings; logics = c .logics; orders = c .orders; harmonies = c .harmonies + 1 }
 
 abbrev pub withFirst : FirstNumber → Progress → Progress
-withFirst n s = record { first = n; term = s .term; positions = s .positions; keys = s .keys; counts = s .counts }
+withFirst n s = record { first = n; term = s .term; positions = s .positions; keys = s .keys; bracketed = s .bracketed; counts = s .counts }
 
 abbrev pub withTerm : NextTerm → Progress → Progress
-withTerm t s = record { first = s .first; term = t; positions = s .positions; keys = s .keys; counts = s .counts }
+withTerm t s = record { first = s .first; term = t; positions = s .positions; keys = s .keys; bracketed = s .bracketed; counts = s .counts }
 
 abbrev pub withPositions : ℕ → Progress → Progress
-withPositions n s = record { first = s .first; term = s .term; positions = n; keys = s .keys; counts = s .counts }
+withPositions n s = record { first = s .first; term = s .term; positions = n; keys = s .keys; bracketed = s .bracketed; counts = s .counts }
 
 -- the key numbers that the harmony under way has named so far, as a set
 abbrev pub withKeys : ℕ → Progress → Progress
-withKeys k s = record { first = s .first; term = s .term; positions = s .positions; keys = k; counts = s .counts }
+withKeys k s = record { first = s .first; term = s .term; positions = s .positions; keys = k; bracketed = s .bracketed; counts = s .counts }
+
+-- how many names or numbers the brackets under way have so far
+abbrev pub withBracketed : ℕ → Progress → Progress
+withBracketed n s = record { first = s .first; term = s .term; positions = s .positions; keys = s .keys; bracketed = n; counts = s .counts }
 
 abbrev pub withCounts : Counts → Progress → Progress
-withCounts c s = record { first = s .first; term = s .term; positions = s .positions; keys = s .keys; counts = c }
+withCounts c s = record { first = s .first; term = s .term; positions = s .positions; keys = s .keys; bracketed = s .bracketed; counts = c }
 
 -- an interval's first number: held from its place to the place after it, then judged
 abbrev pub heldFirst : Span → Progress → Progress
@@ -145,10 +150,10 @@ noTerm s = nextTerm false 1 0 s
 abbrev pub unlessFull : ℕ → ℕ → Span → Outcome → Outcome
 unlessFull most n x o = cond (leb most n) (Refuse itemTooMany (x .start)) o
 
--- a declaration begins with its name; there is no term, no position and no key yet
+-- a declaration begins with its name; there is no term, no position, no key and no placeholder yet
 abbrev pub counted : Progress → Kind → Item → Span → Outcome
 counted s k i x =
-    unlessFull (limit k) (soFar k (s .counts)) x (Give (withCounts (oneMore k (s .counts)) (withKeys 0 (withPositions 0 (noTerm s)))) i)
+    unlessFull (limit k) (soFar k (s .counts)) x (Give (withCounts (oneMore k (s .counts)) (withBracketed 0 (withKeys 0 (withPositions 0 (noTerm s))))) i)
 
 -- an order begins with KEY, or with the name of its harmony
 abbrev pub orderCounted : Progress → Span → Outcome → Outcome
@@ -184,14 +189,24 @@ withKey v s = withKeys (added (s .keys) v) (withPositions (s .positions + 1) s)
 abbrev pub keyNamed : Progress → ℕ → Item → Span → Outcome
 keyNamed s v i x = cond (has (s .keys) v) (Refuse symbolNotAllowed (x .start)) (keyCounted s x (Give (withKey v s) i))
 
+-- document 02, 1/13: a placeholder's name, or a number that a call gives: "9 for a fifth name or number"
+abbrev pub inBrackets : Progress → Item → Span → Outcome
+inBrackets s i x = unlessFull mostPlaceholders (s .bracketed) x (Give (withBracketed (s .bracketed + 1) s) i)
+
+-- what is called, by the place of its name, which stays in the item where its meaning is put for the other; it gives no number yet
+abbrev pub called : Progress → Item → Outcome
+called s i = Give (withBracketed 0 s) i
+
 abbrev pub named : Progress → NameUse → Span → Outcome
 named s Term x = termed s (s .term .factor) x
 named s Base x = Give s (item.Base (x .start))
 named s Position x = positioned s (item.TonePosition (x .start)) x
-named s Start x = Give s (item.Start (x .start))
-named s Order x = Give s (item.Order (x .start))
+named s Start x = called s (item.Start (x .start) (x .start))
+named s Order x = called s (item.Order (x .start) (x .start))
 named s Trigger x = Give s (item.Trigger (x .start))
 named s CountedTrigger x = orderCounted s x (Give (withOrder s) (item.Trigger (x .start)))
+named s Placeholder x = inBrackets s (item.Placeholder (x .start)) x
+named s (NamedAmount f) x = Give s (item.AmountName f (x .start))
 
 abbrev pub marked : Progress → MarkUse → Span → Outcome
 marked s MutedPosition x = positioned s item.MutedPosition x
@@ -215,6 +230,7 @@ used s AnchorKey v x = Give s (item.AnchorKey v)
 used s (Amount f) v x = Give s (item.Amount f v)
 used s Key v x = keyNamed s v (item.Key v) x
 used s StarredKey v x = keyNamed s v (item.StarredKey v) x
+used s Argument v x = inBrackets s (item.Argument v) x
 
 -- "number out of range, too many places, or a point where whole is asked; its place": the number from `start` to `end`
 abbrev pub ifAllowed : Progress → NumberUse → ℕ → Span → WrittenNumber → Outcome
@@ -286,6 +302,7 @@ begun = record {
     term = record { minus = false; factor = 1; before = 0 };
     positions = 0;
     keys = 0;
+    bracketed = 0;
     counts = record { intervals = 0; tones = 0; systems = 0; retunings = 0; logics = 0; orders = 0; harmonies = 0 };
   };
 }

@@ -1,14 +1,15 @@
 -- The syntax of a text as diagrams: for each node the symbols that may follow, the node that each leads to, and what it does.
--- Document 01, "Declarations"; 001, the syntax diagrams; document 02, 5/13.
+-- Document 01, "Declarations"; 001, the syntax diagrams; document 02, 5/13 and 1/13.
 use mathlib.Core.Bool.{Bool, true, false}
 use mathlib.Core.List.{List, [], _∷_, _++_}
 use Rattle.grammar.specs.declared.Kind.{Kind}
 use Rattle.grammar.specs.declared.Kind.the-variants.{Interval, Tone, System, Retuning, Logic, Harmony}
 use Rattle.grammar.specs.declared.Action.{Action}
 use Rattle.grammar.specs.declared.Action.the-variants.{Pass, Declare, Hold, Held, Number, Sign, Name, Mark, Letter, CountOrder}
+use Rattle.grammar.specs.declared.Form.{Form}
 use Rattle.grammar.specs.declared.Form.the-variants.{AnchorTo, AnchorUp, AnchorDown, WidthTo, WidthUp, WidthDown, WidthTimes, WidthOver}
-use Rattle.grammar.specs.declared.NumberUse.the-variants.{RatioFirst, RatioSecond, Degree, Radicand, FirstFactor, Factor, Frequency, AnchorKey, Amount, Key, StarredKey}
-use Rattle.grammar.specs.declared.NameUse.the-variants.{Term, Base, Position, Start as CalledAtStart, Order, Trigger, CountedTrigger}
+use Rattle.grammar.specs.declared.NumberUse.the-variants.{RatioFirst, RatioSecond, Degree, Radicand, FirstFactor, Factor, Frequency, AnchorKey, Amount, Key, StarredKey, Argument}
+use Rattle.grammar.specs.declared.NameUse.the-variants.{Term, Base, Position, Start as CalledAtStart, Order, Trigger, CountedTrigger, Placeholder, Amount as NamedAmount}
 use Rattle.grammar.specs.declared.MarkUse.the-variants.{MutedPosition, KeptPosition, KeptAnchor, KeptWidth, Period, Onward, Star}
 
 -- the kinds of symbols that the syntax tells apart: reserved words, a one-letter name, any other name, numbers, marks, the text's end.
@@ -16,7 +17,7 @@ use Rattle.grammar.specs.declared.MarkUse.the-variants.{MutedPosition, K
 pub data Terminal : Type 0 where
   interval tone tonesystem retuning logic key root harmony unused : Terminal
   letter name number : Terminal
-  equals colon plus minus times divide opening closing comma at braceOpen braceClose widthOpen widthClose arrow : Terminal
+  equals colon plus minus times divide opening closing comma at braceOpen braceClose bracketOpen bracketClose widthOpen widthClose arrow : Terminal
   end nothing : Terminal
 
 -- the nodes of the diagrams, each named by what comes next: `IntervalKind` by the symbol that tells which kind of interval it is, `IntervalNext` by the next
@@ -33,6 +34,7 @@ pub data Node : Type 0 where
   TonesSign TonesTerm TonesTermName TonesPosition : Node
   LogicName LogicTrigger LogicLetter LogicEquals LogicStart LogicOpen OrderTrigger OrderLetter OrderArrow OrderName LogicNext : Node
   HarmonyName HarmonyEquals HarmonyOpen HarmonyKey HarmonyStarred HarmonyComma HarmonyNext : Node
+  PlaceholderName PlaceholderComma PlaceholderEquals StartNumber StartComma StartOpen OrderCalled OrderNumber OrderComma : Node
 
 -- in a node, a symbol that is allowed, the next node, and what is done
 pub record Rule : Type 0 where
@@ -63,6 +65,14 @@ term factor named = on number factor (Number Factor) ∷ onName named (Name Term
 -- the signs that begin a further term; `Sign true` is a minus
 abbrev pub signs : Node → List Rule
 signs n = on plus n (Sign false) ∷ on minus n (Sign true) ∷ []
+
+-- n of an anchor or width retuning: a number or, document 02, 1/13, a placeholder's name, "usable where n stands in anchor and width retunings"
+abbrev pub amount : Form → Node → List Rule
+amount f n = on number n (Number (Amount f)) ∷ onName n (Name (NamedAmount f))
+
+-- an order begins with its trigger, or the orders end
+abbrev pub nextOrder : List Rule
+nextOrder = on key OrderLetter CountOrder ∷ onName OrderArrow (Name CountedTrigger) ++ on closing LogicNext Pass ∷ []
 
 -- the rules of each node. Its last rule leads outward: along last rules a text comes to its end from every node (`live` of proofs/Live.antt).
 unfoldable pub rules : Node → List Rule
@@ -102,27 +112,31 @@ rules SystemTerm = term SystemTermName SystemSign
 rules SystemTermName = onName SystemSign (Name Term)
 -- RETUNING name = ..
 rules RetuningName = onName RetuningEquals (Declare Retuning)
-rules RetuningEquals = on equals RetuningBody Pass ∷ []
-rules RetuningBody = on number AnchorOpen (Number (Amount AnchorTo)) ∷ on at AnchorOperator Pass ∷ on opening RetuningInside Pass ∷ []
+rules RetuningEquals = on bracketOpen PlaceholderName Pass ∷ on equals RetuningBody Pass ∷ []
+rules RetuningBody = amount AnchorTo AnchorOpen ++ on at AnchorOperator Pass ∷ on opening RetuningInside Pass ∷ []
 rules RetuningInside =
     on widthOpen WidthBody Pass ∷ on closing PeriodBody (Mark Period) ∷ on comma TonesPosition (Mark MutedPosition)
     ∷ on at TonesSign (Mark KeptPosition) ∷ onName TonesSign (Name Position)
 rules RetuningNext = declarations Retuning RetuningEquals
+-- document 02, 1/13: "with one to four placeholder names in brackets after any retuning's name, parted by commas"
+rules PlaceholderName = onName PlaceholderComma (Name Placeholder)
+rules PlaceholderComma = on comma PlaceholderName Pass ∷ on bracketClose PlaceholderEquals Pass ∷ []
+rules PlaceholderEquals = on equals RetuningBody Pass ∷ []
 -- "Anchor: `n [ ]`, `@ [ ]`, `@ + n [ ]`, `@ - n [ ]`."
 rules AnchorOperator = on opening AnchorClose (Mark KeptAnchor) ∷ on plus AnchorPlusNumber Pass ∷ on minus AnchorMinusNumber Pass ∷ []
-rules AnchorPlusNumber = on number AnchorOpen (Number (Amount AnchorUp)) ∷ []
-rules AnchorMinusNumber = on number AnchorOpen (Number (Amount AnchorDown)) ∷ []
+rules AnchorPlusNumber = amount AnchorUp AnchorOpen
+rules AnchorMinusNumber = amount AnchorDown AnchorOpen
 rules AnchorOpen = on opening AnchorClose Pass ∷ []
 rules AnchorClose = on closing RetuningNext Pass ∷ []
 -- "Width: `[ << n >> ]`, `@` or `@` with `+ - * /` and n inside."
-rules WidthBody = on number WidthClose (Number (Amount WidthTo)) ∷ on at WidthOperator Pass ∷ []
+rules WidthBody = amount WidthTo WidthClose ++ on at WidthOperator Pass ∷ []
 rules WidthOperator =
     on widthClose WidthBracket (Mark KeptWidth) ∷ on plus WidthPlusNumber Pass ∷ on minus WidthMinusNumber Pass ∷ on times WidthTimesNumber Pass
     ∷ on divide WidthOverNumber Pass ∷ []
-rules WidthPlusNumber = on number WidthClose (Number (Amount WidthUp)) ∷ []
-rules WidthMinusNumber = on number WidthClose (Number (Amount WidthDown)) ∷ []
-rules WidthTimesNumber = on number WidthClose (Number (Amount WidthTimes)) ∷ []
-rules WidthOverNumber = on number WidthClose (Number (Amount WidthOver)) ∷ []
+rules WidthPlusNumber = amount WidthUp WidthClose
+rules WidthMinusNumber = amount WidthDown WidthClose
+rules WidthTimesNumber = amount WidthTimes WidthClose
+rules WidthOverNumber = amount WidthOver WidthClose
 rules WidthClose = on widthClose WidthBracket Pass ∷ []
 rules WidthBracket = on closing RetuningNext Pass ∷ []
 -- "Period: `[ ]` then a sequence, or `@` with any signed terms."
@@ -145,12 +159,19 @@ rules LogicTrigger = on key LogicLetter Pass ∷ onName LogicEquals (Name Trigge
 rules LogicLetter = on letter LogicEquals Letter ∷ []
 rules LogicEquals = on equals LogicStart Pass ∷ []
 rules LogicStart = on opening OrderTrigger Pass ∷ onName LogicOpen (Name CalledAtStart)
-rules LogicOpen = on opening OrderTrigger Pass ∷ []
-rules OrderTrigger = on key OrderLetter CountOrder ∷ onName OrderArrow (Name CountedTrigger) ++ on closing LogicNext Pass ∷ []
+rules LogicOpen = on bracketOpen StartNumber Pass ∷ on opening OrderTrigger Pass ∷ []
+rules OrderTrigger = nextOrder
 rules OrderLetter = on letter OrderArrow Letter ∷ []
 rules OrderArrow = on arrow OrderName Pass ∷ []
-rules OrderName = onName OrderTrigger (Name Order)
+rules OrderName = onName OrderCalled (Name Order)
 rules LogicNext = declarations Logic LogicTrigger
+-- document 02, 1/13: "calls from orders and logic starts giving as many whole numbers from 0 to 9,999"
+rules StartNumber = on number StartComma (Number Argument) ∷ []
+rules StartComma = on comma StartNumber Pass ∷ on bracketClose StartOpen Pass ∷ []
+rules StartOpen = on opening OrderTrigger Pass ∷ []
+rules OrderCalled = on bracketOpen OrderNumber Pass ∷ nextOrder
+rules OrderNumber = on number OrderComma (Number Argument) ∷ []
+rules OrderComma = on comma OrderNumber Pass ∷ on bracketClose OrderTrigger Pass ∷ []
 -- HARMONY name = ..       document 02, 5/13: "A harmony is declared, as `HARMONY C = { 0, 4, *7 }` (or HARMONIE), by key numbers from 0 to 59 in braces;
 --                         a star before a number means that it may be held or not."
 rules HarmonyName = onName HarmonyEquals (Declare Harmony)

@@ -16,7 +16,7 @@ use Rattle.symbols.specs.declared.spelling.Letter.{Letter}
 use Rattle.symbols.specs.declared.spelling.Letter.the-variants.{Missing, Capital}
 use Rattle.symbols.specs.Names.{spelled, letterOf}
 use Rattle.grammar.specs.declared.Span.{Span}
-use Rattle.grammar.specs.Syntax.{Terminal, interval, tone, tonesystem, retuning, logic, key, root, harmony, unused, letter, name, number, equals, colon, plus, minus, times, divide, opening, closing, comma, at, braceOpen, braceClose, widthOpen, widthClose, arrow, end, nothing, Rule}
+use Rattle.grammar.specs.Syntax.{Terminal, interval, tone, tonesystem, retuning, logic, key, root, harmony, unused, letter, name, number, equals, colon, plus, minus, times, divide, opening, closing, comma, at, braceOpen, braceClose, bracketOpen, bracketClose, widthOpen, widthClose, arrow, end, nothing, Rule}
 
 -- a number tells two terminals apart (`terminal-back` of proofs/Numbered.antt: no two share one)
 abbrev pub terminalNumber : Terminal → ℕ
@@ -44,11 +44,13 @@ terminalNumber comma = 20
 terminalNumber at = 21
 terminalNumber braceOpen = 22
 terminalNumber braceClose = 23
-terminalNumber widthOpen = 24
-terminalNumber widthClose = 25
-terminalNumber arrow = 26
-terminalNumber end = 27
-terminalNumber nothing = 28
+terminalNumber bracketOpen = 24
+terminalNumber bracketClose = 25
+terminalNumber widthOpen = 26
+terminalNumber widthClose = 27
+terminalNumber arrow = 28
+terminalNumber end = 29
+terminalNumber nothing = 30
 
 abbrev pub sameTerminal : Terminal → Terminal → Bool
 sameTerminal t u = eqb (terminalNumber t) (terminalNumber u)
@@ -97,6 +99,8 @@ ofMark mark.Comma = comma
 ofMark mark.At = at
 ofMark mark.BraceOpen = braceOpen
 ofMark mark.BraceClose = braceClose
+ofMark mark.BracketOpen = bracketOpen
+ofMark mark.BracketClose = bracketClose
 ofMark mark.WidthOpen = widthOpen
 ofMark mark.WidthClose = widthClose
 ofMark mark.Arrow = arrow

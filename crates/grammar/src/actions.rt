@@ -25,6 +25,7 @@ use limits::MOST_HARMONY_KEYS;
 use limits::MOST_INTERVALS;
 use limits::MOST_LOGICS;
 use limits::MOST_ORDERS;
+use limits::MOST_PLACEHOLDERS;
 use limits::MOST_POSITIONS;
 use limits::MOST_RETUNINGS;
 use limits::MOST_SYSTEMS;
@@ -40,7 +41,7 @@ ghost use lib.Seq.{slice};
 ghost use Rattle.status.specs.Status.{itemTooMany};
 ghost use Rattle.limits.specs.Limits.{mostHarmonyKey};
 ghost use Rattle.grammar.specs.Terminals.{letterAt};
-ghost use Rattle.grammar.specs.Reading.{allowedAmount, allowed, judged, limit, soFar, oneMore, heldFirst, judgedFirst, noTerm, nextTerm, counted, signed, termed, positioned, named, marked, used, numbered, orderCounted, withOrder, keyCounted, keyNamed, acted};
+ghost use Rattle.grammar.specs.Reading.{allowedAmount, allowed, judged, limit, soFar, oneMore, heldFirst, judgedFirst, noTerm, nextTerm, counted, signed, termed, positioned, named, marked, used, numbered, orderCounted, withOrder, keyCounted, keyNamed, inBrackets, called, acted};
 ghost use Rattle.grammar.specs.Inner.{roomForTerm, inRange};
 
 const MOST_ANCHOR_KEY: u32 = MOST_ANCHOR as u32;
@@ -138,6 +139,7 @@ fn declare(s: Progress, kind: Kind, x: Span) -> Outcome
     let mut next = await_first_term(s);
     next.positions = 0;
     next.keys = 0;
+    next.bracketed = 0;
     next.counts = count_one_more(counts, kind);
     Outcome::Give(next, Item::Declared(kind, x.start))
 }
@@ -237,6 +239,26 @@ fn name_key(mut s: Progress, value: u32, item: Item, x: Span) -> Outcome
     Outcome::Give(s, item)
 }
 
+// A placeholder's name, or a number that a call gives.
+fn add_bracketed(mut s: Progress, item: Item, x: Span) -> Outcome
+    ensures { λ r. ⌜ r ≡ inBrackets s item x ⌝ }
+{
+    let bracketed = s.bracketed;
+    if MOST_PLACEHOLDERS <= bracketed {
+        return refuse_item(x);
+    }
+    s.bracketed = bracketed + 1;
+    Outcome::Give(s, item)
+}
+
+// A call, which gives no number yet.
+fn begin_call(mut s: Progress, item: Item) -> Outcome
+    ensures { λ r. ⌜ r ≡ called s item ⌝ }
+{
+    s.bracketed = 0;
+    Outcome::Give(s, item)
+}
+
 fn use_name(s: Progress, purpose: NameUse, x: Span) -> Outcome
     requires { ⌜ roomForTerm s ⌝ }
     ensures { λ r. ⌜ r ≡ named s purpose x ⌝ }
@@ -245,10 +267,12 @@ fn use_name(s: Progress, purpose: NameUse, x: Span) -> Outcome
         NameUse::Term => end_term(s, s.term.factor, x),
         NameUse::Base => Outcome::Give(s, Item::Base(x.start)),
         NameUse::Position => add_position(s, Item::TonePosition(x.start), x),
-        NameUse::Start => Outcome::Give(s, Item::Start(x.start)),
-        NameUse::Order => Outcome::Give(s, Item::Order(x.start)),
+        NameUse::Start => begin_call(s, Item::Start(x.start, x.start)),
+        NameUse::Order => begin_call(s, Item::Order(x.start, x.start)),
         NameUse::Trigger => Outcome::Give(s, Item::Trigger(x.start)),
         NameUse::CountedTrigger => begin_order(s, x),
+        NameUse::Placeholder => add_bracketed(s, Item::Placeholder(x.start), x),
+        NameUse::Amount(form) => Outcome::Give(s, Item::AmountName(form, x.start)),
     }
 }
 
@@ -327,6 +351,7 @@ fn range_of(purpose: NumberUse) -> NumberRange
         NumberUse::Amount(form) => range_of_amount(form),
         NumberUse::Key => NumberRange::Whole(0, LAST_KEY),
         NumberUse::StarredKey => NumberRange::Whole(0, LAST_KEY),
+        NumberUse::Argument => NumberRange::Whole(0, MOST_AMOUNT),
     }
 }
 
@@ -356,6 +381,7 @@ fn use_number(s: Progress, purpose: NumberUse, value: u32, x: Span) -> Outcome
         NumberUse::Amount(form) => Outcome::Give(s, Item::Amount(form, value)),
         NumberUse::Key => name_key(s, value, Item::Key(value), x),
         NumberUse::StarredKey => name_key(s, value, Item::StarredKey(value), x),
+        NumberUse::Argument => add_bracketed(s, Item::Argument(value), x),
     }
 }
 

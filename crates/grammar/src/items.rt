@@ -76,11 +76,14 @@ fn row_of(item: Item) -> [u32; 3]
         Item::Period => [20, 0, 0],
         Item::Onward => [21, 0, 0],
         Item::Letter(letter) => [22, letter, 0],
-        Item::Start(name) => [23, 0, name],
-        Item::Order(name) => [24, 0, name],
+        Item::Start(at, name) => [23, at, name],
+        Item::Order(at, name) => [24, at, name],
         Item::Trigger(name) => [26, 0, name],
         Item::Key(n) => [27, n, 0],
         Item::StarredKey(n) => [28, n, 0],
+        Item::AmountName(form, name) => [29, form_number(form), name],
+        Item::Placeholder(name) => [30, 0, name],
+        Item::Argument(n) => [31, n, 0],
     }
 }
 
@@ -110,12 +113,15 @@ fn item_of(code: u32, value: u32, place: u32) -> Item
         20 => Item::Period,
         21 => Item::Onward,
         22 => Item::Letter(value),
-        23 => Item::Start(place),
-        24 => Item::Order(place),
+        23 => Item::Start(value, place),
+        24 => Item::Order(value, place),
         25 => Item::Declared(Kind::Harmony, place),
         26 => Item::Trigger(place),
         27 => Item::Key(value),
         28 => Item::StarredKey(value),
+        29 => Item::AmountName(form_at(value), place),
+        30 => Item::Placeholder(place),
+        31 => Item::Argument(value),
         _ => Item::MutedPosition,
     }
 }

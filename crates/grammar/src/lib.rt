@@ -41,6 +41,8 @@ pub enum NumberUse {
     Amount(Form),
     Key,
     StarredKey,
+    // A number that a call gives.
+    Argument,
 }
 
 // The numbers that a use allows: 0.0001 to 429496.7295 with at most four places, or whole ones from the first to the second.
@@ -59,6 +61,9 @@ pub enum NameUse {
     // The harmony that triggers a logic, or an order, which is counted at it.
     Trigger,
     CountedTrigger,
+    // A placeholder of a retuning, in its brackets, and where it stands for n.
+    Placeholder,
+    Amount(Form),
 }
 
 // What a mark stands for, where it says more than that the syntax goes on.
@@ -111,15 +116,21 @@ pub enum Item {
     Onward,
     // The letter of a logic, or an order's trigger.
     Letter(u32),
-    // What a logic's start calls.
-    Start(u32),
+    // What a logic's start calls: the place of its name, and the name. The numbers that the call gives stand right after.
+    Start(u32, u32),
     // What an order calls; its trigger stands right before.
-    Order(u32),
+    Order(u32, u32),
     // The harmony that triggers a logic or an order.
     Trigger(u32),
     // A key number of a harmony.
     Key(u32),
     StarredKey(u32),
+    // A placeholder's name that stands for the n of an anchor or width retuning.
+    AmountName(Form, u32),
+    // A placeholder's name in the brackets after a retuning's name.
+    Placeholder(u32),
+    // A number that a call gives.
+    Argument(u32),
 }
 
 // How many declarations and orders there are so far.
@@ -155,6 +166,8 @@ pub struct Progress {
     pub positions: u8,
     // The key numbers that the harmony under way has named so far, as a set.
     pub keys: u64,
+    // How many names or numbers the brackets under way have.
+    pub bracketed: u8,
     pub counts: Counts,
 }
 

@@ -120,6 +120,7 @@ fn begin() -> Progress
         },
         positions: 0,
         keys: 0,
+        bracketed: 0,
         counts: Counts {
             intervals: 0,
             tones: 0,

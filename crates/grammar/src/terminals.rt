@@ -52,15 +52,19 @@ const BRACE_OPEN: u8 = 22;
 
 const BRACE_CLOSE: u8 = 23;
 
-const WIDTH_OPEN: u8 = 24;
+const BRACKET_OPEN: u8 = 24;
 
-const WIDTH_CLOSE: u8 = 25;
+const BRACKET_CLOSE: u8 = 25;
 
-const ARROW: u8 = 26;
+const WIDTH_OPEN: u8 = 26;
 
-pub const END: u8 = 27;
+const WIDTH_CLOSE: u8 = 27;
 
-pub const NOTHING: u8 = 28;
+const ARROW: u8 = 28;
+
+pub const END: u8 = 29;
+
+pub const NOTHING: u8 = 30;
 
 pub fn of_word(word: Word) -> u8
     ensures { λ r. ⌜ r ≡ terminalNumber (ofWord word) ⌝ }
@@ -95,6 +99,8 @@ pub fn of_mark(kind: MarkKind) -> u8
         MarkKind::At => AT,
         MarkKind::BraceOpen => BRACE_OPEN,
         MarkKind::BraceClose => BRACE_CLOSE,
+        MarkKind::BracketOpen => BRACKET_OPEN,
+        MarkKind::BracketClose => BRACKET_CLOSE,
         MarkKind::WidthOpen => WIDTH_OPEN,
         MarkKind::WidthClose => WIDTH_CLOSE,
         MarkKind::Arrow => ARROW,

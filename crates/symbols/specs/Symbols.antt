@@ -7,13 +7,13 @@ use mathlib.Core.Option.{Option, none, some}
 use lib.ListN.{length, take, drop}
 use lib.Dec.{ltb, eqb}
 use Rattle.symbols.specs.declared.MarkKind.{MarkKind}
-use Rattle.symbols.specs.declared.MarkKind.the-variants.{Equals, Colon, Plus, Minus, Times, Divide, Open, Close, Comma, At, BraceOpen, BraceClose, WidthOpen, WidthClose, Arrow}
+use Rattle.symbols.specs.declared.MarkKind.the-variants.{Equals, Colon, Plus, Minus, Times, Divide, Open, Close, Comma, At, BraceOpen, BraceClose, BracketOpen, BracketClose, WidthOpen, WidthClose, Arrow}
 use Rattle.symbols.specs.declared.Symbol.{Symbol}
 use Rattle.symbols.specs.declared.Symbol.the-variants.{Bad, End, Name, Number, Mark}
 use Rattle.ascii.specs.Ascii.{bytes}
 use Rattle.symbols.specs.Bytes.{same, quote, point, hash, isBlank, isDigit, isHexDigit, isLetter, inName, takeWhile}
 
--- "Marks: `= : + - * / [ ] , @ << >> ->`"; document 02, 5/13: "by key numbers from 0 to 59 in braces"
+-- "Marks: `= : + - * / [ ] , @ << >> ->`"; document 02, 5/13: "by key numbers from 0 to 59 in braces"; 1/13: "placeholder names in brackets"
 unfoldable pub marks : List (String × MarkKind)
 marks =
     ("=", Equals)
@@ -28,6 +28,8 @@ marks =
     ∷ ("@", At)
     ∷ ("{", BraceOpen)
     ∷ ("}", BraceClose)
+    ∷ ("(", BracketOpen)
+    ∷ (")", BracketClose)
     ∷ ("<<", WidthOpen)
     ∷ (">>", WidthClose)
     ∷ ("->", Arrow)

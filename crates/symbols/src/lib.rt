@@ -27,6 +27,8 @@ pub enum MarkKind {
     At,
     BraceOpen,
     BraceClose,
+    BracketOpen,
+    BracketClose,
     WidthOpen,
     WidthClose,
     Arrow,
@@ -208,6 +210,8 @@ fn single_mark(b: u8) -> Sign
         b'@' => Sign::Kind(MarkKind::At),
         b'{' => Sign::Kind(MarkKind::BraceOpen),
         b'}' => Sign::Kind(MarkKind::BraceClose),
+        b'(' => Sign::Kind(MarkKind::BracketOpen),
+        b')' => Sign::Kind(MarkKind::BracketClose),
         _ => Sign::Missing,
     }
 }

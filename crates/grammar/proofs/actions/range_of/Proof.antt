@@ -39,6 +39,9 @@ enum-told-9 c = search needs
 enum-told-10 : tie.Need-enum-told-10
 enum-told-10 c = search needs
 
+enum-told-11 : tie.Need-enum-told-11
+enum-told-11 c = search needs
+
 returns : tie.Need-returns
 returns c = search needs
 
@@ -78,6 +81,10 @@ returns-11 : tie.Need-returns-11
 returns-11 c =
     simp (c .enum-told10 .given .1)
 
+returns-12 : tie.Need-returns-12
+returns-12 c =
+    simp (c .enum-told11 .given .1)
+
 pub range-of-spec : {M : Type 1} → statement M
 range-of-spec =
     tie.close
@@ -94,6 +101,7 @@ range-of-spec =
     range-of-amount-requires
     enum-told-9
     enum-told-10
+    enum-told-11
     returns
     returns-2
     returns-3
@@ -104,4 +112,5 @@ range-of-spec =
     returns-8
     returns-9
     returns-10
-    returns-11)
+    returns-11
+    returns-12)

@@ -21,8 +21,14 @@ add-position-requires c κs = search needs
 enum-told-4 : tie.Need-enum-told-4
 enum-told-4 c = search needs
 
+begin-call-requires : tie.Need-begin-call-requires
+begin-call-requires c κs = search needs
+
 enum-told-5 : tie.Need-enum-told-5
 enum-told-5 c = search needs
+
+begin-call-requires-2 : tie.Need-begin-call-requires-2
+begin-call-requires-2 c κs = search needs
 
 enum-told-6 : tie.Need-enum-told-6
 enum-told-6 c = search needs
@@ -32,6 +38,15 @@ enum-told-7 c = search needs
 
 begin-order-requires : tie.Need-begin-order-requires
 begin-order-requires c κs = search needs
+
+enum-told-8 : tie.Need-enum-told-8
+enum-told-8 c = search needs
+
+add-bracketed-requires : tie.Need-add-bracketed-requires
+add-bracketed-requires c κs = search needs
+
+enum-known-purpose : tie.Need-enum-known-purpose
+enum-known-purpose c = search needs
 
 returns : tie.Need-returns
 returns c =
@@ -53,11 +68,17 @@ returns-3 c =
 
 returns-4 : tie.Need-returns-4
 returns-4 c =
-    simp (c .enum-told4 .given .1)
+    simp (
+      ← c .begin-call .ensures,
+      c .before .enum-told4 .given .1,
+    )
 
 returns-5 : tie.Need-returns-5
 returns-5 c =
-    simp (c .enum-told5 .given .1)
+    simp (
+      ← c .begin-call2 .ensures,
+      c .before .enum-told5 .given .1,
+    )
 
 returns-6 : tie.Need-returns-6
 returns-6 c =
@@ -70,6 +91,17 @@ returns-7 c =
       c .before .enum-told7 .given .1,
     )
 
+returns-8 : tie.Need-returns-8
+returns-8 c =
+    simp (
+      ← c .add-bracketed .ensures,
+      c .before .enum-told8 .given .1,
+    )
+
+returns-9 : tie.Need-returns-9
+returns-9 c =
+    simp (c .before .purpose .given .1)
+
 pub use-name-spec : {M : Type 1} → statement M
 use-name-spec =
     tie.close
@@ -80,14 +112,21 @@ use-name-spec =
     enum-told-3
     add-position-requires
     enum-told-4
+    begin-call-requires
     enum-told-5
+    begin-call-requires-2
     enum-told-6
     enum-told-7
     begin-order-requires
+    enum-told-8
+    add-bracketed-requires
+    enum-known-purpose
     returns
     returns-2
     returns-3
     returns-4
     returns-5
     returns-6
-    returns-7)
+    returns-7
+    returns-8
+    returns-9)

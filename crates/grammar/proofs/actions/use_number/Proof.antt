@@ -54,6 +54,12 @@ enum-told-10 c = search needs
 name-key-requires-2 : tie.Need-name-key-requires-2
 name-key-requires-2 c κs = simp (c .enum-told10 .given .1) at (c .before .before .pre .1)
 
+enum-told-11 : tie.Need-enum-told-11
+enum-told-11 c = search needs
+
+add-bracketed-requires : tie.Need-add-bracketed-requires
+add-bracketed-requires c κs = search needs
+
 returns : tie.Need-returns
 returns c =
     simp (
@@ -116,6 +122,13 @@ returns-11 c =
       c .before .enum-told10 .given .1,
     )
 
+returns-12 : tie.Need-returns-12
+returns-12 c =
+    simp (
+      ← c .add-bracketed .ensures,
+      c .before .enum-told11 .given .1,
+    )
+
 pub use-number-spec : {M : Type 1} → statement M
 use-number-spec =
     tie.close
@@ -137,6 +150,8 @@ use-number-spec =
     name-key-requires
     enum-told-10
     name-key-requires-2
+    enum-told-11
+    add-bracketed-requires
     returns
     returns-2
     returns-3
@@ -147,4 +162,5 @@ use-number-spec =
     returns-8
     returns-9
     returns-10
-    returns-11)
+    returns-11
+    returns-12)

@@ -10,6 +10,9 @@ use Rattle.grammar.proofs.items.item_of.Tie as tie
 form-at-requires : tie.Need-form-at-requires
 form-at-requires c κs = search needs
 
+form-at-requires-2 : tie.Need-form-at-requires-2
+form-at-requires-2 c κs = search needs
+
 returns : tie.Need-returns
 unfolding itemOf
 returns c =
@@ -155,13 +158,32 @@ returns-28 c =
 
 returns-29 : tie.Need-returns-29
 unfolding itemOf
-returns-29 c = rest _ (drop 1 (variants (c .before .args .value) (c .before .args .place))) (c .before .args .code) (c .match .rest)
+returns-29 c =
+    simp (
+      ← c .form-at2 .ensures,
+      c .before .match .keys29,
+    )
+
+returns-30 : tie.Need-returns-30
+unfolding itemOf
+returns-30 c =
+    simp (c .match .keys30)
+
+returns-31 : tie.Need-returns-31
+unfolding itemOf
+returns-31 c =
+    simp (c .match .keys31)
+
+returns-32 : tie.Need-returns-32
+unfolding itemOf
+returns-32 c = rest _ (drop 1 (variants (c .before .args .value) (c .before .args .place))) (c .before .args .code) (c .match .rest)
 
 pub item-of-spec : {M : Type 1} → statement M
 item-of-spec =
     tie.close
     (tie.spec
     form-at-requires
+    form-at-requires-2
     returns
     returns-2
     returns-3
@@ -190,4 +212,7 @@ item-of-spec =
     returns-26
     returns-27
     returns-28
-    returns-29)
+    returns-29
+    returns-30
+    returns-31
+    returns-32)

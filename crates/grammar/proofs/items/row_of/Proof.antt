@@ -76,6 +76,18 @@ enum-known-item-15 c = search needs
 enum-known-item-16 : tie.Need-enum-known-item-16
 enum-known-item-16 c = search needs
 
+enum-known-item-17 : tie.Need-enum-known-item-17
+enum-known-item-17 c = search needs
+
+form-number-requires-2 : tie.Need-form-number-requires-2
+form-number-requires-2 c κs = search needs
+
+enum-known-item-18 : tie.Need-enum-known-item-18
+enum-known-item-18 c = search needs
+
+enum-known-item-19 : tie.Need-enum-known-item-19
+enum-known-item-19 c = search needs
+
 returns : tie.Need-returns
 returns c =
     simp (
@@ -170,6 +182,21 @@ returns-22 : tie.Need-returns-22
 returns-22 c =
     simp (c .before .item16 .given .1)
 
+returns-23 : tie.Need-returns-23
+returns-23 c =
+    simp (
+      ← c .form-number2 .ensures,
+      c .before .before .item17 .given .1,
+    )
+
+returns-24 : tie.Need-returns-24
+returns-24 c =
+    simp (c .before .item18 .given .1)
+
+returns-25 : tie.Need-returns-25
+returns-25 c =
+    simp (c .before .item19 .given .1)
+
 pub row-of-spec : {M : Type 1} → statement M
 row-of-spec =
     tie.close
@@ -198,6 +225,10 @@ row-of-spec =
     enum-known-item-14
     enum-known-item-15
     enum-known-item-16
+    enum-known-item-17
+    form-number-requires-2
+    enum-known-item-18
+    enum-known-item-19
     returns
     returns-2
     returns-3
@@ -219,4 +250,7 @@ row-of-spec =
     returns-19
     returns-20
     returns-21
-    returns-22)
+    returns-22
+    returns-23
+    returns-24
+    returns-25)

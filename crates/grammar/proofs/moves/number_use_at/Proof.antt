@@ -58,7 +58,10 @@ returns-17 : tie.Need-returns-17
 returns-17 c = search needs
 
 returns-18 : tie.Need-returns-18
-returns-18 c = rest _ (drop 1 numberUses) (c .before .args .index) (c .match .rest)
+returns-18 c = search needs
+
+returns-19 : tie.Need-returns-19
+returns-19 c = rest _ (drop 1 numberUses) (c .before .args .index) (c .match .rest)
 
 pub number-use-at-spec : {M : Type 1} → statement M
 number-use-at-spec =
@@ -79,4 +82,4 @@ number-use-at-spec =
     returns-13
     returns-14
     returns-15
-    returns-16 returns-17 returns-18)
+    returns-16 returns-17 returns-18 returns-19)
