@@ -21,11 +21,11 @@ use Rattle.tables.specs.declared.Row.{Row}
 use Rattle.tables.specs.declared.Row.the-variants as row
 use Rattle.program.specs.Program.{Declaration, asking, declarationOf, periodBy, periodOf, termThen, freshPeriod, onwardPeriod, termsOf, system, tones, logic, harmony, Position, Trigger, Order, asListed, grouped, startOf, ordersOf, keysOf}
 use Rattle.harmonies.specs.Harmonies.{HarmonyKey}
-use Rattle.valuation.specs.Inner.{itemsBetween}
+use Rattle.names.specs.Inner.{itemsBetween}
 use Rattle.filling.specs.Tables.{tonesOf, changesOf, rowOf}
 use Rattle.filling.specs.Inner.{valueIn, triggerOf, callOf, asTrigger, begins, Summable, FitParts, Stored, rowAfter, plainRow, Lists, listed, Rowed}
 use Rattle.filling.proofs.Inside.{tag, Inside, add, subtract, muted, kept, tone, letter, start, order, trigger, key, starred, outside, no-begin, some-or-none, some-same}
-use Rattle.valuation.proofs.Between.{between-none}
+use Rattle.names.proofs.Between.{between-none}
 use Rattle.filling.proofs.Items.{item-next}
 
 -- ---- an anchor or width retuning with its n

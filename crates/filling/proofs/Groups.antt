@@ -12,7 +12,7 @@ use Rattle.names.specs.Parts.{part}
 use Rattle.values.specs.Values.{Term}
 use Rattle.values.proofs.Cases.{clash}
 use Rattle.program.specs.Program.{Grouped, AsListed, unlisted, a-term, muted-position, kept-position, tone-position, a-start, a-trigger, a-call, a-key, asListed, withTerm, termThen, withGroup, groupThen, grouped}
-use Rattle.valuation.specs.Inner.{itemsBetween}
+use Rattle.names.specs.Inner.{itemsBetween}
 use Rattle.filling.specs.Inner.{begins, positionBy, positionAt}
 use Rattle.filling.proofs.Items.{termsFrom, terms-end, terms-next, groups-end, groups-next}
 

@@ -10,9 +10,9 @@ use Rattle.values.specs.Values.{Term}
 use Rattle.harmonies.specs.Harmonies.{HarmonyKey}
 use Rattle.program.specs.Program.{Trigger, Order, Grouped, Ordered, AsListed, unlisted, a-term, muted-position, kept-position, tone-position, a-start, a-trigger, a-call, a-key, asListed}
 use Rattle.program.specs.Program.{withTerm, termThen, termsOf, withSystemPosition, systemPositionThen, systemPositionsOf, withGroup, groupThen, grouped, triggeredBy, withOrder, orderThen, ordered, ordersOf, startThen, startOf, withKey, keyThen, keysOf}
-use Rattle.valuation.specs.Inner.{itemsBetween}
+use Rattle.names.specs.Inner.{itemsBetween}
 use Rattle.filling.specs.Inner.{positionBy, orderBy}
-use Rattle.valuation.proofs.Between.{between-none, between-here}
+use Rattle.names.proofs.Between.{between-none, between-here}
 
 -- ---- what the first item gives, and what those after it give
 

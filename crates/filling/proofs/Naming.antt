@@ -15,7 +15,7 @@ use Rattle.names.specs.Parts.{part}
 use Rattle.tables.specs.Layout.{allSets}
 use Rattle.program.specs.Program.{keyThen, keysOf}
 use Rattle.program.specs.Allowed.{Each}
-use Rattle.valuation.specs.Inner.{itemsBetween}
+use Rattle.names.specs.Inner.{itemsBetween}
 use Rattle.filling.specs.Inner.{FitKey}
 use Rattle.filling.proofs.Each.{each-append}
 use Rattle.filling.proofs.Items.{keys-end, keys-next}

@@ -9,7 +9,7 @@ use Rattle.grammar.specs.declared.Item.the-variants as item
 use Rattle.grammar.specs.Items.{itemAt}
 use Rattle.names.specs.Parts.{part}
 use Rattle.program.specs.Program.{Trigger, Ordered, AsListed, unlisted, a-term, muted-position, kept-position, tone-position, a-start, a-trigger, a-call, a-key, asListed, triggeredBy, withOrder, orderThen, ordered}
-use Rattle.valuation.specs.Inner.{itemsBetween}
+use Rattle.names.specs.Inner.{itemsBetween}
 use Rattle.filling.specs.Inner.{asTrigger, orderAt}
 use Rattle.filling.proofs.Inside.{tag, inside, some-or-none, some-same, noCalls, no-call}
 use Rattle.filling.proofs.Items.{ordered-end, ordered-next}

@@ -11,7 +11,8 @@ use Rattle.tables.specs.Layout.{Tables}
 use Rattle.tables.specs.Values.{CountsFit}
 use Rattle.program.specs.Program.{Declaration, Program, declarationOf, programOf}
 use Rattle.program.specs.Meaning.{declarationAt, valueOf}
-use Rattle.valuation.specs.Inner.{Ready, itemsBetween}
+use Rattle.valuation.specs.Inner.{Ready}
+use Rattle.names.specs.Inner.{itemsBetween}
 use Rattle.valuation.proofs.Ready.{ready-few, ready-fits, ready-body}
 use Rattle.filling.specs.Tables.{filledFrom, laidOut, tablesOf}
 use Rattle.filling.specs.Inner.{Valued, blank, valueIn, FitValue, Writable, Lists, listsOf, Added}

@@ -27,7 +27,7 @@ use Rattle.program.specs.Meaning.{valueOf}
 use Rattle.program.specs.Allowed.{Each}
 use Rattle.limits.specs.Limits.{mostHarmonyKey}
 use Rattle.harmonies.specs.Harmonies.{HarmonyKey}
-use Rattle.valuation.specs.Inner.{itemsBetween}
+use Rattle.names.specs.Inner.{itemsBetween}
 use Rattle.filling.specs.declared.lists.ToneHere.{ToneHere}
 use Rattle.filling.specs.declared.lists.ToneHere.the-variants as toneHere
 use Rattle.filling.specs.declared.lists.ChangeHere.{ChangeHere}

@@ -10,7 +10,7 @@ ghost use Rattle.names.specs.Parts.{part};
 ghost use Rattle.program.specs.Program.{keyOf, keyThen, keysOf};
 ghost use Rattle.program.specs.Allowed.{Each};
 ghost use Rattle.harmonies.specs.Harmonies.{naming, namingAll, harmonyOf};
-ghost use Rattle.valuation.specs.Inner.{itemsBetween};
+ghost use Rattle.names.specs.Inner.{itemsBetween};
 ghost use Rattle.filling.specs.Inner.{FitKey};
 
 // The harmony with one key more: "a star before a number means that it may be held or not".

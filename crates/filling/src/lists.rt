@@ -19,7 +19,7 @@ ghost use Rattle.tables.specs.Layout.{triggersIn, callsIn, mostTones, mostChang
 ghost use Rattle.names.specs.Parts.{part};
 ghost use Rattle.program.specs.Program.{systemPositionThen, systemPositionsOf, grouped, termsOf, ordersOf, startOf};
 ghost use Rattle.program.specs.Allowed.{Each};
-ghost use Rattle.valuation.specs.Inner.{itemsBetween};
+ghost use Rattle.names.specs.Inner.{itemsBetween};
 ghost use Rattle.filling.specs.Tables.{sumOf, toneOf, changeOf};
 ghost use Rattle.filling.specs.Inner.{valueIn, begins, positionAt, orderAt, triggerOf, callOf, calledBy, tonesHere, changesHere, ordersHere, Summable, FitSystemPosition, FitPosition, FitOrder, Appended};
 

@@ -34,7 +34,7 @@ ghost use lib.ListN.{length};
 ghost use Rattle.tables.specs.Layout.{tablesIn, triggersIn, callsIn, mostRows, mostOrders, soundingOf, pitchOf, changeCode, changeNumber};
 ghost use Rattle.program.specs.Program.{asking, declarationOf, periodOf, tones, grouped, startOf, ordersOf, keysOf};
 ghost use Rattle.harmonies.specs.Harmonies.{harmonyOf};
-ghost use Rattle.valuation.specs.Inner.{itemsBetween};
+ghost use Rattle.names.specs.Inner.{itemsBetween};
 ghost use Rattle.tables.specs.Values.{Slices};
 ghost use Rattle.program.specs.Allowed.{Each};
 ghost use Rattle.filling.specs.Tables.{tonesOf, changesOf, triggerCode, rowOf};

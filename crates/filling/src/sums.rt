@@ -14,7 +14,7 @@ ghost use Rattle.values.specs.Inner.{greatestFactor, largestTerm};
 ghost use Rattle.names.specs.Parts.{part};
 ghost use Rattle.program.specs.Program.{termThen, termsOf};
 ghost use Rattle.program.specs.Allowed.{Each};
-ghost use Rattle.valuation.specs.Inner.{itemsBetween};
+ghost use Rattle.names.specs.Inner.{itemsBetween};
 ghost use Rattle.tuning.specs.Capped.{capped};
 ghost use Rattle.filling.specs.Tables.{sumOf};
 ghost use Rattle.filling.specs.Inner.{valueIn, FitValue, FitTerm, Summable};

@@ -7,8 +7,7 @@ use native.Mathlib.Omega.{arith}
 use lib.ListN.{length, getD, drop, length-append, length-drop}
 use lib.Seq.{drop-append-seam}
 use Rattle.grammar.specs.declared.Item.{Item}
-use Rattle.grammar.specs.Reading.{mostBytes}
-use Rattle.grammar.specs.Items.{rows, rowSize, holding, itemSlots, itemAt}
+use Rattle.grammar.specs.Items.{mostItems, rows, rowSize, holding, itemSlots, itemAt}
 use Rattle.grammar.proofs.Rows.{item-back, item-in, length-rows}
 use Rattle.names.specs.Inner.{itemsIn, Held}
 
@@ -27,8 +26,8 @@ items-in-rows (i ∷ is) rest = rw (item-back i, items-in-rows is rest)
 pub held-item : (is : List Item) (l : List ℕ) (i : ℕ) (none : Item) → Held is l → i < length is → itemAt l i ≡ getD is i none
 held-item is l i none h k = ap (λ t. itemAt t i) (h .rows) ∙ item-in is l i none k
 
--- the slice has room for no more items than the longest text has bytes
-pub held-few : (is : List Item) (l : List ℕ) → Held is l → length is ≤ mostBytes
+-- the slice has room for no more items
+pub held-few : (is : List Item) (l : List ℕ) → Held is l → length is ≤ mostItems
 held-few is l h = omega (arith, length-rows is, simp (length-append, length-drop) at (ap length (h .rows)), h .size)
 
 -- the items that were put into a slice are those that it holds

@@ -3,6 +3,7 @@ pub mod Lists
 pub mod Marks
 pub mod Chains
 pub mod Held
+pub mod Between
 pub mod FirstPass
 pub mod SecondPass
 pub mod BothPasses

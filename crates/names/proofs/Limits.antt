@@ -10,7 +10,7 @@ use borrow.Author.Tests.{leb-true, leb-false}
 use lib.Dec.{T, leb}
 use lib.ListN.{length, length-append}
 use lib.Seq.{slice}
-use Rattle.limits.specs.Limits.{mostHarmonyKeys}
+use Rattle.limits.specs.Limits.{mostHarmonyKeys, mostPlaceholders}
 use Rattle.sets.specs.Sets.{has}
 use Rattle.status.specs.Status.{symbolNotAllowed, itemTooMany, textTooLong}
 use Rattle.symbols.specs.declared.Symbol.{Symbol}
@@ -22,8 +22,8 @@ use Rattle.numerals.specs.declared.WrittenNumber.the-variants.{Outside, Value}
 use Rattle.grammar.specs.declared.Kind.{Kind}
 use Rattle.grammar.specs.declared.Kind.the-variants.{Interval, Tone, System, Retuning, Logic, Order as AnOrder, Harmony}
 use Rattle.grammar.specs.declared.NumberUse.{NumberUse}
-use Rattle.grammar.specs.declared.NumberUse.the-variants.{RatioFirst, RatioSecond, Degree, Radicand, FirstFactor, Factor, Frequency, AnchorKey, Amount, Key, StarredKey}
-use Rattle.grammar.specs.declared.NameUse.the-variants.{Term, Base, Position, Start, Order, Trigger, CountedTrigger}
+use Rattle.grammar.specs.declared.NumberUse.the-variants.{RatioFirst, RatioSecond, Degree, Radicand, FirstFactor, Factor, Frequency, AnchorKey, Amount, Key, StarredKey, Argument}
+use Rattle.grammar.specs.declared.NameUse.the-variants.{Term, Base, Position, Start, Order, Trigger, CountedTrigger, Placeholder, Amount as NamedAmount}
 use Rattle.grammar.specs.declared.MarkUse.the-variants.{MutedPosition, KeptPosition, KeptAnchor, KeptWidth, Period, Onward, Star}
 use Rattle.grammar.specs.declared.Action.{Action}
 use Rattle.grammar.specs.declared.Action.the-variants.{Pass, Declare, Hold, Held, Number, Sign, Name, Mark, Letter, CountOrder}
@@ -36,7 +36,7 @@ use Rattle.grammar.specs.declared.Outcome.{Outcome}
 use Rattle.grammar.specs.declared.Outcome.the-variants.{Go, Give, Refuse}
 use Rattle.grammar.specs.Syntax.{Terminal, Node, Rule, rules}
 use Rattle.grammar.specs.Terminals.{picked, terminalOf, startOf, spanOf}
-use Rattle.grammar.specs.Reading.{Read, limit, soFar, oneMore, mostTerms, mostPositions, nextTerm, withCounts, withPositions, withKeys, withKey, noTerm, unlessFull, keyCounted, keyNamed, orderCounted, counted, termItem, termed, positioned, used, judged, ifAllowed, numbered, acted, Standing, Moved, thenAt, byRule, stepped, begun, with, refusedAt, readFrom, mostBytes, readItems}
+use Rattle.grammar.specs.Reading.{Read, limit, soFar, oneMore, mostTerms, mostPositions, nextTerm, withCounts, withPositions, withKeys, withKey, withBracketed, inBrackets, noTerm, unlessFull, keyCounted, keyNamed, orderCounted, counted, termItem, termed, positioned, used, judged, ifAllowed, numbered, acted, Standing, Moved, thenAt, byRule, stepped, begun, with, refusedAt, readFrom, mostBytes, readItems}
 use Rattle.grammar.specs.Reading as reading
 use Rattle.grammar.proofs.Table.{each}
 use Rattle.grammar.proofs.Diagrams.{at-each, picked-of}
@@ -113,7 +113,7 @@ module _ (s : Progress) (x : Span) where
   counted-counts : (k : Kind) → T (isName k) → Fine (counted s k (item.Declared k (x .start)) x)
   counted-counts k t =
       full-counts (s .counts) (x .start) (limit k) (soFar k (s .counts)) x
-      (Give (withCounts (oneMore k (s .counts)) (withKeys 0 (withPositions 0 (noTerm s)))) (item.Declared k (x .start)))
+      (Give (withCounts (oneMore k (s .counts)) (withBracketed 0 (withKeys 0 (withPositions 0 (noTerm s))))) (item.Declared k (x .start)))
       (one-more k (s .counts) (x .start) t)
 
   term-counts : (f : ℕ) → Fine (termed s f x)
@@ -133,6 +133,10 @@ module _ (s : Progress) (x : Span) where
   order-counts : (o : Outcome) → Fine o → Fine (orderCounted s x o)
   order-counts o h = full-counts (s .counts) (x .start) (limit AnOrder) (soFar AnOrder (s .counts)) x o (λ _. h)
 
+  bracketed-counts : (i : Item) → namedBy (part i) [] ≡ [] → Fine (inBrackets s i x)
+  bracketed-counts i e =
+      full-counts (s .counts) (x .start) mostPlaceholders (s .bracketed) x (Give (withBracketed (s .bracketed + 1) s) i) (λ _. rw e same)
+
   used-counts : (u : NumberUse) (v : ℕ) → Fine (used s u v x)
   used-counts RatioFirst v = same
   used-counts RatioSecond v = same
@@ -145,6 +149,7 @@ module _ (s : Progress) (x : Span) where
   used-counts (Amount f) v = same
   used-counts Key v = key-counts v _ refl
   used-counts StarredKey v = key-counts v _ refl
+  used-counts Argument v = bracketed-counts _ refl
 
   numbered-counts : (text : List ℕ) (u : NumberUse) (a b : ℕ) → Fine (numbered text s u a b x)
   numbered-counts text u a b = go (judged u (slice a b text))
@@ -185,6 +190,8 @@ acted-counts text s (Name Position) x t = positioned-counts s x _ refl
 acted-counts text s (Name Start) x t = same
 acted-counts text s (Name Order) x t = same
 acted-counts text s (Name Trigger) x t = same
+acted-counts text s (Name Placeholder) x t = bracketed-counts s x _ refl
+acted-counts text s (Name (NamedAmount f)) x t = same
 acted-counts text s (Name CountedTrigger) x t = order-counts s x _ order-apart
 acted-counts text s (Mark MutedPosition) x t = positioned-counts s x _ refl
 acted-counts text s (Mark KeptPosition) x t = positioned-counts s x _ refl

@@ -39,8 +39,8 @@ amountOf add a = a
 amountOf subtract a = a
 amountOf base a = 0
 amountOf position a = 0
-amountOf start a = 0
-amountOf order a = 0
+amountOf start a = a
+amountOf order a = a
 amountOf trigger a = 0
 
 part-numbered : (u : Use) (a n : ℕ) → part (numbered u a n) ≡ uses u (amountOf u a) n

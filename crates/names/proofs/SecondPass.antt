@@ -92,11 +92,14 @@ rebuilt item.WidthKept = tt
 rebuilt item.Period = tt
 rebuilt item.Onward = tt
 rebuilt (item.Letter a) = tt
-rebuilt (item.Start a) = refl
-rebuilt (item.Order a) = refl
+rebuilt (item.Start a b) = refl
+rebuilt (item.Order a b) = refl
 rebuilt (item.Trigger a) = refl
 rebuilt (item.Key a) = tt
 rebuilt (item.StarredKey a) = tt
+rebuilt (item.AmountName a b) = tt
+rebuilt (item.Placeholder a) = tt
+rebuilt (item.Argument a) = tt
 
 pub numbered-part : (x : Item) {u : Use} {a p : ℕ} → part x ≡ uses u a p → numbered u a p ≡ x
 unfolding Rebuilt

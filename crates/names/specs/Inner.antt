@@ -167,6 +167,10 @@ unfoldable pub itemsIn : ℕ → List ℕ → List Item
 itemsIn zero l = []
 itemsIn (suc n) l = itemAt l 0 ∷ itemsIn n (drop rowSize l)
 
+-- those from one place to another
+abbrev pub itemsBetween : List ℕ → ℕ → ℕ → List Item
+itemsBetween items from to = drop from (itemsIn to items)
+
 -- a slice for the items of the longest text begins with the rows of these items
 pub record Held (is : List Item) (items : List ℕ) : Type 0 where
   pub rows : items ≡ holding is items

@@ -84,8 +84,8 @@ numbered add f n = item.Add f n
 numbered subtract f n = item.Subtract f n
 numbered base f n = item.Base n
 numbered position f n = item.TonePosition n
-numbered start f n = item.Start n
-numbered order f n = item.Order n
+numbered start q n = item.Start q n
+numbered order q n = item.Order q n
 numbered trigger f n = item.Trigger n
 
 -- what becomes of the items: each name that is used replaced by the number of its declaration, or the place of the first that is not declared

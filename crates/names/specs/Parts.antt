@@ -11,6 +11,10 @@ pub data Given : Type 0 where
   amount : Form → Given
   letter : Given
   key starredKey : Given
+  -- document 02, 1/13: the name of a placeholder that stands for n; one that the brackets name; a number that a call gives. These names are none of
+  -- a declaration: they mean a place in their retuning's brackets
+  wanting : Form → Given
+  placeholder argument : Given
 
 -- the uses of a name
 pub data Use : Type 0 where
@@ -36,12 +40,15 @@ part (item.Amount f n) = gives (amount f) 0 n
 part (item.Letter c) = gives letter c 0
 part (item.Key v) = gives key v 0
 part (item.StarredKey v) = gives starredKey v 0
+part (item.AmountName f p) = gives (wanting f) 0 p
+part (item.Placeholder p) = gives placeholder 0 p
+part (item.Argument v) = gives argument v 0
 part (item.Add f p) = uses add f p
 part (item.Subtract f p) = uses subtract f p
 part (item.Base p) = uses base 0 p
 part (item.TonePosition p) = uses position 0 p
-part (item.Start p) = uses start 0 p
-part (item.Order p) = uses order 0 p
+part (item.Start q p) = uses start q p
+part (item.Order q p) = uses order q p
 part (item.Trigger p) = uses trigger 0 p
 part item.MutedPosition = says muted
 part item.KeptPosition = says kept

@@ -93,8 +93,8 @@ fn role_of(item: Item) -> Role
         Item::Subtract(_, place) => Role::Uses(Scope::Intervals, place),
         Item::Base(place) => Role::Uses(Scope::Tones, place),
         Item::TonePosition(place) => Role::Uses(Scope::Tones, place),
-        Item::Start(place) => Role::Uses(Scope::Starts, place),
-        Item::Order(place) => Role::Uses(Scope::Orders, place),
+        Item::Start(_, place) => Role::Uses(Scope::Starts, place),
+        Item::Order(_, place) => Role::Uses(Scope::Orders, place),
         Item::Trigger(place) => Role::Uses(Scope::Harmonies, place),
         _ => Role::Nothing,
     }

@@ -1,5 +1,4 @@
 pub mod Lists
-pub mod Between
 pub mod Contents
 pub mod Terms
 pub mod Ready

@@ -15,9 +15,10 @@ use Rattle.program.specs.Meaning.{declarationAt}
 use Rattle.program.specs.Allowed.{Fits}
 use Rattle.program.proofs.Bodies.{program-length, body-within, body-at}
 use Rattle.program.proofs.AcceptedText.{fits-at, few-declarations}
-use Rattle.valuation.specs.Inner.{bodyFrom, bodyTo, Ready, itemsBetween, Gatherable}
+use Rattle.valuation.specs.Inner.{bodyFrom, bodyTo, Ready, Gatherable}
+use Rattle.names.specs.Inner.{itemsBetween}
 use Rattle.valuation.proofs.Lists.{taken-at}
-use Rattle.valuation.proofs.Between.{between-part}
+use Rattle.names.proofs.Between.{between-part}
 use Rattle.valuation.proofs.Contents.{gatherable}
 
 module _ {is : List Item} {items : List ℕ} {count : ℕ} {starts : List ℕ} {n : ℕ} (r : Ready is items count starts n) where

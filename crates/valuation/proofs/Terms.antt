@@ -16,8 +16,9 @@ use Rattle.program.specs.Program.{termsOf}
 use Rattle.program.specs.Allowed.{Each}
 use Rattle.valuation.specs.declared.Content.{Content}
 use Rattle.valuation.specs.declared.Content.the-variants.{Ratio, Root, Frequency, Period, Tone, Term, Nothing}
-use Rattle.valuation.specs.Inner.{itemsBetween, contentOf, termIn, codeIn, Small, Writable}
-use Rattle.valuation.proofs.Between.{between-here, between-none}
+use Rattle.valuation.specs.Inner.{contentOf, termIn, codeIn, Small, Writable}
+use Rattle.names.specs.Inner.{itemsBetween}
+use Rattle.names.proofs.Between.{between-here, between-none}
 use Rattle.valuation.proofs.Contents.{terms-cons}
 
 -- what is said of each term of two lists

@@ -166,10 +166,6 @@ pub record Blank (forms : List ℕ) (origins : List ℤ) (table : List ℕ) : Ty
   pub no-origin : origins ≡ replicate rows (pos 0)
   pub no-term : table ≡ replicate (rows * termsPerRow) 0
 
--- the items from one place to another
-abbrev pub itemsBetween : List ℕ → ℕ → ℕ → List Item
-itemsBetween items from to = drop from (itemsIn to items)
-
 -- the declaration of these items goes into the tables
 pub record Gatherable (is : List Item) : Type 0 where
   pub measurable : Measurable (contentAt is)

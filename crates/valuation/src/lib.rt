@@ -28,7 +28,8 @@ ghost use Rattle.values.specs.Inner.{meant};
 ghost use Rattle.program.specs.Program.{termsOf, declarationOf, programOf};
 ghost use Rattle.program.specs.Meaning.{own};
 ghost use Rattle.program.specs.Allowed.{Each};
-ghost use Rattle.valuation.specs.Inner.{Ready, itemsBetween, contentOf, contentAt, rangeBy, originBy, hasTerms, termIn, codeIn, Measurable, Small, Writable, formBy, numberBy, codedAs, Holdable, Full, Blank, Gatherable, Entered, Gathered};
+ghost use Rattle.valuation.specs.Inner.{Ready, contentOf, contentAt, rangeBy, originBy, hasTerms, termIn, codeIn, Measurable, Small, Writable, formBy, numberBy, codedAs, Holdable, Full, Blank, Gatherable, Entered, Gathered};
+ghost use Rattle.names.specs.Inner.{itemsBetween};
 
 // What an item has for the value of its declaration.
 enum Content {

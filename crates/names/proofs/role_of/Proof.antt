@@ -15,7 +15,7 @@ use Rattle.names.proofs.role_of.Statement.{statement}
 use Rattle.names.proofs.role_of.Tie as tie
 
 nameless : List ℕ
-nameless = 1 ∷ 2 ∷ 5 ∷ 7 ∷ 8 ∷ 9 ∷ 11 ∷ 12 ∷ 13 ∷ 14 ∷ 15 ∷ 16 ∷ 20 ∷ 21 ∷ []
+nameless = 1 ∷ 2 ∷ 5 ∷ 7 ∷ 8 ∷ 9 ∷ 11 ∷ 12 ∷ 13 ∷ 14 ∷ 15 ∷ 16 ∷ 20 ∷ 21 ∷ 22 ∷ 23 ∷ 24 ∷ []
 
 without : (i : Item) → OneOf nameless (tagOf variants.the-type i) → Nothing ≡ roleOf (part i)
 unfolding nameless
@@ -36,11 +36,14 @@ without item.WidthKept h = refl
 without item.Period h = refl
 without item.Onward h = refl
 without (item.Letter a) h = refl
-without (item.Start a) h = absurd (miss nameless 17 tt h)
-without (item.Order a) h = absurd (miss nameless 18 tt h)
+without (item.Start a b) h = absurd (miss nameless 17 tt h)
+without (item.Order a b) h = absurd (miss nameless 18 tt h)
 without (item.Trigger a) h = absurd (miss nameless 19 tt h)
 without (item.Key a) h = refl
 without (item.StarredKey a) h = refl
+without (item.AmountName a b) h = refl
+without (item.Placeholder a) h = refl
+without (item.Argument a) h = refl
 
 enum-known-item : tie.Need-enum-known-item
 enum-known-item c = search needs

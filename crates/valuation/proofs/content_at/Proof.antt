@@ -4,7 +4,7 @@ use mathlib.Core.Path.{_∙_, ap, sym}
 use borrow.Author.Needs.{needs}
 use Rattle.names.specs.Parts.{part}
 use Rattle.valuation.specs.Inner.{contentOf, contentAt}
-use Rattle.valuation.proofs.Between.{between-here, between-none}
+use Rattle.names.proofs.Between.{between-here, between-none}
 use Rattle.valuation.proofs.content_at.Statement.{statement}
 use Rattle.valuation.proofs.content_at.Tie as tie
 

@@ -5,7 +5,8 @@ use borrow.Author.Tests.{not-true, not-false}
 use mir.Facts.{toZ-ofZ}
 use mir.Syntax.{w32}
 use mir.Val.{SFits}
-use Rattle.valuation.specs.Inner.{itemsBetween, Measurable}
+use Rattle.valuation.specs.Inner.{Measurable}
+use Rattle.names.specs.Inner.{itemsBetween}
 use Rattle.valuation.proofs.Contents.{terms-writable, entered-none, entered-terms}
 use borrow.Author.Needs.{needs}
 use Rattle.valuation.proofs.gather_declaration.Statement.{statement}

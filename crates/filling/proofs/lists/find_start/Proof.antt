@@ -6,7 +6,7 @@ use native.Mathlib.Numerals.{add-one}
 use native.Mathlib.Omega.{arith}
 use borrow.Author.Needs.{needs}
 use Rattle.program.specs.Program.{startOf}
-use Rattle.valuation.specs.Inner.{itemsBetween}
+use Rattle.names.specs.Inner.{itemsBetween}
 use Rattle.filling.specs.Inner.{calledBy}
 use Rattle.filling.proofs.Inside.{inside, no-start}
 use Rattle.filling.proofs.Items.{start-end, start-next}

@@ -8,7 +8,7 @@ use lib.IntN.{ℤ, _+ℤ_}
 use Rattle.tuning.specs.declared.ToneChange.the-variants.{Move, Set}
 use Rattle.program.specs.Program.{Position, kept, named, grouped}
 use Rattle.program.specs.Allowed.{Each}
-use Rattle.valuation.specs.Inner.{itemsBetween}
+use Rattle.names.specs.Inner.{itemsBetween}
 use Rattle.tuning.specs.Capped.{capped}
 use Rattle.filling.specs.Tables.{changeOf}
 use Rattle.filling.specs.Inner.{valueIn, positionAt, FitValue, Summable, FitPosition}

@@ -6,7 +6,7 @@ use native.Mathlib.Omega.{arith}
 use borrow.Author.Needs.{needs}
 use Rattle.tables.specs.Layout.{changeCode, changeNumber}
 use Rattle.program.specs.Program.{Position, Grouped, grouped}
-use Rattle.valuation.specs.Inner.{itemsBetween}
+use Rattle.names.specs.Inner.{itemsBetween}
 use Rattle.filling.specs.Tables.{changeOf}
 use Rattle.filling.specs.Inner.{valueIn, positionAt, changesHere, FitPosition}
 use Rattle.filling.proofs.Items.{groups-end, positions-next}

@@ -8,7 +8,7 @@ use Rattle.tables.specs.Layout.{triggersIn, callsIn}
 use Rattle.tables.proofs.Columns.{columns-length}
 use Rattle.program.specs.Program.{Order, Ordered, ordersOf}
 use Rattle.program.specs.Allowed.{Each}
-use Rattle.valuation.specs.Inner.{itemsBetween}
+use Rattle.names.specs.Inner.{itemsBetween}
 use Rattle.filling.specs.Inner.{orderAt, triggerBy, triggerOf, callOf, ordersHere, FitOrder, Appended}
 use Rattle.filling.proofs.Items.{ordered-end, orders-next}
 use Rattle.filling.proofs.Writing.{Making, making-none, making-all, making-now, making-skip, making-room, making-next, making-first-length, making-second-length}

@@ -7,7 +7,7 @@ use borrow.Author.Needs.{needs}
 use Rattle.tables.specs.Layout.{soundingOf, pitchOf}
 use Rattle.names.specs.Parts.{part}
 use Rattle.program.specs.Program.{systemPositionThen, systemPositionsOf}
-use Rattle.valuation.specs.Inner.{itemsBetween}
+use Rattle.names.specs.Inner.{itemsBetween}
 use Rattle.filling.specs.Tables.{toneOf}
 use Rattle.filling.specs.Inner.{valueIn, tonesHere, FitSystemPosition}
 use Rattle.filling.proofs.Items.{places-end, places-next}

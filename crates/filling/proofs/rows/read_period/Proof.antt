@@ -6,7 +6,7 @@ use Rattle.tuning.specs.declared.PeriodChange.the-variants.{Fresh, Onward}
 use Rattle.tuning.specs.declared.Retuning.the-variants.{Period}
 use Rattle.tables.specs.declared.Row.the-variants.{Retuning}
 use Rattle.program.specs.Program.{Declaration, termsOf}
-use Rattle.valuation.specs.Inner.{itemsBetween}
+use Rattle.names.specs.Inner.{itemsBetween}
 use Rattle.tuning.specs.Capped.{capped}
 use Rattle.filling.specs.Tables.{sum, rowOf}
 use Rattle.filling.specs.Inner.{valueIn}

@@ -9,10 +9,10 @@ use Rattle.grammar.specs.declared.Item.the-variants as item
 use Rattle.names.specs.Parts.{part}
 use Rattle.tables.specs.declared.Row.the-variants.{Interval}
 use Rattle.program.specs.Program.{Declaration, declarationOf, periodOf, tones, grouped, logic, startOf, ordersOf, harmony, keysOf}
-use Rattle.valuation.specs.Inner.{itemsBetween}
+use Rattle.names.specs.Inner.{itemsBetween}
 use Rattle.filling.specs.Inner.{begins, triggerBy, triggersHere, Writable}
 use Rattle.filling.proofs.Inside.{inside}
-use Rattle.valuation.proofs.Between.{between-none}
+use Rattle.names.proofs.Between.{between-none}
 use Rattle.filling.proofs.Items.{item-next}
 use Rattle.filling.proofs.Forms.{Plain, as-plain, as-tones, as-logic, plain-first, starred-first, period-form, period-rowed, harmony-rowed}
 use Rattle.filling.proofs.Slices.{rowed-in-as, system-in, tones-in, logic-in}

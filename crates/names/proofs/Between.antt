@@ -10,9 +10,8 @@ use lib.Seq.{slice, drop-cons, getD-drop}
 use Rattle.grammar.specs.declared.Item.{Item}
 use Rattle.grammar.specs.declared.Item.the-variants.{MutedPosition}
 use Rattle.grammar.specs.Items.{itemAt, rowSize}
-use Rattle.names.specs.Inner.{itemsIn}
+use Rattle.names.specs.Inner.{itemsIn, itemsBetween}
 use Rattle.names.proofs.Held.{length-items-in}
-use Rattle.valuation.specs.Inner.{itemsBetween}
 
 -- the item after the first row
 later : (l : List ℕ) (i : ℕ) → itemAt (drop rowSize l) i ≡ itemAt l (suc i)

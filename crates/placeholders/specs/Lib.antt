@@ -1,0 +1,4 @@
+-- Retunings with placeholders.
+pub mod Placeholders
+pub mod Filling
+pub mod Inner
