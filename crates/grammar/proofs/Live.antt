@@ -8,7 +8,7 @@ use mathlib.Core.Path.{_≡_, refl, sym, _∙_, ap, subst}
 use Prim.Native.Nat.{ℕ, zero, suc}
 use native.Mathlib.Omega.{arith}
 use lib.Dec.{T, eqb, eqb→eq}
-use Rattle.status.specs.Status.{noSymbol, symbolNotAllowed}
+use Rattle.status.specs.Status.{noSymbol, symbolNotAllowed, numberOutOfRange}
 use Rattle.symbols.specs.declared.Symbol.{Symbol}
 use Rattle.numerals.specs.declared.WrittenNumber.{WrittenNumber}
 use Rattle.grammar.specs.declared.NumberUse.{NumberUse}
@@ -20,7 +20,7 @@ use Rattle.grammar.specs.Terminals.{isNothing, picked, terminalOf, start
 use Rattle.grammar.specs.Moves.{nodeNumber, nodeCount}
 use Rattle.grammar.specs.Reading.{used, ifAllowed, acted, Standing, Moved, thenAt, byRule, stepped, begun}
 use Rattle.grammar.specs.Reading as reading
-use Rattle.grammar.specs.Live.{walked, NoContinuation, reached, KeyUse, plain, starred, NamedTwice, ThreeExactly, Refused, two, three, four, nine, LowerNumber}
+use Rattle.grammar.specs.Live.{walked, NoContinuation, reached, KeyUse, plain, starred, NamedTwice, UnfitNumber, ThreeExactly, Refused, two, three, four, nine, LowerNumber}
 use Rattle.grammar.proofs.Diagrams.{same-node, same-terminal, at-each, none-at-nothing}
 use Rattle.grammar.proofs.Refusals.{held-no-key, Why, outside, full, again, held-key, Explained, acted-why}
 
@@ -178,6 +178,11 @@ three-exactly text ys y s e n = (forth, back)
 
 -- ---- at one place the lower number
 
+-- a number that is not as it is asked gets 4
+unfit-refused : (text : List ℕ) (s : Standing) (y : Symbol) → UnfitNumber text s y → stepped text s y ≡ reading.refuse numberOutOfRange (startOf y)
+unfolding stepped acted
+unfit-refused text s y u = rw (u .picks, u .reads, u .outside)
+
 pub lower-number : LowerNumber
 unfolding LowerNumber stepped
 lower-number text ys y s e n p f = by-place (isNothing (terminalOf text y)) refl
@@ -193,10 +198,14 @@ lower-number text ys y s e n p f = by-place (isNothing (terminalOf text y)) refl
     allowed : isNothing (terminalOf text y) ≡ false → (n ≡ symbolNotAllowed → ⊥) → Three → ⊥
     allowed h k c = k (let q = sym f ∙ three-exactly text ys y s e h .1 c in let z : n ≡ symbolNotAllowed = cc in z)
 
+    -- nor is 9, where there is a 4
+    fit : (n ≡ numberOutOfRange → ⊥) → UnfitNumber text s y → ⊥
+    fit k u = k (let q = sym f ∙ unfit-refused text s y u in let z : n ≡ numberOutOfRange = cc in z)
+
     why : isNothing (terminalOf text y) ≡ false → (r : Rule) → picked (rules (s .node)) (terminalOf text y) ≡ some r → (k : ℕ) → k ≡ n
         → Why text (s .kept) (spanOf y) (r .action) k → Refused text ys s y n
     why h r q _ z outside = subst (Refused text ys s y) z (four h (allowed h (λ b. omega (arith, b, z))))
-    why h r q _ z full = subst (Refused text ys s y) z (nine h (allowed h (λ b. omega (arith, b, z))))
+    why h r q _ z full = subst (Refused text ys s y) z (nine h (allowed h (λ b. omega (arith, b, z))) (fit (λ b. omega (arith, b, z))))
     why h r q _ z (again {u = u} {v = v} k a j w) =
         subst (Refused text ys s y) z (three h (inr (record { rule = r; picks = q; purpose = u; key = k; reads = a; value = v; is = j; named = w })))
     why h r q _ z (held-key k a) = absurd (held-no-key (s .node) (terminalOf text y) q k a)

@@ -10,7 +10,7 @@ use lib.Seq.{slice}
 use Rattle.status.specs.Status.{noSymbol, symbolNotAllowed, numberOutOfRange, itemTooMany}
 use Rattle.sets.specs.Sets.{has}
 use Rattle.symbols.specs.declared.Symbol.{Symbol}
-use Rattle.numerals.specs.declared.WrittenNumber.the-variants.{Value}
+use Rattle.numerals.specs.declared.WrittenNumber.the-variants.{Outside, Value}
 use Rattle.grammar.specs.declared.NumberUse.{NumberUse}
 use Rattle.grammar.specs.declared.NumberUse.the-variants.{Key, StarredKey}
 use Rattle.grammar.specs.declared.Action.the-variants.{Number}
@@ -52,6 +52,14 @@ pub record NamedTwice (text : List ℕ) (s : Standing) (y : Symbol) : Type 0 whe
   pub is : judged purpose (slice (startOf y) (endOf y) text) ≡ Value value
   pub named : has (s .kept .keys) value ≡ true
 
+-- a number "out of range, too many places, or a point where whole is asked": a continuation allows a number, and not this one
+pub record UnfitNumber (text : List ℕ) (s : Standing) (y : Symbol) : Type 0 where
+  pub rule : Rule
+  pub picks : picked (rules (s .node)) (terminalOf text y) ≡ some rule
+  pub purpose : NumberUse
+  pub reads : rule .action ≡ Number purpose
+  pub outside : judged purpose (slice (startOf y) (endOf y) text) ≡ Outside
+
 -- after symbols of which none is refused, a further symbol y is refused with 3, at its place, just where with it there is no continuation, or it names a
 -- number twice
 abbrev pub ThreeExactly : Type 0
@@ -60,7 +68,8 @@ ThreeExactly =
     → (stepped text s y ≡ refuse symbolNotAllowed (startOf y)) ↔ (NoContinuation (map (terminalOf text) (ys ++ y ∷ [])) ⊎ NamedTwice text s y)
 
 -- "at one place the lower number": the number of a further symbol that is refused. 2 where no symbol begins there, 3 where no continuation allows it or it
--- names a number twice; 4 and 9 only where neither is so
+-- names a number twice; 4 and 9 only where neither is so, and 9 only where the symbol is no number that 4 is for (as a fifth number of a call may be, document
+-- 02, 1/13)
 pub data Refused (text : List ℕ) (ys : List Symbol) (s : Standing) (y : Symbol) : ℕ → Type 0 where
   two : isNothing (terminalOf text y) ≡ true → Refused text ys s y noSymbol
   three : isNothing (terminalOf text y) ≡ false → NoContinuation (map (terminalOf text) (ys ++ y ∷ [])) ⊎ NamedTwice text s y
@@ -68,7 +77,7 @@ pub data Refused (text : List ℕ) (ys : List Symbol) (s : Standing) (y : Symbol
   four : isNothing (terminalOf text y) ≡ false → (NoContinuation (map (terminalOf text) (ys ++ y ∷ [])) ⊎ NamedTwice text s y → ⊥)
       → Refused text ys s y numberOutOfRange
   nine : isNothing (terminalOf text y) ≡ false → (NoContinuation (map (terminalOf text) (ys ++ y ∷ [])) ⊎ NamedTwice text s y → ⊥)
-      → Refused text ys s y itemTooMany
+      → (UnfitNumber text s y → ⊥) → Refused text ys s y itemTooMany
 
 unfoldable pub LowerNumber : Type 0
 LowerNumber =
