@@ -17,8 +17,8 @@ use Rattle.placeholders.specs.declared.Fault.the-variants.{Nothing, At}
 use Rattle.placeholders.specs.declared.Wanting.{Wanting}
 use Rattle.placeholders.specs.declared.Wanting.the-variants as wanting
 use Rattle.placeholders.specs.declared.Settling.{Settling}
-use Rattle.placeholders.specs.declared.filling.WrittenCall.{WrittenCall}
-use Rattle.placeholders.specs.declared.filling.WrittenCall.the-variants as call
+use Rattle.placeholders.specs.declared.writing.WrittenCall.{WrittenCall}
+use Rattle.placeholders.specs.declared.writing.WrittenCall.the-variants as call
 use Rattle.placeholders.specs.Placeholders.{seen, named, handed, isAmong, faultOf}
 use Rattle.placeholders.specs.Filling.{wantedBy, writtenFor, filledIn, unlessFaulty, settled}
 

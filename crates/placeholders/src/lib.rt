@@ -1,10 +1,10 @@
 // Retunings with placeholders: what is wrong with the names and numbers in brackets (24), and calls with their numbers written in.
 mod brackets;
 mod faults;
-mod filling;
+pub mod writing;
 
 use crate::faults::find_fault;
-use crate::filling::fill_calls;
+use crate::writing::fill_calls;
 use grammar::Form;
 use grammar::Item;
 use status::DONE;

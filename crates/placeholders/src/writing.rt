@@ -20,7 +20,7 @@ ghost use Rattle.placeholders.specs.Filling.{wantedBy};
 ghost use Rattle.placeholders.specs.Inner.{wantedAt, Begun, Roomy, Fills};
 
 // A call to be written in: the place of the called name, the form of the n, and the number.
-enum WrittenCall {
+pub enum WrittenCall {
     Nothing,
     Amount(u32, Form, u32),
 }
