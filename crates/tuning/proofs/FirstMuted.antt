@@ -1,8 +1,8 @@
 -- Document 02, 2/13, "A scale whose first key is muted": the theorems of specs/FirstMuted.antt. Assumes nothing.
 use mathlib.Core.Path.{_≡_, refl, sym, ap, _∙_, subst, fun-ext}
-use mathlib.Core.Logic.{_≢_, _↔_, Iff·trans, _⊎_, inl, inr}
+use mathlib.Core.Logic.{_≢_, _↔_, Iff·rfl, Iff·trans, Iff·and, _⊎_, inl, inr}
 use mathlib.Core.Bool.{Bool, true, false, not, false≢true}
-use mathlib.Core.List.{List, [], _∷_, map, map-id}
+use mathlib.Core.List.{List, _∷_, map, map-id}
 use Prim.Native.Nat.{ℕ, zero, suc, _+_, _≤_, _<_}
 use native.Mathlib.Nat.{add-zero}
 use native.Mathlib.Omega.{arith}
@@ -19,12 +19,12 @@ use Rattle.tuning.specs.declared.Amount.the-variants.{Kept}
 use Rattle.tuning.specs.declared.State.{State}
 use Rattle.tuning.specs.Scale.{Scale, Sound, muted, sounds}
 use Rattle.tuning.specs.Tuning.{Tuning, anchorTo, widthTo, amounts, width, raised, toneAt, keyPosition, keyPeriods, keyRise, soundOf, apart, spanTo, reachBy, reach, anchoredBy, keysFrom, widenedBy}
-use Rattle.tuning.specs.Desk.{cents, isAnchor, isWidth, isMuted, anyBeyond, Check, firstFailing, called}
+use Rattle.tuning.specs.Desk.{cents, isMuted, anyBeyond, Check, firstFailing, unreached, called}
 use Rattle.tuning.specs.State.{places, held, validState}
 use Rattle.tuning.specs.FirstMuted.{SoundingFirst, newAnchor, pastWidth, EitherSilent, Thirteen, SameKeys, WholePeriods, CallsKeepKeys, KeptIsTaken, MutedFirst}
 use Rattle.tuning.proofs.Held.{ValidTuning, coded-held, valid-held}
 use Rattle.tuning.proofs.Keys.{At, at-position, at-next, keys-length, keys-at, key-sound, place-law, place-low}
-use Rattle.tuning.proofs.Outcomes.{taken, reach-periods, reach-span, anchor-taken, width-taken, reply-taken}
+use Rattle.tuning.proofs.Outcomes.{taken, none-fails, not-first, later, decides, reach-periods, reach-span, anchor-taken, width-taken, reply-taken}
 use Rattle.tuning.proofs.Laws.{never, raised-none, position-sound, taken-does, width-least}
 
 -- ---- what whole periods need of a scale: a step up from a tone leads that far, and multiples of a step add up as their numbers do
@@ -87,24 +87,6 @@ muted-is : (y : Sound ℤ) → isMuted y ≡ true → y ≡ muted
 muted-is muted h = refl
 muted-is (sounds z) h = absurd (false≢true h)
 
--- a number comes from the first check that fails: not where no later check has it
-not-first : (n k : ℕ) (x : Bool) (cs : List Check) → suc n ≢ k → firstFailing cs ≢ k → firstFailing (record { number = suc n; fails = x } ∷ cs) ≢ k
-unfolding firstFailing
-not-first n k true cs a b = a
-not-first n k false cs a b = b
-
--- the second check decides where the first passes, and its number comes from no other
-second-fails : (n k : ℕ) (x y : Bool) (cs : List Check) → suc n ≢ suc k → firstFailing cs ≢ suc k
-    → (firstFailing (record { number = suc n; fails = x } ∷ record { number = suc k; fails = y } ∷ cs) ≡ suc k) ↔ (x ≡ false) × (y ≡ true)
-unfolding firstFailing
-second-fails n k true y cs a b = (λ e. absurd (a e), λ h. absurd (false≢true (sym (h .0))))
-second-fails n k false true cs a b = (λ e. (refl, refl), λ h. refl)
-second-fails n k false false cs a b = (λ e. absurd (b e), λ h. absurd (false≢true (h .1)))
-
-none-is-no-thirteen : firstFailing [] ≢ endSilent
-unfolding firstFailing
-none-is-no-thirteen e = omega arith
-
 -- what the checks ask is what the request says
 asked : (s : Tuning cents) (x : ℕ) (b : Bool) → (not b ≡ false) × (isMuted (reach cents s x) ≡ true) ↔ (b ≡ true) × EitherSilent s x
 asked s x b = (
@@ -112,18 +94,21 @@ asked s x b = (
   λ h. (ap not (h .0), ap isMuted (unreached-exactly s x .1 (h .1))),
 )
 
+-- where a first check has passed
+second : (n : ℕ) (s : Tuning cents) (x : ℕ) (b : Bool) (cs : List Check) → suc n ≢ endSilent → firstFailing cs ≢ endSilent
+    → (firstFailing (record { number = suc n; fails = not b } ∷ unreached s x ∷ cs) ≡ endSilent) ↔ (b ≡ true) × EitherSilent s x
+second n s x b cs h k = Iff·trans (later n endSilent (not b) (unreached s x ∷ cs) h) (Iff·trans (Iff·and Iff·rfl (decides 12 _ cs k)) (asked s x b))
+
 pub thirteen : (s : Tuning cents) (m : Amount) → Thirteen s m
 unfolding called
 thirteen s m =
     record {
-      anchor =
-          Iff·trans
-          (second-fails 9 12 _ _ _ (λ e. omega arith) (not-first 13 endSilent _ _ (λ e. omega arith) none-is-no-thirteen))
-          (asked s (newAnchor s m) (isAnchor (amounts m (s .anchor))));
+      anchor = second 9 s (newAnchor s m) _ _ (λ e. omega arith) (not-first 13 endSilent _ _ (λ e. omega arith) (none-fails endSilent (λ e. omega arith)));
       width =
-          Iff·trans
-          (second-fails 10 12 _ _ _ (λ e. omega arith) (not-first 13 endSilent _ _ (λ e. omega arith) (not-first 11 endSilent _ _ (λ e. omega arith) none-is-no-thirteen)))
-          (asked s (pastWidth s m) (isWidth (amounts m (width cents s))));
+          Iff·trans (later 24 endSilent _ _ (λ e. omega arith))
+          (Iff·and Iff·rfl
+          (second 10 s (pastWidth s m) _ _ (λ e. omega arith)
+          (not-first 13 endSilent _ _ (λ e. omega arith) (not-first 11 endSilent _ _ (λ e. omega arith) (none-fails endSilent (λ e. omega arith))))));
     }
 
 -- ---- "the distance shall be q times the period": by whole periods every key keeps its sound
@@ -246,7 +231,7 @@ module _ (t : Tuning cents) (v : ValidTuning t) where
       let w = width cents t in
       let r : reach cents t (t .anchor + w) ≡ sounds (t .period) =
       reach-periods cents t (t .anchor + w) (next .r) ∙ ap (λ (z : ℤ). sounds (z *ℤ t .period)) (next .q) ∙ ap (λ (z : ℤ). sounds z) (one-mulℤ (t .period)) in
-      width-taken t Kept w refl (v .least) (v .most) (t .period) r (ap anyBeyond same-keys ∙ v .tones) (v .period)
+      width-taken t Kept refl w refl (v .least) (v .most) (t .period) r (ap anyBeyond same-keys ∙ v .tones) (v .period)
       ∙ ap (λ (l : List (Sound ℤ)). taken (record { anchor = t .anchor; tones = l; period = t .period })) same-keys
 
 pub kept-is-taken : (s : State) → validState s ≡ true → length (s .tones) ≡ places → KeptIsTaken s

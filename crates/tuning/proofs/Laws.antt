@@ -167,13 +167,13 @@ in-range low high z h =
 
 -- a width that is taken is in its range
 pub width-least : (s : Tuning cents) (m : Amount) → called s (widthTo m) .number ≡ 0 → 1 ≤ up (amounts m (width cents s))
-width-least s m h = in-range 1 60 (amounts m (width cents s)) (passed _ _ _ (none-failed s (widthTo m) h) .0) .0
+width-least s m h = in-range 1 60 (amounts m (width cents s)) (passed _ _ _ (passed _ _ _ (none-failed s (widthTo m) h) .1) .0) .0
 
 pub width-keeps : (s : Tuning cents) (m : Amount) → called s (widthTo m) .number ≡ 0 → WidthKept s (called s (widthTo m) .state) (up (amounts m (width cents s)))
 width-keeps s m h =
     let v = up (amounts m (width cents s)) in
-    let f = passed _ _ _ (none-failed s (widthTo m) h) in
-    let r = sounding (reach cents s (s .anchor + v)) (passed _ _ _ (f .1) .0) in
+    let f = passed _ _ _ (passed _ _ _ (passed _ _ _ (none-failed s (widthTo m) h) .1) .1) in
+    let r = sounding (reach cents s (s .anchor + v)) (f .0) in
     subst (λ (t : Tuning cents). WidthKept s t v) (sym (taken-does s (widthTo m) h ∙ ap (widenedBy cents s v) (r .is)))
     (widened-kept s v (width-least s m h) (r .at) (r .is))
 
@@ -208,7 +208,7 @@ module _ (s : Tuning cents) (v : ValidTuning s) where
       anchored-valid (up z) (reach cents s (up z)) (in-range 0 127 z (f .0) .1) (g .0)
   done-valid (widthTo m) a h =
       let z = amounts m (width cents s) in
-      let f = passed _ _ _ h in
+      let f = passed _ _ _ (passed _ _ _ h .1) in
       let g = passed _ _ _ (passed _ _ _ (f .1) .1) in
       widened-valid (up z) (reach cents s (s .anchor + up z)) (in-range 1 60 z (f .0)) (g .0) (not-false _ (passed _ _ _ (g .1) .0))
   done-valid (periodTo m) a h = record { anchor = v .anchor; least = v .least; most = v .most; period = not-false _ (passed _ _ _ h .0); tones = v .tones }

@@ -15,3 +15,5 @@ pub mod FirstMuted
 pub mod Sums
 pub mod BothEnds
 pub mod AtLimits
+pub mod ByZero
+pub mod TwentyFive

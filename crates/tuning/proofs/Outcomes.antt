@@ -1,8 +1,8 @@
 -- What a call comes to, one law for each outcome, in the order of its checks. Assumes nothing.
 use mathlib.Core.Path.{_≡_, refl, sym, ap, ap₂, _∙_}
-use mathlib.Core.Bool.{Bool, true, false, not, Bool·not-not, and-false}
+use mathlib.Core.Bool.{Bool, true, false, not, false≢true, Bool·not-not}
 use mathlib.Core.List.{List, [], _∷_}
-use mathlib.Core.Logic.{_≢_}
+use mathlib.Core.Logic.{_≢_, _↔_}
 use Prim.Native.Nat.{ℕ, zero, suc, _+_, _≤_}
 use native.Mathlib.Nat.{suc-ne-zero}
 use native.Mathlib.Omega.{arith}
@@ -10,10 +10,10 @@ use borrow.Author.Tests.{le-leb}
 use lib.IntN.{ℤ, pos, natAbs}
 use lib.ListN.{length, getD}
 use lib.Dec.{T}
-use lib.Signed.{leZ, ltZ, nonNeg}
+use lib.Signed.{leZ, nonNeg}
 use Rattle.integers.specs.Parts.{up}
 use Rattle.integers.proofs.Signed.{signed, abs}
-use Rattle.status.specs.Status.{anchorOutOfRange, widthOutOfRange, periodOutOfRange, endSilent, toneOutOfRange}
+use Rattle.status.specs.Status.{divisionByZero, anchorOutOfRange, widthOutOfRange, periodOutOfRange, endSilent, toneOutOfRange}
 use Rattle.tuning.specs.declared.Tone.{Tone}
 use Rattle.tuning.specs.declared.State.{State}
 use Rattle.tuning.specs.declared.Reply.{Reply}
@@ -22,9 +22,10 @@ use Rattle.tuning.specs.declared.Reach.the-variants.{Silent, By}
 use Rattle.tuning.specs.declared.Amount.{Amount}
 use Rattle.tuning.specs.Scale.{Scale, Sound, muted, sounds}
 use Rattle.tuning.specs.Tuning.{Tuning, PeriodTo, PositionTo, Action, anchorTo, widthTo, periodTo, tonesTo, system, amounts, width, keyPosition, keyRise, soundOf, apart, spanTo, reachBy, reach, anchoredBy, anchored, widenedBy, widened, newPeriod, newTones, done}
-use Rattle.tuning.specs.Desk.{cents, between, isAnchor, isWidth, isPeriod, anyBeyond, Check, firstFailing, badAnchor, badWidth, badPeriod, badTone, unreached, ifTaken, Called, called}
+use Rattle.tuning.specs.Desk.{cents, between, isAnchor, isWidth, isPeriod, anyBeyond, Check, firstFailing, dividesByZero, badDivisor, badAnchor, badWidth, badPeriod, badTone, unreached, ifTaken, Called, called}
 use Rattle.tuning.specs.State.{places, heard, held, toneOf, coded, validState, replied}
 use Rattle.tuning.specs.Inner.{reachOf}
+use Rattle.tuning.proofs.Lists.{both}
 use Rattle.tuning.proofs.Valid.{Valid, none}
 use Rattle.tuning.proofs.Tones.{heard-at}
 use Rattle.tuning.proofs.Held.{heard-tone, held-coded, coded-held}
@@ -90,6 +91,29 @@ passed n x cs h = go x h
     go true q = absurd (suc-ne-zero n q)
     go false q = (refl, q)
 
+-- none fails where there is none
+pub none-fails : (k : ℕ) → 0 ≢ k → firstFailing [] ≢ k
+unfolding firstFailing
+none-fails k h = h
+
+-- a number comes from the first check that fails: not where no later check has it
+pub not-first : (n k : ℕ) (x : Bool) (cs : List Check) → suc n ≢ k → firstFailing cs ≢ k → firstFailing (record { number = suc n; fails = x } ∷ cs) ≢ k
+unfolding firstFailing
+not-first n k true cs a b = a
+not-first n k false cs a b = b
+
+-- a check with another number has to pass first
+pub later : (n k : ℕ) (x : Bool) (cs : List Check) → suc n ≢ k → (firstFailing (record { number = suc n; fails = x } ∷ cs) ≡ k) ↔ (x ≡ false) × (firstFailing cs ≡ k)
+unfolding firstFailing
+later n k true cs a = (λ e. absurd (a e), λ h. absurd (false≢true (sym (h .0))))
+later n k false cs a = (λ e. (refl, e), λ h. h .1)
+
+-- and one with this number decides, where no other has it
+pub decides : (k : ℕ) (x : Bool) (cs : List Check) → firstFailing cs ≢ suc k → (firstFailing (record { number = suc k; fails = x } ∷ cs) ≡ suc k) ↔ (x ≡ true)
+unfolding firstFailing
+decides k true cs a = (λ e. refl, λ h. refl)
+decides k false cs a = (λ e. absurd (a e), λ h. absurd (false≢true h))
+
 all-passed : (new old : Tuning cents) → decided [] new old ≡ taken new
 unfolding decided firstFailing
 all-passed new old = refl
@@ -122,37 +146,41 @@ module _ (t : Tuning cents) (m : Amount) where
       pub anchor-taken : anyBeyond (anchoredBy cents t b (sounds d) .tones) ≡ false → called t (anchorTo m) ≡ taken (anchoredBy cents t b (sounds d))
       anchor-taken k = anchor-reached ∙ passes _ _ _ _ _ k ∙ all-passed _ _
 
--- ---- "Width to v .. Checks: 11, 13, 14, 12."
+-- ---- "Width to v .. Checks: 11, 13, 14, 12", and 25 before them
 
 module _ (t : Tuning cents) (m : Amount) where
   width-by : (z : ℤ) → amounts m (width cents t) ≡ z
-      → called t (widthTo m) ≡ decided (badWidth z ∷ unreached t (t .anchor + up z) ∷ badTone (widened cents t (up z)) ∷ badPeriod (widened cents t (up z) .period) ∷ []) (widened cents t (up z)) t
+      → called t (widthTo m) ≡ decided (badDivisor m ∷ badWidth z ∷ unreached t (t .anchor + up z) ∷ badTone (widened cents t (up z)) ∷ badPeriod (widened cents t (up z) .period) ∷ []) (widened cents t (up z)) t
   unfolding called decided
   width-by z e = rw e
 
-  pub width-out : isWidth (amounts m (width cents t)) ≡ false → called t (widthTo m) ≡ refused widthOutOfRange t
-  width-out h = width-by _ refl ∙ fails _ _ _ _ _ (ap not h)
+  pub width-divided : dividesByZero m ≡ true → called t (widthTo m) ≡ refused divisionByZero t
+  width-divided h = width-by _ refl ∙ fails _ _ _ _ _ h
 
-  module _ (v : ℕ) (e : amounts m (width cents t) ≡ pos v) (l : 1 ≤ v) (h : v ≤ places) where
-    width-in : called t (widthTo m) ≡ decided (unreached t (t .anchor + v) ∷ badTone (widened cents t v) ∷ badPeriod (widened cents t v .period) ∷ []) (widened cents t v) t
-    width-in = width-by (pos v) e ∙ passes _ _ _ _ _ (rw (le-leb 1 v l, le-leb v 60 h))
+  module _ (n : dividesByZero m ≡ false) where
+    pub width-out : isWidth (amounts m (width cents t)) ≡ false → called t (widthTo m) ≡ refused widthOutOfRange t
+    width-out h = width-by _ refl ∙ passes _ _ _ _ _ n ∙ fails _ _ _ _ _ (ap not h)
 
-    pub width-silent : reach cents t (t .anchor + v) ≡ muted → called t (widthTo m) ≡ refused endSilent t
-    width-silent r = width-in ∙ fails _ _ _ _ _ (rw r)
+    module _ (v : ℕ) (e : amounts m (width cents t) ≡ pos v) (l : 1 ≤ v) (h : v ≤ places) where
+      width-in : called t (widthTo m) ≡ decided (unreached t (t .anchor + v) ∷ badTone (widened cents t v) ∷ badPeriod (widened cents t v .period) ∷ []) (widened cents t v) t
+      width-in = width-by (pos v) e ∙ passes _ _ _ _ _ n ∙ passes _ _ _ _ _ (rw (le-leb 1 v l, le-leb v 60 h))
 
-    module _ (d : ℤ) (r : reach cents t (t .anchor + v) ≡ sounds d) where
-      width-reached : called t (widthTo m) ≡ decided (badTone (widenedBy cents t v (sounds d)) ∷ badPeriod d ∷ []) (widenedBy cents t v (sounds d)) t
-      width-reached = width-in ∙ passes _ _ _ _ _ (rw r) ∙ rw r
+      pub width-silent : reach cents t (t .anchor + v) ≡ muted → called t (widthTo m) ≡ refused endSilent t
+      width-silent r = width-in ∙ fails _ _ _ _ _ (rw r)
 
-      pub width-beyond : anyBeyond (widenedBy cents t v (sounds d) .tones) ≡ true → called t (widthTo m) ≡ refused toneOutOfRange t
-      width-beyond k = width-reached ∙ fails _ _ _ _ _ k
+      module _ (d : ℤ) (r : reach cents t (t .anchor + v) ≡ sounds d) where
+        width-reached : called t (widthTo m) ≡ decided (badTone (widenedBy cents t v (sounds d)) ∷ badPeriod d ∷ []) (widenedBy cents t v (sounds d)) t
+        width-reached = width-in ∙ passes _ _ _ _ _ (rw r) ∙ rw r
 
-      module _ (k : anyBeyond (widenedBy cents t v (sounds d) .tones) ≡ false) where
-        pub width-period : isPeriod d ≡ false → called t (widthTo m) ≡ refused periodOutOfRange t
-        width-period p = width-reached ∙ passes _ _ _ _ _ k ∙ fails _ _ _ _ _ (ap not p)
+        pub width-beyond : anyBeyond (widenedBy cents t v (sounds d) .tones) ≡ true → called t (widthTo m) ≡ refused toneOutOfRange t
+        width-beyond k = width-reached ∙ fails _ _ _ _ _ k
 
-        pub width-taken : isPeriod d ≡ true → called t (widthTo m) ≡ taken (widenedBy cents t v (sounds d))
-        width-taken p = width-reached ∙ passes _ _ _ _ _ k ∙ passes _ _ _ _ _ (ap not p) ∙ all-passed _ _
+        module _ (k : anyBeyond (widenedBy cents t v (sounds d) .tones) ≡ false) where
+          pub width-period : isPeriod d ≡ false → called t (widthTo m) ≡ refused periodOutOfRange t
+          width-period p = width-reached ∙ passes _ _ _ _ _ k ∙ fails _ _ _ _ _ (ap not p)
+
+          pub width-taken : isPeriod d ≡ true → called t (widthTo m) ≡ taken (widenedBy cents t v (sounds d))
+          width-taken p = width-reached ∙ passes _ _ _ _ _ k ∙ passes _ _ _ _ _ (ap not p) ∙ all-passed _ _
 
 -- ---- "Period .. Check: 12." "Tones .. Check: 14." "Calling a tone system sets all four parts."
 
@@ -194,29 +222,17 @@ module _ (s : State) (a : Action cents) where
 
 -- ---- what the code's tests say
 
-not-le : (x y : ℤ) → ltZ y x ≡ true → leZ x y ≡ false
-not-le x y h = go (leZ x y) refl
-  where
-    go : (b : Bool) → leZ x y ≡ b → b ≡ false
-    go true e = let z : ⊥ = omega (signed, e, h) in absurd z
-    go false e = refl
-
-module _ (low high z : ℤ) where
-  pub too-low : ltZ z low ≡ true → between low high z ≡ false
-  too-low h = rw (not-le low z h)
-
-  pub too-high : ltZ high z ≡ true → between low high z ≡ false
-  too-high h = rw (not-le z high h) (and-false (leZ low z))
-
--- a number that neither test refuses
+-- a number that its test does not refuse
 pub record Within (low high : ℕ) (z : ℤ) : Type 0 where
   pub sign : T (nonNeg z)
   pub whole : z ≡ pos (natAbs z)
   pub least : low ≤ natAbs z
   pub most : natAbs z ≤ high
 
-pub within : (low high : ℕ) (z : ℤ) → ltZ z (pos low) ≡ false → ltZ (pos high) z ≡ false → Within low high z
-within low high z h k = record { sign = omega (signed, abs z, h); whole = omega (signed, abs z, h); least = omega (signed, abs z, h); most = omega (signed, abs z, h, k) }
+pub within : (low high : ℕ) (z : ℤ) → between (pos low) (pos high) z ≡ true → Within low high z
+within low high z h =
+    let b = both (leZ (pos low) z) (leZ z (pos high)) h in
+    record { sign = omega (signed, abs z, b .0); whole = omega (signed, abs z, b .0); least = omega (signed, abs z, b .0); most = omega (signed, abs z, b .0, b .1) }
 
 -- the test of the tones of a coded state
 pub tones-tested : (t : Tuning cents) {u : State} {r : Bool} → u ≡ coded t → r ≡ not (anyBeyond (held u .tones)) → anyBeyond (t .tones) ≡ not r

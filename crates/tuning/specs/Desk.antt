@@ -8,7 +8,10 @@ use Rattle.integers.specs.Parts.{up}
 use Rattle.limits.specs.Limits.{mostAnchor, mostPositions, farthestTone, longestPeriod, highestPitch}
 use Rattle.cents.specs.Passages.{shift, distance}
 use Rattle.cents.specs.Measure.{pitch440}
-use Rattle.status.specs.Status.{anchorOutOfRange, widthOutOfRange, periodOutOfRange, endSilent, toneOutOfRange}
+use Rattle.status.specs.Status.{divisionByZero, anchorOutOfRange, widthOutOfRange, periodOutOfRange, endSilent, toneOutOfRange}
+use Rattle.tuning.specs.declared.Operator.the-variants.{Plus, Minus, Times, Divide}
+use Rattle.tuning.specs.declared.Amount.{Amount}
+use Rattle.tuning.specs.declared.Amount.the-variants.{Absolute, Kept, Relative}
 use Rattle.tuning.specs.Scale.{Scale, Sound, muted, sounds}
 use Rattle.tuning.specs.Tuning.{Tuning, Action, anchorTo, widthTo, periodTo, tonesTo, system, amounts, width, reach, done}
 
@@ -67,6 +70,19 @@ unfoldable pub firstFailing : List Check → ℕ
 firstFailing [] = 0
 firstFailing (c ∷ cs) = elim (c .fails) [ true ↦ c .number | false ↦ firstFailing cs ]
 
+-- document 02, 1/13: "only a zero handed to `/` waits for the call"
+abbrev pub dividesByZero : Amount → Bool
+dividesByZero (Absolute n) = false
+dividesByZero Kept = false
+dividesByZero (Relative Plus n) = false
+dividesByZero (Relative Minus n) = false
+dividesByZero (Relative Times n) = false
+dividesByZero (Relative Divide zero) = true
+dividesByZero (Relative Divide (suc n)) = false
+
+abbrev pub badDivisor : Amount → Check
+badDivisor m = record { number = divisionByZero; fails = dividesByZero m }
+
 abbrev pub badAnchor : ℤ → Check
 badAnchor b = record { number = anchorOutOfRange; fails = not (isAnchor b) }
 
@@ -97,7 +113,9 @@ anyBeyond (t ∷ ts) = beyond t || anyBeyond ts
 abbrev pub badTone : Tuning cents → Check
 badTone s = record { number = toneOutOfRange; fails = anyBeyond (s .tones) }
 
--- "Checks: 10, 13, 14", "11, 13, 14, 12", "12", "14", each in this order (2/13: "the order stays"); a tone system is always taken
+-- "Checks: 10, 13, 14", "11, 13, 14, 12", "12", "14", each in this order (2/13: "the order stays"); a tone system is always taken. Document 02, 1/13: "at the
+-- call 25, before 10 to 14, for division by zero, state unchanged, which as with 10 to 14 speaks of the four parts". An anchor retuning knows no `/`, so 25 is
+-- a width's alone.
 abbrev pub checks : Tuning cents → Action cents → List Check
 checks s (anchorTo m) =
     let b = amounts m (s .anchor) in
@@ -105,7 +123,7 @@ checks s (anchorTo m) =
 checks s (widthTo m) =
     let v = amounts m (width cents s) in
     let new = done cents s (widthTo m) in
-    badWidth v ∷ unreached s (s .anchor + up v) ∷ badTone new ∷ badPeriod (new .period) ∷ []
+    badDivisor m ∷ badWidth v ∷ unreached s (s .anchor + up v) ∷ badTone new ∷ badPeriod (new .period) ∷ []
 checks s (periodTo m) = badPeriod (done cents s (periodTo m) .period) ∷ []
 checks s (tonesTo l) = badTone (done cents s (tonesTo l)) ∷ []
 checks s (system y) = []

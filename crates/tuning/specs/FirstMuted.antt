@@ -1,7 +1,7 @@
 -- Document 02, 2/13, "A scale whose first key is muted": what the mended rule (`reach` of Tuning.antt) comes to, for distances, calls and keys.
 use mathlib.Core.Path.{_≡_}
 use mathlib.Core.Logic.{_≢_, _↔_, _⊎_}
-use mathlib.Core.Bool.{true}
+use mathlib.Core.Bool.{true, false}
 use Prim.Native.Nat.{ℕ, _+_, _≤_, _<_}
 use lib.ListN.{length}
 use Rattle.integers.specs.Parts.{up}
@@ -12,7 +12,7 @@ use Rattle.tuning.specs.declared.Amount.the-variants as amount
 use Rattle.tuning.specs.declared.State.{State}
 use Rattle.tuning.specs.Scale.{Scale, muted, sounds}
 use Rattle.tuning.specs.Tuning.{Tuning, anchorTo, widthTo, amounts, width, toneAt, keyPosition, soundOf, spanTo, reach, anchored, widened}
-use Rattle.tuning.specs.Desk.{cents, isAnchor, isWidth, called}
+use Rattle.tuning.specs.Desk.{cents, isAnchor, isWidth, dividesByZero, called}
 use Rattle.tuning.specs.State.{places, validState, replied}
 
 -- where position 0 sounds nothing changes: the distance is document 01's "pitch(b) - t(0)", whatever the key at the other end
@@ -31,10 +31,10 @@ pub record EitherSilent (s : Tuning cents) (x : ℕ) : Type 0 where
   pub elsewhere : keyPosition cents s x ≢ 0
   pub silent : (toneAt cents s 0 ≡ muted) ⊎ (soundOf cents s x ≡ muted)
 
--- "13 narrows to" this: a call gets 13 just there, after 10 and 11
+-- "13 narrows to" this: a call gets 13 just there, after 10, 25 and 11
 pub record Thirteen (s : Tuning cents) (m : Amount) : Type 0 where
   pub anchor : (called s (anchorTo m) .number ≡ endSilent) ↔ (isAnchor (amounts m (s .anchor)) ≡ true) × EitherSilent s (newAnchor s m)
-  pub width : (called s (widthTo m) .number ≡ endSilent) ↔ (isWidth (amounts m (width cents s)) ≡ true) × EitherSilent s (pastWidth s m)
+  pub width : (called s (widthTo m) .number ≡ endSilent) ↔ (dividesByZero m ≡ false) × ((isWidth (amounts m (width cents s)) ≡ true) × EitherSilent s (pastWidth s m))
 
 -- "document 01 won't double it or carry it up": by whole periods every key keeps its sound, or its silence, on the desk and in the book
 abbrev pub SameKeys : (S : Scale) → Tuning S → Tuning S → Type 0

@@ -8,4 +8,5 @@ pub mod FirstMuted
 pub mod Sums
 pub mod BothEnds
 pub mod AtLimits
+pub mod ByZero
 pub mod Inner

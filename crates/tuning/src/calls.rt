@@ -12,6 +12,7 @@ use crate::State;
 use crate::Tone;
 use crate::ToneChange;
 use crate::ToneChanges;
+use crate::is_between;
 use crate::is_period;
 use crate::locate;
 use cents::FIRST_KEY;
@@ -30,7 +31,7 @@ ghost use Rattle.limits.specs.Limits.{mostAnchor, mostPositions, farthestTone};
 ghost use Rattle.cents.specs.Passages.{mostKey};
 ghost use Rattle.tuning.specs.Scale.{Sound};
 ghost use Rattle.tuning.specs.Tuning.{operated, amounts, Action, apart, reach, anchoredBy, widenedBy, newTone, newPeriod, done};
-ghost use Rattle.tuning.specs.Desk.{cents};
+ghost use Rattle.tuning.specs.Desk.{cents, dividesByZero};
 ghost use Rattle.tuning.specs.State.{heard, held, toneOf, coded, validState, replied, periodMeant, toneMeant, tonesMeant, meant};
 ghost use Rattle.tuning.specs.Capped.{farthestSum, capped, cappedTo, cappedPeriod};
 ghost use Rattle.tuning.specs.Inner.{size, farthestReach, reachOf, reachSize};
@@ -54,6 +55,19 @@ fn operate(operator: Operator, old: KeySteps, n: u16) -> KeySteps
             KeySteps((old.0 as u32 / n as u32) as i32)
         }
     }
+}
+
+// Whether 0 stands after `/`.
+fn divides_by_zero(asked: Amount) -> bool
+    ensures { λ r. ⌜ r ≡ dividesByZero asked ⌝ }
+{
+    let Amount::Relative(operator, n) = asked else {
+        return false;
+    };
+    let Operator::Divide = operator else {
+        return false;
+    };
+    n == 0
 }
 
 // The anchor, in keys above the first, or the width that is asked for, from the one that it replaces.
@@ -210,13 +224,7 @@ impl State {
         ensures { λ r. ⌜ r ≡ replied self (Action.anchorTo asked) ⌝ }
     {
         let b = amount_of(asked, self.anchor.distance(FIRST_KEY));
-        if b.0 < 0 {
-            return Reply {
-                state: self,
-                number: status::ANCHOR_OUT_OF_RANGE,
-            };
-        }
-        if HIGHEST_KEY < b.0 {
+        if !is_between(0, HIGHEST_KEY, b.0) {
             return Reply {
                 state: self,
                 number: status::ANCHOR_OUT_OF_RANGE,
@@ -242,19 +250,19 @@ impl State {
         }
     }
 
-    // "Width to v: new t(i) is the old pitch of key a+i; the new period is pitch(a+v) - t(0). Checks: 11, 13, 14, 12."
+    // "Width to v: new t(i) is the old pitch of key a+i; the new period is pitch(a+v) - t(0). Checks: 11, 13, 14, 12"; 25 before them.
     pub fn change_width(self, asked: Amount) -> Reply
         requires { ⌜ validState self ≡ true ⌝ }
         ensures { λ r. ⌜ r ≡ replied self (Action.widthTo asked) ⌝ }
     {
-        let v = amount_of(asked, KeySteps(self.width as i32));
-        if v.0 < 1 {
+        if divides_by_zero(asked) {
             return Reply {
                 state: self,
-                number: status::WIDTH_OUT_OF_RANGE,
+                number: status::DIVISION_BY_ZERO,
             };
         }
-        if WIDEST < v.0 {
+        let v = amount_of(asked, KeySteps(self.width as i32));
+        if !is_between(1, WIDEST, v.0) {
             return Reply {
                 state: self,
                 number: status::WIDTH_OUT_OF_RANGE,
