@@ -21,8 +21,8 @@ use Rattle.tuning.specs.declared.Tone.the-variants.{Muted, At}
 use Rattle.tuning.specs.declared.Retuning.the-variants.{Anchor, Width, Period, Tones}
 use Rattle.tables.specs.declared.Numbers.{Numbers}
 use Rattle.tables.specs.declared.Row.{Row}
-use Rattle.tables.specs.declared.Row.the-variants.{Unused, Interval, Tone, System, Retuning, Logic, Harmony}
-use Rattle.tables.specs.Layout.{rowWidth, numbers, unusedForm, amountCode, amountNumber, amountOf, periodCode, periodSum, periodOf, numbersOf, rowOf, written, readAt, soundingOf, pitchOf, toneOf, changeCode, changeNumber, changeOf, divideCode, onwardCode, harmonyForm, halfSet, allSets}
+use Rattle.tables.specs.declared.Row.the-variants.{Unused, Interval, Tone, System, Retuning, Logic, Harmony, Pattern}
+use Rattle.tables.specs.Layout.{rowWidth, numbers, unusedForm, amountCode, amountNumber, amountOf, periodCode, periodSum, periodOf, numbersOf, rowOf, written, readAt, soundingOf, pitchOf, toneOf, changeCode, changeNumber, changeOf, divideCode, onwardCode, patternForm, halfSet, allSets}
 use Rattle.tables.specs.Values.{NumbersFit}
 
 -- ---- decoding gives back what was encoded
@@ -54,6 +54,7 @@ row-back (Retuning (Period m) from to) = ap (λ (x : PeriodChange). Retuning (Pe
 row-back (Retuning Tones from to) = refl
 row-back (Logic c s from to) = refl
 row-back (Harmony needed named) = rw (set-back needed, set-back named)
+row-back Pattern = refl
 
 pub tone-back : (t : SoundingTone) → toneOf (soundingOf t) (pitchOf t) ≡ t
 tone-back Muted = refl
@@ -78,7 +79,7 @@ pub period-code-small : (m : PeriodChange) → periodCode m ≤ onwardCode
 period-code-small (Fresh d) = omega arith
 period-code-small (Onward d) = omega arith
 
-pub form-small : (r : Row) → numbersOf r .form ≤ harmonyForm
+pub form-small : (r : Row) → numbersOf r .form ≤ patternForm
 form-small Unused = omega arith
 form-small (Interval d) = omega arith
 form-small (Tone p) = omega arith
@@ -89,6 +90,7 @@ form-small (Retuning (Period m) from to) = omega arith
 form-small (Retuning Tones from to) = omega arith
 form-small (Logic c s from to) = omega arith
 form-small (Harmony needed named) = omega arith
+form-small Pattern = omega arith
 
 -- those of a harmony fit the table, its sets being of key numbers to 59
 pub harmony-fits : (needed named : ℕ) → needed < allSets → named < allSets → NumbersFit (numbersOf (Harmony needed named))

@@ -1,5 +1,6 @@
--- The tables that a text is read into. Rows have one declaration each, in the order of the text; tones are those of tone systems, changes those of
--- tones retunings, orders those of logics, each list in the order of the text, and a row says from where to where its own stand.
+-- The tables that a text is read into. Rows have one declaration each, in the order of the text, and behind them (Document 02, 1/13) come those of calls
+-- whose numbers are written in; tones are those of tone systems, changes those of tones retunings, orders those of logics, each list in the order of the
+-- text, and a row says from where to where its own stand.
 use mathlib.Core.Path.{_≡_}
 use mathlib.Core.Bool.{Bool, cond, _&&_}
 use mathlib.Core.List.{List, [], _∷_, _++_}
@@ -21,12 +22,12 @@ use Rattle.tuning.specs.declared.Tone.the-variants.{Muted, At}
 use Rattle.tuning.specs.declared.Retuning.{Retuning as RetuningForm}
 use Rattle.tuning.specs.declared.Retuning.the-variants.{Anchor, Width, Period, Tones}
 use Rattle.tables.specs.declared.Counts.{Counts}
-use Rattle.limits.specs.Limits.{mostSystems, mostRetunings, mostPositions, mostDeclarations, mostHarmonyKey}
-pub use Rattle.limits.specs.Limits.{mostOrders}
+use Rattle.limits.specs.Limits.{mostSystems, mostRetunings, mostPositions, mostHarmonyKey}
+pub use Rattle.limits.specs.Limits.{mostRows, mostOrders}
 pub use Rattle.tuning.specs.Capped.{farthestSum}
 use Rattle.tables.specs.declared.Numbers.{Numbers}
 use Rattle.tables.specs.declared.Row.{Row}
-use Rattle.tables.specs.declared.Row.the-variants.{Unused, Interval, Tone, System, Retuning, Logic, Harmony}
+use Rattle.tables.specs.declared.Row.the-variants.{Unused, Interval, Tone, System, Retuning, Logic, Harmony, Pattern}
 
 -- what is read: rows of five numbers; for each tone of a tone system whether it sounds and its pitch; for each change of a tones retuning its kind
 -- and its interval or pitch; for each order its trigger and the number of the declaration that it calls; and how many there are of each
@@ -40,10 +41,8 @@ pub record Tables : Type 0 where
   pub calls : List ℕ
   pub counts : List ℕ
 
--- ---- full sizes: so many declarations, positions of tone systems and of tones retunings, and orders as a text may have
-
-abbrev pub mostRows : ℕ
-mostRows = mostDeclarations
+-- ---- full sizes: so many positions of tone systems and of tones retunings, and orders as a text may have; and so many rows (`mostRows`): one for each
+-- declaration and, Document 02, 1/13, one for each call whose numbers are written in
 
 abbrev pub rowWidth : ℕ
 rowWidth = 5
@@ -199,6 +198,10 @@ logicForm = 8
 abbrev pub harmonyForm : ℕ
 harmonyForm = 9
 
+-- a retuning whose n is a placeholder (Document 02, 1/13): no call refers to it, each has a row of its own with its numbers written in
+abbrev pub patternForm : ℕ
+patternForm = 10
+
 -- an anchor or width: a code for `@`, for a number n, or for `@` with an operator and n; and n
 abbrev pub keptCode : ℕ
 keptCode = 0
@@ -282,6 +285,7 @@ numbersOf (System a P from to) = numbers systemForm (pos (a .0)) (P .0) from to
 numbersOf (Retuning r from to) = retuningNumbers r from to
 numbersOf (Logic c s from to) = numbers logicForm (pos c) (pos s) from to
 numbersOf (Harmony needed named) = numbers harmonyForm (pos (needed % halfSet)) (pos (needed / halfSet)) (named % halfSet) (named / halfSet)
+numbersOf Pattern = numbers patternForm (pos 0) (pos 0) 0 0
 
 unfoldable pub rowOf : Numbers → Row
 rowOf r =
@@ -297,7 +301,8 @@ rowOf r =
     (cond (eqb (r .form) periodForm) (Retuning (Period (periodOf (up a) b)) m n)
     (cond (eqb (r .form) tonesForm) (Retuning Tones m n)
     (cond (eqb (r .form) logicForm) (Logic (up a) (up b) m n)
-    (cond (eqb (r .form) harmonyForm) (Harmony (up a + up b * halfSet) (m + n * halfSet)) Unused))))))))
+    (cond (eqb (r .form) harmonyForm) (Harmony (up a + up b * halfSet) (m + n * halfSet))
+    (cond (eqb (r .form) patternForm) Pattern Unused)))))))))
 
 -- the numbers of a row in the table, one after the other, and those of many rows
 abbrev pub written : Numbers → List ℤ
@@ -332,6 +337,7 @@ asLogic (System a P from to) = no-logic
 asLogic (Retuning r from to) = no-logic
 asLogic (Logic c s from to) = a-logic c s from to
 asLogic (Harmony needed named) = no-logic
+asLogic Pattern = no-logic
 
 -- a row as held keys see it: a harmony, with its unstarred key numbers and all that it names, or none
 pub data AsHarmony : Type 0 where
@@ -346,6 +352,7 @@ asHarmony (System a P from to) = no-harmony
 asHarmony (Retuning r from to) = no-harmony
 asHarmony (Logic c s from to) = no-harmony
 asHarmony (Harmony needed named) = a-harmony needed named
+asHarmony Pattern = no-harmony
 
 -- ---- tones and changes
 

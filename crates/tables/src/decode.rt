@@ -12,6 +12,7 @@ use crate::MOVE_CODE;
 use crate::MUTE_CODE;
 use crate::MUTED_CODE;
 use crate::Numbers;
+use crate::PATTERN_FORM;
 use crate::PERIOD_FORM;
 use crate::PLUS_CODE;
 use crate::ROW_WIDTH;
@@ -165,6 +166,7 @@ fn row_of(n: Numbers) -> Row
             needed: set_of(a, b),
             named: set_of(from, to),
         },
+        PATTERN_FORM => Row::Pattern,
         _ => Row::Unused,
     }
 }

@@ -16,6 +16,7 @@ use crate::MUTED_CODE;
 use crate::Numbers;
 use crate::ONWARD_CODE;
 use crate::ORDER_WIDTH;
+use crate::PATTERN_FORM;
 use crate::PERIOD_FORM;
 use crate::PLUS_CODE;
 use crate::ROW_WIDTH;
@@ -145,6 +146,7 @@ fn numbers_of(row: Row) -> Numbers
             (named % HALF_SET) as u32,
             (named / HALF_SET) as u32,
         ),
+        Row::Pattern => lay_out(PATTERN_FORM, 0, 0, 0, 0),
     }
 }
 

@@ -1,4 +1,4 @@
-// The tables that a text is read into: a row for each declaration, and what the rows refer to.
+// The tables that a text is read into: a row for each declaration and for each call whose numbers are written in, and what the rows refer to.
 pub mod clear;
 pub mod decode;
 pub mod encode;
@@ -6,10 +6,10 @@ pub mod encode;
 use cents::Interval;
 use cents::KeyNumber;
 use cents::Pitch;
-use limits::MOST_DECLARATIONS;
 use limits::MOST_ORDERS;
 use limits::MOST_POSITIONS;
 use limits::MOST_RETUNINGS;
+use limits::MOST_ROWS;
 use limits::MOST_SYSTEMS;
 use tuning::Retuning;
 ghost use mathlib.Core.Path.{_≡_};
@@ -17,7 +17,7 @@ ghost use lib.ListN.{length};
 ghost use Rattle.tables.specs.Layout.{tablesIn, fullSize, countsSize, countsOf};
 
 // Full sizes: how many rows, tones, changes and orders there is room for, and how many numbers a row and how many codes an order has.
-pub const ROWS: usize = MOST_DECLARATIONS;
+pub const ROWS: usize = MOST_ROWS;
 
 pub const ROW_WIDTH: usize = 5;
 
@@ -66,6 +66,8 @@ pub const TONES_FORM: u32 = 7;
 pub const LOGIC_FORM: u32 = 8;
 
 pub const HARMONY_FORM: u32 = 9;
+
+pub const PATTERN_FORM: u32 = 10;
 
 // A trigger: a letter's capital, or this and the number of the harmony's declaration.
 pub const HARMONY_BASE: u16 = 256;
@@ -140,6 +142,8 @@ pub enum Row {
         needed: u64,
         named: u64,
     },
+    // A retuning whose n is a placeholder: no call refers to it, each has a row of its own with its numbers written in.
+    Pattern,
 }
 
 // How many rows, tones, changes and orders are used.

@@ -12,7 +12,7 @@ use lib.Signed.{leZ}
 use lib.ListN.{length, length-map, getD, take, drop}
 use Rattle.integers.specs.Parts.{up}
 use Rattle.integers.proofs.Signed.{signed, abs}
-use Rattle.limits.specs.Limits.{leastDivisor, mostAmount, mostPositions, firstLetter, lastLetter}
+use Rattle.limits.specs.Limits.{mostAmount, mostPositions, firstLetter, lastLetter}
 use Rattle.tuning.specs.Desk.{isAnchor, isPeriod, isTone}
 use Rattle.tuning.specs.State.{heard}
 use Rattle.tuning.specs.declared.Operator.the-variants.{Plus, Minus, Times, Divide}
@@ -24,7 +24,7 @@ use Rattle.tuning.proofs.Lists.{both}
 use Rattle.tables.specs.declared.Counts.{Counts}
 use Rattle.tables.specs.declared.Numbers.{Numbers}
 use Rattle.tables.specs.declared.Row.{Row}
-use Rattle.tables.specs.declared.Row.the-variants.{Unused, Interval, Tone, System, Retuning, Logic, Harmony}
+use Rattle.tables.specs.declared.Row.the-variants.{Unused, Interval, Tone, System, Retuning, Logic, Harmony, Pattern}
 use Rattle.tables.specs.Layout.{Tables, tablesIn, fullSize, used, rowCount, toneCount, changeCount, orderCount, rowWidth, mostRows, mostOrders, numbers, numberAt, readAt, numbersOf, rowOf, rowAt, tonesFrom, toneOf, periodSum, amountOf, amountNumber, systemForm, anchorForm, widthForm, tonesForm, logicForm, harmonyForm, harmonyBase, allSets}
 use Rattle.tables.specs.Values.{system, FieldsFit, Slices}
 use Rattle.tables.proofs.Lists.{part-length}
@@ -160,6 +160,7 @@ module _ (t : Tables) where
       let p = in-part 0 mostOrders from to (both (isTrigger t x && isStart t s) (isPart 0 mostOrders from to) h .1) in
       record { tones = omega arith; changes = omega arith; orders = omega (arith, p, eqb-true from (e .orders) k) }
   grows e (Harmony needed named) h k = record { tones = omega arith; changes = omega arith; orders = omega arith }
+  grows e Pattern h k = record { tones = omega arith; changes = omega arith; orders = omega arith }
 
   -- the first of the rows, and those after it
   record First (e : Ends) (i n : ℕ) : Type 0 where
@@ -243,6 +244,7 @@ ValidRow t (System a P from to) = ValidSystem t (a .0) (P .0) from to
 ValidRow t (Retuning r from to) = ValidRetuning t from to
 ValidRow t (Logic c s from to) = ValidLogic t c s from to
 ValidRow t (Harmony needed named) = ValidHarmony needed named
+ValidRow t Pattern = Unit
 
 -- by the test of the row that is referred to, which is that of its form
 refers : (t : Tables) (is : Row → Bool) (low high i : ℕ) → (is (rowAt t i) ≡ leb low (readAt (t .rows) i .form) && leb (readAt (t .rows) i .form) high)
@@ -337,6 +339,7 @@ module _ (t : Tables) (v : Valid t) where
   declaration-valid (Harmony needed named) h w =
       let b = both (ltb needed allSets) (ltb named allSets) h in
       record { needed = ltb-true needed allSets (b .0); named = ltb-true named allSets (b .1) }
+  declaration-valid Pattern h w = tt
 
 -- ---- a row's numbers fit its fields
 
@@ -354,7 +357,7 @@ width-small (Absolute n) h = leb-true n mostAmount h
 width-small (Relative Plus n) h = leb-true n mostAmount h
 width-small (Relative Minus n) h = leb-true n mostAmount h
 width-small (Relative Times n) h = leb-true n mostAmount h
-width-small (Relative Divide n) h = leb-true n mostAmount (both (leb leastDivisor n) (leb n mostAmount) h .1)
+width-small (Relative Divide n) h = leb-true n mostAmount h
 
 up-small : (n : ℕ) (z : ℤ) → same (pos n) z ≡ true → up z ≤ n
 up-small n z h = omega (signed, both (leZ (pos n) z) (leZ z (pos n)) h .1, abs z)

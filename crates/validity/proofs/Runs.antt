@@ -19,7 +19,7 @@ use Rattle.tuning.specs.Desk.{between, isTone}
 use Rattle.tuning.proofs.Lists.{every, both}
 use Rattle.tables.specs.declared.Counts.{Counts}
 use Rattle.tables.specs.declared.Numbers.{Numbers}
-use Rattle.tables.specs.Layout.{numbers, readAt, intervalForm, toneForm, systemForm, anchorForm, widthForm, periodForm, tonesForm, logicForm, harmonyForm, harmonyBase}
+use Rattle.tables.specs.Layout.{numbers, readAt, intervalForm, toneForm, systemForm, anchorForm, widthForm, periodForm, tonesForm, logicForm, harmonyForm, patternForm, harmonyBase}
 use Rattle.validity.specs.declared.Kinds.{Kinds}
 use Rattle.validity.specs.declared.Ends.{Ends}
 use Rattle.validity.specs.Valid.{noPart, kinds, kindsRight, endsRight, allZero, allNought}
@@ -120,19 +120,20 @@ value-forms P x y (pos (suc (suc (suc k)))) h =
     absurd e
 
 -- and those of other rows
-other-forms : (P : ℕ → Type 0) → P systemForm → P anchorForm → P widthForm → P periodForm → P tonesForm → P logicForm → P harmonyForm
-    → (f : ℕ) → systemForm ≤ f → f ≤ harmonyForm → P f
-other-forms P s a w p t l y zero g h = absurd (omega arith)
-other-forms P s a w p t l y (suc zero) g h = absurd (omega arith)
-other-forms P s a w p t l y (suc (suc zero)) g h = absurd (omega arith)
-other-forms P s a w p t l y (suc (suc (suc zero))) g h = s
-other-forms P s a w p t l y (suc (suc (suc (suc zero)))) g h = a
-other-forms P s a w p t l y (suc (suc (suc (suc (suc zero))))) g h = w
-other-forms P s a w p t l y (suc (suc (suc (suc (suc (suc zero)))))) g h = p
-other-forms P s a w p t l y (suc (suc (suc (suc (suc (suc (suc zero))))))) g h = t
-other-forms P s a w p t l y (suc (suc (suc (suc (suc (suc (suc (suc zero)))))))) g h = l
-other-forms P s a w p t l y (suc (suc (suc (suc (suc (suc (suc (suc (suc zero))))))))) g h = y
-other-forms P s a w p t l y (suc (suc (suc (suc (suc (suc (suc (suc (suc (suc k)))))))))) g h = absurd (omega arith)
+other-forms : (P : ℕ → Type 0) → P systemForm → P anchorForm → P widthForm → P periodForm → P tonesForm → P logicForm → P harmonyForm → P patternForm
+    → (f : ℕ) → systemForm ≤ f → f ≤ patternForm → P f
+other-forms P s a w p t l y x zero g h = absurd (omega arith)
+other-forms P s a w p t l y x (suc zero) g h = absurd (omega arith)
+other-forms P s a w p t l y x (suc (suc zero)) g h = absurd (omega arith)
+other-forms P s a w p t l y x (suc (suc (suc zero))) g h = s
+other-forms P s a w p t l y x (suc (suc (suc (suc zero)))) g h = a
+other-forms P s a w p t l y x (suc (suc (suc (suc (suc zero))))) g h = w
+other-forms P s a w p t l y x (suc (suc (suc (suc (suc (suc zero)))))) g h = p
+other-forms P s a w p t l y x (suc (suc (suc (suc (suc (suc (suc zero))))))) g h = t
+other-forms P s a w p t l y x (suc (suc (suc (suc (suc (suc (suc (suc zero)))))))) g h = l
+other-forms P s a w p t l y x (suc (suc (suc (suc (suc (suc (suc (suc (suc zero))))))))) g h = y
+other-forms P s a w p t l y x (suc (suc (suc (suc (suc (suc (suc (suc (suc (suc zero)))))))))) g h = x
+other-forms P s a w p t l y x (suc (suc (suc (suc (suc (suc (suc (suc (suc (suc (suc k))))))))))) g h = absurd (omega arith)
 
 pub other-form : (f : ℤ) → leZ (pos 0) f ≡ true → between (pos intervalForm) (pos toneForm) f ≡ false → (natAbs f ≢ intervalForm) × (natAbs f ≢ toneForm)
 other-form (pos n) h k = (λ e. true≢false (ap sounding (sym e) ∙ k), λ e. true≢false (ap sounding (sym e) ∙ k))
@@ -161,7 +162,7 @@ module _ (rows : List ℤ) (count : ℕ) (e : Ends) where
   value-ends f to h = value-forms (λ (z : ℤ). e ≡ endsWith e (up z) to) refl refl f h
 
   -- no row is right whose form there is not
-  form-above : (n : Numbers) → harmonyForm < n .form → fastRow rows count e n ≡ false
+  form-above : (n : Numbers) → patternForm < n .form → fastRow rows count e n ≡ false
   unfolding fastRow
   form-above n h =
       simp (
@@ -174,13 +175,14 @@ module _ (rows : List ℤ) (count : ℕ) (e : Ends) where
         ne-eqb (n .form) tonesForm (omega arith),
         ne-eqb (n .form) logicForm (omega arith),
         ne-eqb (n .form) harmonyForm (omega arith),
+        ne-eqb (n .form) patternForm (omega arith),
       )
 
   pub form-known : (n : Numbers) → fastRow rows count e n ≡ true → n .form ≢ intervalForm → n .form ≢ toneForm
-      → (systemForm ≤ n .form) × (n .form ≤ harmonyForm)
+      → (systemForm ≤ n .form) × (n .form ≤ patternForm)
   unfolding fastRow
   form-known n h x y =
-      let above : harmonyForm < n .form → ⊥ = λ z. false≢true (sym (form-above n z) ∙ h) in
+      let above : patternForm < n .form → ⊥ = λ z. false≢true (sym (form-above n z) ∙ h) in
       let some : n .form ≢ 0 = λ z. false≢true (form-right n 0 z ∙ h) in
       (omega arith, omega arith)
 
@@ -190,7 +192,14 @@ module _ (k : Kinds) (f : ℕ) where
   unfolding kindsWith
   kinds-below h x y z = let e : f ≡ 0 = omega arith in rw e
 
-  pub kinds-retuning : anchorForm ≤ f → f ≤ tonesForm → kinds (k .intervals) (k .tones) (k .systems) (suc (k .retunings)) (k .logics) (k .harmonies) ≡ kindsWith k f
+  abbrev retuning : Kinds
+  retuning = kinds (k .intervals) (k .tones) (k .systems) (suc (k .retunings)) (k .logics) (k .harmonies)
+
+  pub kinds-pattern : f ≡ patternForm → retuning ≡ kindsWith k f
+  unfolding kindsWith
+  kinds-pattern e = rw e
+
+  pub kinds-retuning : anchorForm ≤ f → f ≤ tonesForm → retuning ≡ kindsWith k f
   unfolding kindsWith
   kinds-retuning g h =
       simp (
@@ -203,7 +212,7 @@ module _ (k : Kinds) (f : ℕ) where
         le-leb f tonesForm h,
       )
 
-  pub kinds-above : harmonyForm < f → k ≡ kindsWith k f
+  pub kinds-above : patternForm < f → k ≡ kindsWith k f
   unfolding kindsWith
   kinds-above h =
       simp (
@@ -214,6 +223,7 @@ module _ (k : Kinds) (f : ℕ) where
         ne-eqb f harmonyForm (omega arith),
         le-leb anchorForm f (omega arith),
         lt-leb f tonesForm (omega arith),
+        ne-eqb f patternForm (omega arith),
       )
 
 -- the kinds x of one row more than i, of which k are no intervals
@@ -233,7 +243,7 @@ module _ (k : Kinds) (i : ℕ) (few : others k ≤ i) where
       (let s : i + 1 - (k .tones + 1 + k .systems + k .retunings + k .logics + k .harmonies) ≡ i - others k = omega arith in
       record { few = omega arith; same = rw (s, add-one (k .tones)) })
 
-  pub other-turned : (f : ℕ) → systemForm ≤ f → f ≤ harmonyForm → Turned i (kindsWith (kindsAmong k i) f) (kindsWith k f)
+  pub other-turned : (f : ℕ) → systemForm ≤ f → f ≤ patternForm → Turned i (kindsWith (kindsAmong k i) f) (kindsWith k f)
   unfolding kindsWith
   other-turned =
       other-forms (λ (f : ℕ). Turned i (kindsWith (kindsAmong k i) f) (kindsWith k f))
@@ -244,6 +254,7 @@ module _ (k : Kinds) (i : ℕ) (few : others k ≤ i) where
       retuned
       (let s : i + 1 - (k .tones + k .systems + k .retunings + suc (k .logics) + k .harmonies) ≡ i - others k = omega arith in record { few = omega arith; same = rw s })
       (let s : i + 1 - (k .tones + k .systems + k .retunings + k .logics + suc (k .harmonies)) ≡ i - others k = omega arith in record { few = omega arith; same = rw s })
+      retuned
     where
       retuned : Turned i (kindsWith (kindsAmong k i) anchorForm) (kindsWith k anchorForm)
       retuned = let s : i + 1 - (k .tones + k .systems + suc (k .retunings) + k .logics + k .harmonies) ≡ i - others k = omega arith in record { few = omega arith; same = rw s }

@@ -10,7 +10,7 @@ use lib.IntN.{ℤ, pos, negsuc}
 use lib.Signed.{leZ}
 use lib.ListN.{getD, take}
 use Rattle.integers.specs.Parts.{up}
-use Rattle.limits.specs.Limits.{mostAnchor, mostPositions, leastDivisor, mostAmount}
+use Rattle.limits.specs.Limits.{mostAnchor, mostPositions}
 use Rattle.tuning.specs.Desk.{between, isTone, isAnchor, isPeriod}
 use Rattle.tuning.proofs.Lists.{both}
 use Rattle.tuning.specs.declared.Operator.the-variants.{Divide}
@@ -19,7 +19,7 @@ use Rattle.tuning.specs.declared.Amount.the-variants.{Relative}
 use Rattle.tuning.specs.declared.PeriodChange.{PeriodChange}
 use Rattle.tables.specs.declared.Row.{Row}
 use Rattle.tables.specs.declared.Row.the-variants.{Unused}
-use Rattle.tables.specs.Layout.{Tables, numbers, numberAt, readAt, mostOrders, numbersOf, rowOf, rowCount, used, systemForm, tonesForm, logicForm, harmonyForm, harmonyBase, halfSet, allSets, amountOf, amountCode, amountNumber, periodOf, periodCode, periodSum, keptCode, absoluteCode, plusCode, minusCode, timesCode, divideCode, freshCode, onwardCode, mutedCode, soundsCode, muteCode, moveCode, setCode}
+use Rattle.tables.specs.Layout.{Tables, numbers, numberAt, readAt, mostOrders, numbersOf, rowOf, rowCount, used, systemForm, tonesForm, logicForm, harmonyForm, patternForm, harmonyBase, halfSet, allSets, amountOf, amountCode, amountNumber, periodOf, periodCode, periodSum, keptCode, absoluteCode, plusCode, minusCode, timesCode, divideCode, freshCode, onwardCode, mutedCode, soundsCode, muteCode, moveCode, setCode}
 use Rattle.tables.proofs.Forms.{by-form, past-forms, no-row}
 use Rattle.tables.proofs.Sizes.{alike}
 use Rattle.validity.specs.declared.Kinds.{Kinds}
@@ -49,10 +49,6 @@ up-most : (z : ℤ) (m : ℕ) → leb (up z) m ≡ leZ z (pos m)
 up-most (pos n) m = refl
 up-most (negsuc n) m = leb·zero m
 
-up-least : (z : ℤ) (m : ℕ) → leb (suc m) (up z) ≡ leZ (pos (suc m)) z
-up-least (pos n) m = refl
-up-least (negsuc n) m = leb·suc-zero m
-
 -- ---- and
 
 pub swapped : (a b c : Bool) → a && b && c ≡ a && (c && b)
@@ -61,9 +57,9 @@ swapped false b c = refl
 
 -- ---- the forms of rows
 
-no-fast : (f : ℕ) (a b : ℤ) (m n : ℕ) → harmonyForm < f → (rows : List ℤ) (count : ℕ) (e : Ends) → fastRow rows count e (numbers f a b m n) ≡ false
+no-fast : (f : ℕ) (a b : ℤ) (m n : ℕ) → patternForm < f → (rows : List ℤ) (count : ℕ) (e : Ends) → fastRow rows count e (numbers f a b m n) ≡ false
 unfolding fastRow
-no-fast f a b m n h rows count e = past-forms f h _ _ _ _ _ _ _ _ _ _
+no-fast f a b m n h rows count e = past-forms f h _ _ _ _ _ _ _ _ _ _ _
 
 -- ---- amounts, periods and starts
 
@@ -103,9 +99,7 @@ width-same (pos (suc zero)) b = simp (up-below, up-above, up-most, and-true)
 width-same (pos (suc (suc zero))) b = simp (up-below, up-above, up-most, and-true)
 width-same (pos (suc (suc (suc zero)))) b = simp (up-below, up-above, up-most, and-true)
 width-same (pos (suc (suc (suc (suc zero))))) b = simp (up-below, up-above, up-most, and-true)
-width-same (pos (suc (suc (suc (suc (suc zero)))))) b =
-    simp (up-below, up-above, up-most, up-least b 0, and-true)
-    (sym (swapped (leZ (pos 0) b) (leZ b (pos mostAmount)) (leZ (pos leastDivisor) b)))
+width-same (pos (suc (suc (suc (suc (suc zero)))))) b = simp (up-below, up-above, up-most, and-true)
 width-same (pos (suc (suc (suc (suc (suc (suc k))))))) b =
     let code = suc (suc (suc (suc (suc (suc k))))) in
     simp (divide-code code (up b) (omega arith), lt-leb code divideCode (omega arith), and-false)
@@ -124,31 +118,31 @@ module _ (a b : ℤ) (m n : ℕ) where
   abbrev row : ℕ → Row
   row f = rowOf (numbers f a b m n)
 
-  none : {A : Type 0} (g : Row → A) (f : ℕ) → harmonyForm < f → g (row f) ≡ g Unused
+  none : {A : Type 0} (g : Row → A) (f : ℕ) → patternForm < f → g (row f) ≡ g Unused
   none g f h = ap g (no-row f a b m n h)
 
   pub started : (f : ℕ) → isSystemOrRetuning (row f) ≡ leb systemForm f && leb f tonesForm
   unfolding rowOf
-  started = by-form (λ f. isSystemOrRetuning (row f) ≡ leb systemForm f && leb f tonesForm) refl refl refl refl refl refl refl refl refl refl
+  started = by-form (λ f. isSystemOrRetuning (row f) ≡ leb systemForm f && leb f tonesForm) refl refl refl refl refl refl refl refl refl refl refl
       (λ f h. none isSystemOrRetuning f h ∙ simp (lt-leb f tonesForm (omega arith), and-false))
 
   pub called : (f : ℕ) → isCalled (row f) ≡ leb systemForm f && leb f logicForm
   unfolding rowOf
-  called = by-form (λ f. isCalled (row f) ≡ leb systemForm f && leb f logicForm) refl refl refl refl refl refl refl refl refl refl
+  called = by-form (λ f. isCalled (row f) ≡ leb systemForm f && leb f logicForm) refl refl refl refl refl refl refl refl refl refl refl
       (λ f h. none isCalled f h ∙ simp (lt-leb f logicForm (omega arith), and-false))
 
   pub harmonic : (f : ℕ) → isHarmony (row f) ≡ leb harmonyForm f && leb f harmonyForm
   unfolding rowOf
-  harmonic = by-form (λ f. isHarmony (row f) ≡ leb harmonyForm f && leb f harmonyForm) refl refl refl refl refl refl refl refl refl refl
+  harmonic = by-form (λ f. isHarmony (row f) ≡ leb harmonyForm f && leb f harmonyForm) refl refl refl refl refl refl refl refl refl refl refl
       (λ f h. none isHarmony f h ∙ simp (lt-leb f harmonyForm (omega arith), and-false))
 
   kinds-same : (k : Kinds) (f : ℕ) → oneMore k (row f) ≡ kindsWith k f
   unfolding rowOf kindsWith
-  kinds-same k = by-form (λ f. oneMore k (row f) ≡ kindsWith k f) refl refl refl refl refl refl refl refl refl refl (λ f h. none (oneMore k) f h ∙ kinds-above k f h)
+  kinds-same k = by-form (λ f. oneMore k (row f) ≡ kindsWith k f) refl refl refl refl refl refl refl refl refl refl refl (λ f h. none (oneMore k) f h ∙ kinds-above k f h)
 
   ends-same : (e : Ends) (f : ℕ) → endsAfter e (belonging (row f)) ≡ endsWith e f n
   unfolding rowOf endsWith
-  ends-same e = by-form (λ f. endsAfter e (belonging (row f)) ≡ endsWith e f n) refl refl refl refl refl refl refl refl refl refl
+  ends-same e = by-form (λ f. endsAfter e (belonging (row f)) ≡ endsWith e f n) refl refl refl refl refl refl refl refl refl refl refl
       (λ f h.
       none (λ r. endsAfter e (belonging r)) f h
       ∙ simp (ne-eqb f systemForm (omega arith), ne-eqb f tonesForm (omega arith), ne-eqb f logicForm (omega arith)))
@@ -327,10 +321,11 @@ module _ (t : Tables) where
         (bounds-same (same (pos (up a)) a && same (pos (up b)) b) (isTrigger t (up a) && isStart t (up b) && part 0 mostOrders) (eqb (up x) (e .orders)) x y
         (logic-same a b (part 0 mostOrders) (eqb (up x) (e .orders))))
         (harmony-same a b x y)
+        (simp and-true (zero-bounds (isZero a && isZero b) x y))
         unknown
         f
       where
-        unknown : (f : ℕ) → harmonyForm < f → rightAt (pos f) ≡ fastAt (pos f)
+        unknown : (f : ℕ) → patternForm < f → rightAt (pos f) ≡ fastAt (pos f)
         unknown f h =
             ap (λ (r : Row). right r (pos f)) (no-row f a b (up x) (up y) h)
             ∙ rw (no-fast f a b (up x) (up y) h (t .rows) (rowCount t) e)

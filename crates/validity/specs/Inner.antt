@@ -9,12 +9,12 @@ use lib.IntN.{ℤ, pos}
 use lib.Signed.{leZ}
 use lib.ListN.{getD, take, drop}
 use Rattle.integers.specs.Parts.{up}
-use Rattle.limits.specs.Limits.{leastDivisor, mostAmount, firstLetter, lastLetter}
+use Rattle.limits.specs.Limits.{mostAmount, firstLetter, lastLetter}
 use Rattle.tuning.specs.Desk.{between, isAnchor, isPeriod, isTone}
 use Rattle.tuning.specs.State.{places, coded, validState}
 use Rattle.tables.specs.declared.Counts.{Counts}
 use Rattle.tables.specs.declared.Numbers.{Numbers}
-use Rattle.tables.specs.Layout.{Tables, numberAt, rowWidth, mostOrders, fullSize, used, readAt, tonesFrom, intervalForm, toneForm, systemForm, anchorForm, widthForm, periodForm, tonesForm, logicForm, harmonyForm, harmonyBase, halfSet, keptCode, minusCode, divideCode, freshCode, onwardCode, soundsCode, setCode}
+use Rattle.tables.specs.Layout.{Tables, numberAt, rowWidth, mostOrders, fullSize, used, readAt, tonesFrom, intervalForm, toneForm, systemForm, anchorForm, widthForm, periodForm, tonesForm, logicForm, harmonyForm, patternForm, harmonyBase, halfSet, keptCode, minusCode, divideCode, freshCode, onwardCode, soundsCode, setCode}
 use Rattle.tables.specs.Values.{system, Part}
 use Rattle.validity.specs.declared.Kinds.{Kinds}
 use Rattle.validity.specs.declared.Ends.{Ends}
@@ -32,7 +32,7 @@ isLetterCode c = between (pos firstLetter) (pos lastLetter) c
 abbrev pub isAmount : ℕ → ℤ → ℤ → Bool
 isAmount last code n =
     between (pos keptCode) (pos last) code && between (pos 0) (pos mostAmount) n
-    && (not (leZ code (pos keptCode)) || leZ n (pos 0)) && (not (leZ (pos divideCode) code) || leZ (pos leastDivisor) n)
+    && (not (leZ code (pos keptCode)) || leZ n (pos 0))
 
 -- what belongs to a row begins at `start`
 abbrev pub isPartAt : ℕ → ℕ → ℕ → ℕ → ℕ → Bool
@@ -76,7 +76,8 @@ fastRow rows count e r =
     (cond (eqb (r .form) periodForm) (between (pos freshCode) (pos onwardCode) a && isSum b && noPart m n)
     (cond (eqb (r .form) tonesForm) (isZero a && isZero b && isPartAt 1 places (e .changes) m n)
     (cond (eqb (r .form) logicForm) (isTriggerCode rows count a && isStartCode rows count b && isPartAt 0 mostOrders (e .orders) m n)
-    (cond (eqb (r .form) harmonyForm) (areHalves r) false))))))))
+    (cond (eqb (r .form) harmonyForm) (areHalves r)
+    (cond (eqb (r .form) patternForm) (isZero a && isZero b && noPart m n) false)))))))))
 
 -- the form and the bounds are no negative numbers
 abbrev pub hasNaturals : List ℤ → ℕ → Bool
@@ -98,7 +99,7 @@ kindsWith k form =
     (cond (eqb form systemForm) (kinds (k .intervals) (k .tones) (suc (k .systems)) (k .retunings) (k .logics) (k .harmonies))
     (cond (eqb form logicForm) (kinds (k .intervals) (k .tones) (k .systems) (k .retunings) (suc (k .logics)) (k .harmonies))
     (cond (eqb form harmonyForm) (kinds (k .intervals) (k .tones) (k .systems) (k .retunings) (k .logics) (suc (k .harmonies)))
-    (cond (leb anchorForm form && leb form tonesForm) (kinds (k .intervals) (k .tones) (k .systems) (suc (k .retunings)) (k .logics) (k .harmonies)) k)))))
+    (cond ((leb anchorForm form && leb form tonesForm) || eqb form patternForm) (kinds (k .intervals) (k .tones) (k .systems) (suc (k .retunings)) (k .logics) (k .harmonies)) k)))))
 
 -- how many rows are no intervals
 abbrev pub others : Kinds → ℕ

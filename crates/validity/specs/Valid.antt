@@ -6,7 +6,7 @@ use Prim.Native.Nat.{ℕ, zero, suc, _+_, _-_, _*_}
 use lib.Dec.{leb, ltb, eqb}
 use lib.IntN.{ℤ, pos, negℤ}
 use lib.ListN.{getD, take, drop}
-use Rattle.limits.specs.Limits.{leastDivisor, mostAmount, mostPositions, mostIntervals, mostToneNames, mostSystems, mostRetunings, mostLogics, mostHarmonies, firstLetter, lastLetter}
+use Rattle.limits.specs.Limits.{mostAmount, mostPositions, mostIntervals, mostToneNames, mostSystems, mostRetunings, mostCalls, mostLogics, mostHarmonies, firstLetter, lastLetter}
 use Rattle.tuning.specs.Desk.{between, isAnchor, isPeriod, isTone}
 use Rattle.tuning.specs.declared.Operator.the-variants.{Plus, Minus, Times, Divide}
 use Rattle.tuning.specs.declared.Amount.{Amount}
@@ -19,7 +19,7 @@ use Rattle.tuning.specs.declared.Retuning.{Retuning as RetuningForm}
 use Rattle.tuning.specs.declared.Retuning.the-variants.{Anchor, Width, Period, Tones}
 use Rattle.tables.specs.declared.Counts.{Counts}
 use Rattle.tables.specs.declared.Row.{Row}
-use Rattle.tables.specs.declared.Row.the-variants.{Unused, Interval, Tone, System, Retuning, Logic, Harmony}
+use Rattle.tables.specs.declared.Row.the-variants.{Unused, Interval, Tone, System, Retuning, Logic, Harmony, Pattern}
 use Rattle.tables.specs.Layout.{Tables, numberAt, mostRows, rowWidth, mostTones, mostChanges, mostOrders, farthestSum, fullSize, used, rowCount, readAt, numbersOf, rowOf, rowAt, AsHarmony, no-harmony, a-harmony, asHarmony, harmonyBase, allSets, periodSum, soundingOf, pitchOf, toneOf, changeCode, changeNumber, changeOf}
 use Rattle.validity.specs.declared.Kinds.{Kinds}
 use Rattle.validity.specs.declared.Ends.{Ends}
@@ -37,7 +37,8 @@ same y z = between y y z
 abbrev pub isSum : ℤ → Bool
 isSum z = between (negℤ (pos farthestSum)) (pos farthestSum) z
 
--- "n in anchor and width retunings: whole, 0 to 9,999; after `/` from 1"; an anchor knows only `+` and `-`
+-- "n in anchor and width retunings: whole, 0 to 9,999"; an anchor knows only `+` and `-`. Document 01's "after `/` from 1" is asked of what is written: document
+-- 02, 1/13, "only a zero handed to `/` waits for the call", so a row may have it.
 abbrev pub isAnchorAmount : Amount → Bool
 isAnchorAmount Kept = true
 isAnchorAmount (Absolute n) = leb n mostAmount
@@ -52,7 +53,7 @@ isWidthAmount (Absolute n) = leb n mostAmount
 isWidthAmount (Relative Plus n) = leb n mostAmount
 isWidthAmount (Relative Minus n) = leb n mostAmount
 isWidthAmount (Relative Times n) = leb n mostAmount
-isWidthAmount (Relative Divide n) = leb leastDivisor n && leb n mostAmount
+isWidthAmount (Relative Divide n) = leb n mostAmount
 
 -- A to Z, as a frame names a letter: "a letter 41 to 5A"
 abbrev pub isCapital : ℕ → Bool
@@ -60,7 +61,7 @@ isCapital c = leb firstLetter c && leb c lastLetter
 
 -- ---- references: "A called name means the retuning of that name, else the tone system, else (orders only) the logic"
 
--- what a call of a row's declaration does
+-- what a call of a row's declaration does. (Document 02, 1/13: a retuning whose n is a placeholder is called by the rows in which it is filled in.)
 pub data CalledAs : Type 0 where
   nothing-called retunes activates : CalledAs
 
@@ -72,6 +73,7 @@ calledAs (System a P from to) = retunes
 calledAs (Retuning r from to) = retunes
 calledAs (Logic c s from to) = activates
 calledAs (Harmony needed named) = nothing-called
+calledAs Pattern = nothing-called
 
 abbrev pub doesRetune : CalledAs → Bool
 doesRetune nothing-called = false
@@ -131,7 +133,7 @@ retuningRight (Width m) from to = isWidthAmount m && noPart from to
 retuningRight (Period m) from to = isSum (periodSum m) && noPart from to
 retuningRight Tones from to = isPart 1 mostPositions from to
 
--- the numbers of a declaration are in their ranges; those of a harmony: "key numbers from 0 to 59"
+-- the numbers of a declaration are in their ranges; those of a harmony: "key numbers from 0 to 59"; a retuning whose n is a placeholder has none
 unfoldable pub declarationRight : Tables → Row → Bool
 declarationRight t Unused = false
 declarationRight t (Interval d) = isTone (d .0)
@@ -140,6 +142,7 @@ declarationRight t (System a P from to) = isAnchor (pos (a .0)) && isPeriod (P .
 declarationRight t (Retuning r from to) = retuningRight r from to
 declarationRight t (Logic c s from to) = isTrigger t c && isStart t s && isPart 0 mostOrders from to
 declarationRight t (Harmony needed named) = ltb needed allSets && ltb named allSets
+declarationRight t Pattern = true
 
 -- the five numbers of row i are those of the declaration that it stands for: one that the declaration does not use is zero
 unfoldable pub isOwn : List ℤ → ℕ → Bool
@@ -171,15 +174,17 @@ oneMore k (System a P from to) = kinds (k .intervals) (k .tones) (suc (k .system
 oneMore k (Retuning r from to) = kinds (k .intervals) (k .tones) (k .systems) (suc (k .retunings)) (k .logics) (k .harmonies)
 oneMore k (Logic c s from to) = kinds (k .intervals) (k .tones) (k .systems) (k .retunings) (suc (k .logics)) (k .harmonies)
 oneMore k (Harmony needed named) = kinds (k .intervals) (k .tones) (k .systems) (k .retunings) (k .logics) (suc (k .harmonies))
+oneMore k Pattern = kinds (k .intervals) (k .tones) (k .systems) (suc (k .retunings)) (k .logics) (k .harmonies)
 
 unfoldable pub kindsFrom : Kinds → List Row → Kinds
 kindsFrom k [] = k
 kindsFrom k (r ∷ rs) = kindsFrom (oneMore k r) rs
 
--- "intervals, tones: 256 each", "tone systems, logics: 32 each", "retunings: 128"; "at most 64 harmonies"
+-- "intervals, tones: 256 each", "tone systems, logics: 32 each", "retunings: 128", and document 02, 1/13, one more for each call, with its numbers written in;
+-- "at most 64 harmonies"
 abbrev pub kindsRight : Kinds → Bool
 kindsRight k =
-    leb (k .intervals) mostIntervals && leb (k .tones) mostToneNames && leb (k .systems) mostSystems && leb (k .retunings) mostRetunings
+    leb (k .intervals) mostIntervals && leb (k .tones) mostToneNames && leb (k .systems) mostSystems && leb (k .retunings) (mostRetunings + mostCalls)
     && leb (k .logics) mostLogics && leb (k .harmonies) mostHarmonies
 
 -- ---- tones, changes and orders stand one row's after the other's, and no row uses those of another
@@ -200,6 +205,7 @@ belonging (Retuning (Period m) from to) = nothing
 belonging (Retuning Tones from to) = changes from to
 belonging (Logic c s from to) = orders from to
 belonging (Harmony needed named) = nothing
+belonging Pattern = nothing
 
 -- where the tones, changes and orders of some rows end
 abbrev pub ends : ℕ → ℕ → ℕ → Ends

@@ -6,6 +6,7 @@ use limits::LAST_LETTER;
 use limits::LONGEST_PERIOD;
 use limits::MOST_AMOUNT;
 use limits::MOST_ANCHOR;
+use limits::MOST_CALLS;
 use limits::MOST_HARMONIES;
 use limits::MOST_INTERVALS;
 use limits::MOST_LOGICS;
@@ -33,6 +34,7 @@ use tables::ONWARD_CODE;
 use tables::ORDER_WIDTH;
 use tables::ORDERS;
 use tables::ORDERS_AT;
+use tables::PATTERN_FORM;
 use tables::PERIOD_FORM;
 use tables::ROW_WIDTH;
 use tables::ROWS;
@@ -64,12 +66,12 @@ const HIGHEST_KEY: i32 = MOST_ANCHOR as i32;
 
 const HIGHEST_AMOUNT: i32 = MOST_AMOUNT as i32;
 
-// How many declarations of each kind there may be.
+// How many rows of each kind there may be: of retunings one for each declaration, and one for each call.
 const FEW: Kinds = Kinds {
     intervals: MOST_INTERVALS as u32,
     tones: MOST_TONE_NAMES as u32,
     systems: MOST_SYSTEMS as u32,
-    retunings: MOST_RETUNINGS as u32,
+    retunings: MOST_RETUNINGS as u32 + MOST_CALLS as u32,
     logics: MOST_LOGICS as u32,
     harmonies: MOST_HARMONIES as u32,
 };
@@ -86,7 +88,7 @@ const FIRST_HARMONY: i32 = HARMONY_BASE as i32;
 // The greatest number of thirty bits of a set.
 const MOST_HALF: u32 = HALF_SET as u32 - 1;
 
-// How many declarations there are of each kind.
+// How many rows there are of each kind.
 struct Kinds {
     intervals: u32,
     tones: u32,
@@ -117,7 +119,8 @@ impl Kinds {
     {
         match form {
             SYSTEM_FORM => self.systems += 1,
-            ANCHOR_FORM | WIDTH_FORM | PERIOD_FORM | TONES_FORM => self.retunings += 1,
+            ANCHOR_FORM | WIDTH_FORM | PERIOD_FORM | TONES_FORM | PATTERN_FORM => self.retunings +=
+                1,
             LOGIC_FORM => self.logics += 1,
             HARMONY_FORM => self.harmonies += 1,
             _ => {}
@@ -217,8 +220,7 @@ fn is_amount(last: u32, code: i32, n: i32) -> bool
     let known = is_between(KEPT_CODE as i32, last as i32, code);
     let whole = is_between(0, HIGHEST_AMOUNT, n);
     let bare = !(code <= KEPT_CODE as i32) | (n <= 0);
-    let divided = !(DIVIDE_CODE as i32 <= code) | (1 <= n);
-    known & whole & bare & divided
+    known & whole & bare
 }
 
 // From `least` to `most` of them, from `start` on.
@@ -313,6 +315,7 @@ fn is_other_row(rows: &[i32], count: u32, ends: Ends, n: Numbers) -> bool
                 & is_part(0, ORDERS as u32, ends.orders, n.from, n.to)
         }
         HARMONY_FORM => are_halves(n),
+        PATTERN_FORM => is_zero(n.first) & is_zero(n.second) & is_nothing(n.from, n.to),
         _ => false,
     }
 }

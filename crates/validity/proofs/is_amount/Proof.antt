@@ -1,4 +1,4 @@
--- `validity::is_amount` meets its contract. The four tests are those of the amount. Assumes nothing.
+-- `validity::is_amount` meets its contract. The three tests are those of the amount. Assumes nothing.
 use native.Mathlib.Omega.{arith}
 use borrow.Author.Needs.{needs}
 use mir.Facts.{toZ-ofZ}
@@ -23,9 +23,6 @@ is-between-requires-2 c κs = search needs
 cast-bare : tie.Need-cast-bare
 cast-bare c = search needs
 
-cast-divided : tie.Need-cast-divided
-cast-divided c = search needs
-
 returns : tie.Need-returns
 returns c =
     let a = c .before .before .args in
@@ -42,5 +39,4 @@ is-amount-spec =
     is-between-requires
     is-between-requires-2
     cast-bare
-    cast-divided
     returns)

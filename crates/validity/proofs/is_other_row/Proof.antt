@@ -6,7 +6,7 @@ use mir.Facts.{toZ-ofZ}
 use mir.Syntax.{w32}
 use mir.Val.{SFits}
 use Rattle.validity.proofs.Runs.{form-right}
-use Rattle.tables.specs.Layout.{systemForm, anchorForm, widthForm, periodForm, tonesForm, logicForm, harmonyForm}
+use Rattle.tables.specs.Layout.{systemForm, anchorForm, widthForm, periodForm, tonesForm, logicForm, harmonyForm, patternForm}
 use Rattle.validity.specs.Inner.{fastRow}
 use Rattle.validity.proofs.is_other_row.Statement.{statement}
 use Rattle.validity.proofs.is_other_row.Tie as tie
@@ -85,6 +85,15 @@ is-part-requires-3 c κs = search needs
 
 are-halves-requires : tie.Need-are-halves-requires
 are-halves-requires c κs = search needs
+
+is-zero-requires-3 : tie.Need-is-zero-requires-3
+is-zero-requires-3 c κs = search needs
+
+is-zero-requires-4 : tie.Need-is-zero-requires-4
+is-zero-requires-4 c κs = search needs
+
+is-nothing-requires-4 : tie.Need-is-nothing-requires-4
+is-nothing-requires-4 c κs = search needs
 
 returns : tie.Need-returns
 unfolding fastRow
@@ -173,8 +182,21 @@ returns-7 c =
 returns-8 : tie.Need-returns-8
 unfolding fastRow
 returns-8 c =
+    let s = c .before .before .before .before .before .before in
+    let f = first-fits s in
+    let g = second-fits s in
+    rw (
+      simp toZ-ofZ at (c .before .before .before .is-zero3 .ensures),
+      simp toZ-ofZ at (c .before .is-zero4 .ensures),
+      c .is-nothing4 .ensures,
+    )
+    (form-right (s .args .rows .now) (s .args .count) (s .args .ends) (s .args .n) patternForm (c .before .before .before .before .before .match .keys8))
+
+returns-9 : tie.Need-returns-9
+unfolding fastRow
+returns-9 c =
     let p = c .before .pre in
-    simp (ne-eqb _ _ (p .0), ne-eqb _ _ (p .1), ne-eqb _ _ (c .match .rest .1), ne-eqb _ _ (c .match .rest .0 .1), ne-eqb _ _ (c .match .rest .0 .0 .1), ne-eqb _ _ (c .match .rest .0 .0 .0 .1), ne-eqb _ _ (c .match .rest .0 .0 .0 .0 .1), ne-eqb _ _ (c .match .rest .0 .0 .0 .0 .0 .1), ne-eqb _ _ (c .match .rest .0 .0 .0 .0 .0 .0 .1))
+    simp (ne-eqb _ _ (p .0), ne-eqb _ _ (p .1), ne-eqb _ _ (c .match .rest .1), ne-eqb _ _ (c .match .rest .0 .1), ne-eqb _ _ (c .match .rest .0 .0 .1), ne-eqb _ _ (c .match .rest .0 .0 .0 .1), ne-eqb _ _ (c .match .rest .0 .0 .0 .0 .1), ne-eqb _ _ (c .match .rest .0 .0 .0 .0 .0 .1), ne-eqb _ _ (c .match .rest .0 .0 .0 .0 .0 .0 .1), ne-eqb _ _ (c .match .rest .0 .0 .0 .0 .0 .0 .0 .1))
 
 pub is-other-row-spec : {M : Type 1} → statement M
 is-other-row-spec =
@@ -203,6 +225,9 @@ is-other-row-spec =
     cast-is-part-3
     is-part-requires-3
     are-halves-requires
+    is-zero-requires-3
+    is-zero-requires-4
+    is-nothing-requires-4
     returns
     returns-2
     returns-3
@@ -210,4 +235,5 @@ is-other-row-spec =
     returns-5
     returns-6
     returns-7
-    returns-8)
+    returns-8
+    returns-9)

@@ -86,6 +86,12 @@ cast-lay-out-7 c = omega (arith, harmony-fits c .to)
 lay-out-requires-6 : tie.Need-lay-out-requires-6
 lay-out-requires-6 c κs = search needs
 
+enum-told-2 : tie.Need-enum-told-2
+enum-told-2 c = search needs
+
+lay-out-requires-7 : tie.Need-lay-out-requires-7
+lay-out-requires-7 c κs = search needs
+
 returns : tie.Need-returns
 returns c = rw (c .lay-out .ensures, c .before .enum-told .given .1)
 
@@ -121,6 +127,9 @@ returns-7 c =
     let needed = row .given .0 .0 in
     rw (c .lay-out6 .ensures, row .given .1, toZ-pos w32 (needed % halfSet) (omega arith), toZ-pos w32 (needed / halfSet) (harmony-fits (c .before) .second .sfits))
 
+returns-8 : tie.Need-returns-8
+returns-8 c = rw (c .lay-out7 .ensures, c .before .enum-told2 .given .1)
+
 pub numbers-of-spec : {M : Type 1} → statement M
 numbers-of-spec =
     tie.close
@@ -146,10 +155,13 @@ numbers-of-spec =
     cast-lay-out-6
     cast-lay-out-7
     lay-out-requires-6
+    enum-told-2
+    lay-out-requires-7
     returns
     returns-2
     returns-3
     returns-4
     returns-5
     returns-6
-    returns-7)
+    returns-7
+    returns-8)
