@@ -16,8 +16,8 @@ use Rattle.values.specs.Values as values
 use Rattle.values.specs.Values.{Own}
 use Rattle.values.specs.Rows.{rows, termsPerRow, codeOf}
 use Rattle.program.specs.Program.{Declaration, ratio, root, sequence, frequency, from, system}
-use Rattle.program.specs.Program.{anchor, width, freshPeriod, onwardPeriod, tones, logic, harmony}
-use Rattle.program.specs.Program.{Program, termThen, termsOf, periodBy, periodOf, byPart, declarationOf}
+use Rattle.program.specs.Program.{anchor, width, freshPeriod, onwardPeriod, tones, pattern, logic, harmony}
+use Rattle.program.specs.Program.{Program, termThen, termsOf, periodBy, periodOf, byPart, formOf}
 use Rattle.program.specs.Meaning.{ownOf}
 use Rattle.program.specs.Allowed.{Each, FitTerm, Fits}
 use Rattle.valuation.specs.declared.OriginCode.{OriginCode}
@@ -34,6 +34,9 @@ terms-by (gives parts.root a b) ts = refl
 terms-by (gives parts.frequency a b) ts = refl
 terms-by (gives parts.anchorKey a b) ts = refl
 terms-by (gives (parts.amount f) a b) ts = refl
+terms-by (gives (parts.wanting f) a b) ts = refl
+terms-by (gives parts.placeholder a b) ts = refl
+terms-by (gives parts.argument a b) ts = refl
 terms-by (gives parts.letter a b) ts = refl
 terms-by (gives parts.key a b) ts = refl
 terms-by (gives parts.starredKey a b) ts = refl
@@ -96,6 +99,9 @@ module _ (p : Program) (few : length p ≤ rows) where
   valued-by i is (gives (parts.amount WidthDown) a b) e = plain refl
   valued-by i is (gives (parts.amount WidthTimes) a b) e = plain refl
   valued-by i is (gives (parts.amount WidthOver) a b) e = plain refl
+  valued-by i is (gives (parts.wanting f) a b) e = plain refl
+  valued-by i is (gives parts.placeholder a b) e = plain refl
+  valued-by i is (gives parts.argument a b) e = plain refl
   valued-by i is (gives parts.letter a b) e = plain refl
   valued-by i is (gives parts.key a b) e = plain refl
   valued-by i is (gives parts.starredKey a b) e = plain refl
@@ -114,12 +120,12 @@ module _ (p : Program) (few : length p ≤ rows) where
   valued-by i is (says parts.period) e = period-plain is
   valued-by i is (says parts.onward) e = plain refl
 
-  valued : (is : List Item) → Valued (declarationOf is) (contentAt is) (termsOf is)
+  valued : (is : List Item) → Valued (formOf is) (contentAt is) (termsOf is)
   unfolding termsOf
   valued [] = plain refl
   valued (i ∷ is) = valued-by i is (part i) refl
 
-declared-own : (is : List Item) → ownOf (declarationOf is) ≡ ownBy (contentAt is) (termsOf is)
+declared-own : (is : List Item) → ownOf (formOf is) ≡ ownBy (contentAt is) (termsOf is)
 declared-own is = valued [] (omega arith) is .own
 
 -- ---- what fits can be put into the tables
@@ -144,33 +150,34 @@ module _ (p : Program) (n : ℕ) (h : length p ≤ n) where
   own-small (freshPeriod ts) w = (omega arith, tt)
   own-small (onwardPeriod ts) w = (omega arith, tt)
   own-small (tones l) w = (omega arith, tt)
+  own-small pattern w = (omega arith, tt)
   own-small (logic c s os) w = (omega arith, tt)
   own-small (harmony ks) w = (omega arith, tt)
 
-pub gatherable : (p : Program) → length p ≤ rows → (is : List Item) → Fits p (declarationOf is) → Gatherable is
+pub gatherable : (p : Program) → length p ≤ rows → (is : List Item) → Fits p (formOf is) → Gatherable is
 gatherable p h is w =
-    let s = own-small p rows h (declarationOf is) w in
+    let s = own-small p rows h (formOf is) w in
     record { measurable = valued p h is .measurable w; few = s .0; small = s .1 }
 
 -- ---- a row of the tables, from the items
 
 module _ (is : List Item) (d : ℕ) (table : List ℕ) {x : Content} (e : x ≡ contentAt is) where
-  own-here : ownOf (declarationOf is) ≡ ownBy x (termsOf is)
+  own-here : ownOf (formOf is) ≡ ownBy x (termsOf is)
   own-here = declared-own is ∙ ap (λ y. ownBy y (termsOf is)) (sym e)
 
   module _ {b : Bool} (t : b ≡ hasTerms x) where
-    terms-here : ownOf (declarationOf is) .terms ≡ cond b (termsOf is) []
+    terms-here : ownOf (formOf is) .terms ≡ cond b (termsOf is) []
     terms-here = ap (λ (o : Own). o .terms) own-here ∙ ap (λ y. cond y (termsOf is) []) (sym t)
 
     pub terms-writable : b ≡ true → d < rows → length table ≡ rows * termsPerRow → Gatherable is → Writable (termsOf is) (d * termsPerRow) table
     terms-writable k h l g =
         let f = g .few in
-        let q : ownOf (declarationOf is) .terms ≡ termsOf is = terms-here ∙ ap (λ y. cond y (termsOf is) []) k in
+        let q : ownOf (formOf is) .terms ≡ termsOf is = terms-here ∙ ap (λ y. cond y (termsOf is) []) k in
         rw (← q) (record { room = omega arith; small = g .small })
 
     module _ (forms : List ℕ) (origins : List ℤ) {code : OriginCode} (c : code ≡ codedAs (formBy (rangeBy x) (originBy x)) (numberBy (originBy x))) where
       entered : {table′ : List ℕ} → table′ ≡ sets table (d * termsPerRow) (map codeOf (cond b (termsOf is) []))
-          → Entered (declarationOf is) d forms origins table (set forms d (code .form)) (set origins d (code .number)) table′
+          → Entered (formOf is) d forms origins table (set forms d (code .form)) (set origins d (code .number)) table′
       entered f =
           record {
             form = ap (λ (y : OriginCode). set forms d (y .form)) c ∙ ap (λ (o : Own). set forms d (formBy (o .range) (o .origin))) (sym own-here);
@@ -178,9 +185,9 @@ module _ (is : List Item) (d : ℕ) (table : List ℕ) {x : Content} (e : x ≡ 
             terms = f ∙ ap (λ ts. sets table (d * termsPerRow) (map codeOf ts)) (sym terms-here);
           }
 
-      pub entered-none : b ≡ false → Entered (declarationOf is) d forms origins table (set forms d (code .form)) (set origins d (code .number)) table
+      pub entered-none : b ≡ false → Entered (formOf is) d forms origins table (set forms d (code .form)) (set origins d (code .number)) table
       entered-none k = entered (rw k)
 
       pub entered-terms : b ≡ true → {table′ : List ℕ} → table′ ≡ sets table (d * termsPerRow) (map codeOf (termsOf is))
-          → Entered (declarationOf is) d forms origins table (set forms d (code .form)) (set origins d (code .number)) table′
+          → Entered (formOf is) d forms origins table (set forms d (code .form)) (set origins d (code .number)) table′
       entered-terms k f = entered (f ∙ rw k)

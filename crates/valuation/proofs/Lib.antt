@@ -1,4 +1,5 @@
 pub mod Lists
+pub mod Names
 pub mod Contents
 pub mod Terms
 pub mod Ready

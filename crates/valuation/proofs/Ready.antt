@@ -10,7 +10,7 @@ use Rattle.grammar.specs.declared.Item.{Item}
 use Rattle.names.specs.Inner.{beginnings}
 use Rattle.names.proofs.Held.{length-items-in}
 use Rattle.values.specs.Rows.{rows}
-use Rattle.program.specs.Program.{declarationOf, programOf}
+use Rattle.program.specs.Program.{unnamed, declarationOf, programOf}
 use Rattle.program.specs.Meaning.{declarationAt}
 use Rattle.program.specs.Allowed.{Fits}
 use Rattle.program.proofs.Bodies.{program-length, body-within, body-at}
@@ -58,5 +58,5 @@ module _ {is : List Item} {items : List ℕ} {count : ℕ} {starts : List ℕ} {
           let s = between-part items (bodyFrom is d) (bodyTo is d) count (rw ready-count b) ∙ ap (slice (bodyFrom is d) (bodyTo is d)) (r .counted) in
           rw (ready-from, e, ready-to) (ap declarationOf s ∙ sym (body-at is d within))
 
-      pub ready-gatherable : Gatherable body
-      ready-gatherable = gatherable (programOf is) ready-few body (rw ready-body ready-fits)
+      pub ready-gatherable : Gatherable (unnamed body)
+      ready-gatherable = gatherable (programOf is) ready-few (unnamed body) (rw ready-body ready-fits)

@@ -16,7 +16,7 @@ use Rattle.values.specs.Values as values
 use Rattle.values.specs.Rows.{rows, termsPerRow, perDeclaration, codeOf, smallFactors, termsOf, termsIn, baseForm, rangeOf, originOf, ownIn, Based, Closed, Resolved}
 use Rattle.values.proofs.Cases.{same-or-not}
 use Rattle.values.proofs.Codes.{code-of, row-read-again}
-use Rattle.program.specs.Program.{Declaration, ratio, root, sequence, frequency, from, system, anchor, width, freshPeriod, onwardPeriod, tones, logic, harmony, Placed, Program}
+use Rattle.program.specs.Program.{Declaration, ratio, root, sequence, frequency, from, system, anchor, width, freshPeriod, onwardPeriod, tones, pattern, logic, harmony, Placed, Program}
 use Rattle.program.specs.Meaning.{nothing, declarationAt, ownOf, own}
 use Rattle.program.specs.Allowed.{Each, Fits}
 use Rattle.valuation.specs.Inner.{Small, formBy, numberBy, Full, Blank, Entered, Gathered}
@@ -38,6 +38,7 @@ range-back (width m) = refl
 range-back (freshPeriod ts) = refl
 range-back (onwardPeriod ts) = refl
 range-back (tones l) = refl
+range-back pattern = refl
 range-back (logic c s os) = refl
 range-back (harmony ks) = refl
 
@@ -53,6 +54,7 @@ origin-back (width m) = refl
 origin-back (freshPeriod ts) = refl
 origin-back (onwardPeriod ts) = refl
 origin-back (tones l) = refl
+origin-back pattern = refl
 origin-back (logic c s os) = refl
 origin-back (harmony ks) = refl
 
@@ -70,6 +72,7 @@ base-within p (width m) w e = absurd (omega arith)
 base-within p (freshPeriod ts) w e = absurd (omega arith)
 base-within p (onwardPeriod ts) w e = absurd (omega arith)
 base-within p (tones l) w e = absurd (omega arith)
+base-within p pattern w e = absurd (omega arith)
 base-within p (logic c s os) w e = absurd (omega arith)
 base-within p (harmony ks) w e = absurd (omega arith)
 

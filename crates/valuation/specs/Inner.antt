@@ -14,7 +14,7 @@ use Rattle.cents.specs.Measure as measures
 use Rattle.values.specs.Values as values
 use Rattle.values.specs.Values.{Own, Range, tone, period, Origin, interval, pitch, base}
 use Rattle.values.specs.Rows.{rows, termsPerRow, factors, codeOf, intervalForm, periodForm, pitchForm, baseForm, ownIn, Declared}
-use Rattle.program.specs.Program.{Declaration, declarationOf, Program, programOf}
+use Rattle.program.specs.Program.{Declaration, formOf, Program, programOf}
 use Rattle.program.specs.Meaning.{ownOf, own}
 use Rattle.program.specs.Allowed.{Allowed, Each, Decimal, Degree}
 use Rattle.valuation.specs.declared.OriginCode.{OriginCode}
@@ -45,6 +45,9 @@ contentOf (gives parts.root a b) = Root a b
 contentOf (gives parts.frequency a b) = Frequency a
 contentOf (gives parts.anchorKey a b) = Period
 contentOf (gives (parts.amount f) a b) = Nothing
+contentOf (gives (parts.wanting f) a b) = Nothing
+contentOf (gives parts.placeholder a b) = Nothing
+contentOf (gives parts.argument a b) = Nothing
 contentOf (gives parts.letter a b) = Nothing
 contentOf (gives parts.key a b) = Nothing
 contentOf (gives parts.starredKey a b) = Nothing
@@ -169,8 +172,8 @@ pub record Blank (forms : List ℕ) (origins : List ℤ) (table : List ℕ) : Ty
 -- the declaration of these items goes into the tables
 pub record Gatherable (is : List Item) : Type 0 where
   pub measurable : Measurable (contentAt is)
-  pub few : length (ownOf (declarationOf is) .terms) ≤ termsPerRow
-  pub small : Each (Small rows) (ownOf (declarationOf is) .terms)
+  pub few : length (ownOf (formOf is) .terms) ≤ termsPerRow
+  pub small : Each (Small rows) (ownOf (formOf is) .terms)
 
 -- the tables before declaration c went into row d, and after
 module _ (c : Declaration) (d : ℕ) (forms : List ℕ) (origins : List ℤ) (table : List ℕ) where

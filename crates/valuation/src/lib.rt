@@ -25,7 +25,7 @@ ghost use Rattle.names.specs.Inner.{itemsIn};
 ghost use Rattle.values.specs.Values.{tone};
 ghost use Rattle.values.specs.Rows.{rows, codeOf, Resolved};
 ghost use Rattle.values.specs.Inner.{meant};
-ghost use Rattle.program.specs.Program.{termsOf, declarationOf, programOf};
+ghost use Rattle.program.specs.Program.{termsOf, formOf, unnamed, declarationOf, programOf};
 ghost use Rattle.program.specs.Meaning.{own};
 ghost use Rattle.program.specs.Allowed.{Each};
 ghost use Rattle.valuation.specs.Inner.{Ready, contentOf, contentAt, rangeBy, originBy, hasTerms, termIn, codeIn, Measurable, Small, Writable, formBy, numberBy, codedAs, Holdable, Full, Blank, Gatherable, Entered, Gathered};
@@ -170,6 +170,44 @@ fn gather_terms(items: &[u32], from: usize, to: usize, terms: &mut [u32], at: us
     }
 }
 
+// Where the parts of a declaration begin whose items stand from `from` to `to`: after the names of its placeholders.
+pub fn skip_names(items: &[u32], from: usize, to: usize) -> usize
+    ensures { λ r. ⌜ itemsBetween (now (items .entry)) r to ≡ unnamed (itemsBetween (now (items .entry)) from to) ⌝ }
+{
+    for i in from..to {
+        let Item::Placeholder(_) = items::item_at(items, i) else {
+            return i;
+        };
+    }
+    to
+}
+
+// Puts the declaration whose parts stand from `from` to `to` into row `d` of the tables.
+fn gather_parts(
+    items: &[u32],
+    from: usize,
+    to: usize,
+    d: usize,
+    forms: &mut [u8],
+    origins: &mut [i32],
+    terms: &mut [u32],
+)
+    requires { ⌜ d < rows ⌝ }
+    requires { ⌜ Full (now forms) (now origins) (now terms) ⌝ }
+    requires { ⌜ Gatherable (itemsBetween (now items) from to) ⌝ }
+    ensures { λ _. ⌜ Entered (formOf (itemsBetween (now (items .entry)) from to)) d (now (forms .entry)) (now (origins .entry)) (now (terms .entry)) (now (forms .exit)) (now (origins .exit)) (now (terms .exit)) ⌝ }
+{
+    let content = content_at(items, from, to);
+    let code = encode_content(content);
+    let number = code.number;
+    forms[d] = code.form;
+    origins[d] = number;
+    if !has_terms(content) {
+        return;
+    }
+    gather_terms(items, from, to, terms, d * TERMS_PER_ROW);
+}
+
 // Puts the declaration whose items stand from `from` to `to` into row `d` of the tables.
 fn gather_declaration(
     items: &[u32],
@@ -182,18 +220,11 @@ fn gather_declaration(
 )
     requires { ⌜ d < rows ⌝ }
     requires { ⌜ Full (now forms) (now origins) (now terms) ⌝ }
-    requires { ⌜ Gatherable (itemsBetween (now items) from to) ⌝ }
+    requires { ⌜ Gatherable (unnamed (itemsBetween (now items) from to)) ⌝ }
     ensures { λ _. ⌜ Entered (declarationOf (itemsBetween (now (items .entry)) from to)) d (now (forms .entry)) (now (origins .entry)) (now (terms .entry)) (now (forms .exit)) (now (origins .exit)) (now (terms .exit)) ⌝ }
 {
-    let content = content_at(items, from, to);
-    let code = encode_content(content);
-    let number = code.number;
-    forms[d] = code.form;
-    origins[d] = number;
-    if !has_terms(content) {
-        return;
-    }
-    gather_terms(items, from, to, terms, d * TERMS_PER_ROW);
+    let parts = skip_names(items, from, to);
+    gather_parts(items, parts, to, d, forms, origins, terms);
 }
 
 // Where the items of declaration `d` end.

@@ -16,7 +16,7 @@ use Rattle.valuation.proofs.content_of.Statement.{statement}
 use Rattle.valuation.proofs.content_of.Tie as tie
 
 empty : List ℕ
-empty = 0 ∷ 8 ∷ 9 ∷ 10 ∷ 11 ∷ 12 ∷ 13 ∷ 14 ∷ 15 ∷ 16 ∷ 17 ∷ 18 ∷ 19 ∷ 20 ∷ 21 ∷ []
+empty = 0 ∷ 8 ∷ 9 ∷ 10 ∷ 11 ∷ 12 ∷ 13 ∷ 14 ∷ 15 ∷ 16 ∷ 17 ∷ 18 ∷ 19 ∷ 20 ∷ 21 ∷ 22 ∷ 23 ∷ 24 ∷ []
 
 without : (i : Item) → OneOf empty (tagOf variants.the-type i) → Nothing ≡ contentOf (part i)
 unfolding empty
@@ -37,11 +37,14 @@ without item.WidthKept h = refl
 without item.Period h = refl
 without item.Onward h = refl
 without (item.Letter a) h = refl
-without (item.Start a) h = refl
-without (item.Order a) h = refl
+without (item.Start a b) h = refl
+without (item.Order a b) h = refl
 without (item.Trigger a) h = refl
 without (item.Key a) h = refl
 without (item.StarredKey a) h = refl
+without (item.AmountName a b) h = refl
+without (item.Placeholder a) h = refl
+without (item.Argument a) h = refl
 
 enum-known-item : tie.Need-enum-known-item
 enum-known-item c = search needs
