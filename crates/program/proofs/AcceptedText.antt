@@ -23,9 +23,10 @@ use Rattle.grammar.specs.declared.Kind.the-variants.{Interval, Tone, System, Re
 use Rattle.grammar.specs.Moves.{kindNumber}
 use Rattle.grammar.specs.Reading.{readItems}
 use Rattle.names.specs.Names.{meanings}
-use Rattle.names.specs.Inner.{mostDeclarations}
+use Rattle.limits.specs.Limits.{mostRows}
+use Rattle.placeholders.specs.Filling.{settled}
 use Rattle.program.specs.Program.{Placed, Program, programOf, Declaration, ratio, root, sequence, frequency, from, system}
-use Rattle.program.specs.Program.{anchor, width, freshPeriod, onwardPeriod, tones, logic, harmony}
+use Rattle.program.specs.Program.{anchor, width, freshPeriod, onwardPeriod, tones, pattern, logic, harmony}
 use Rattle.program.specs.Meaning.{nothing, declarationAt, own, ownOf, exactly, valueOf, valued}
 use Rattle.program.specs.Allowed.{kindOf, Each, FitTerm, Fits, ifKind, countOf, Allowed}
 use Rattle.program.specs.Text.{Verdict, accepted, byValue, ifZero, readText}
@@ -35,7 +36,8 @@ use Rattle.program.specs.Text.{Verdict, accepted, byValue, ifZero, readT
 pub record Steps (text : List ℕ) (p : Program) : Type 0 where
   pub read : readItems text .number ≡ done
   pub meant : meanings text (readItems text .items) .number ≡ done
-  pub program : programOf (meanings text (readItems text .items) .items) ≡ p
+  pub filled : settled text (meanings text (readItems text .items) .items) .number ≡ done
+  pub program : programOf (settled text (meanings text (readItems text .items) .items) .items) ≡ p
   pub values : valued p ≡ Done
 
 module _ {p : Program} where
@@ -53,8 +55,9 @@ unfolding readText
 steps text p e =
     let r = number-done _ _ _ e in
     let m = number-done _ _ _ (r .1) in
-    let v = values-done _ _ (m .1) in
-    record { read = r .0; meant = m .0; program = v .1; values = subst (λ q. valued q ≡ Done) (v .1) (v .0) }
+    let f = number-done _ _ _ (m .1) in
+    let v = values-done _ _ (f .1) in
+    record { read = r .0; meant = m .0; filled = f .0; program = v .1; values = subst (λ q. valued q ≡ Done) (v .1) (v .0) }
 
 -- ---- each declaration fits
 
@@ -85,6 +88,7 @@ refers-within p (width m) w u = elim u [ ]
 refers-within p (freshPeriod ts) w u = elim u [ ]
 refers-within p (onwardPeriod ts) w u = elim u [ ]
 refers-within p (tones l) w u = elim u [ ]
+refers-within p pattern w u = elim u [ ]
 refers-within p (logic c s os) w u = elim u [ ]
 refers-within p (harmony ks) w u = elim u [ ]
 
@@ -98,9 +102,9 @@ closed {p} w i r u = go (ltb i (length p)) refl
         let v = subst (λ (d : Placed). Uses (references (ownOf (d .is))) r) (List·getD-eq-default p nothing (ltb-false i (length p) e)) u in
         elim v [ ]
 
--- ---- how many declarations there are: each is of one of six kinds
+-- ---- how many declarations there are, with those that are filled in: each is of one of six kinds
 
-counts-add : (p : Program) → countOf Interval p + countOf Tone p + countOf System p + countOf Retuning p + countOf Logic p + countOf Harmony p ≡ length p
+pub counts-add : (p : Program) → countOf Interval p + countOf Tone p + countOf System p + countOf Retuning p + countOf Logic p + countOf Harmony p ≡ length p
 unfolding countOf
 counts-add [] = refl
 counts-add (d ∷ p) = go (d .is) (counts-add p)
@@ -121,10 +125,11 @@ counts-add (d ∷ p) = go (d .is) (counts-add p)
     go (freshPeriod ts) e = omega arith
     go (onwardPeriod ts) e = omega arith
     go (tones l) e = omega arith
+    go pattern e = omega arith
     go (logic c s os) e = omega arith
     go (harmony ks) e = omega arith
 
-pub few-declarations : {p : Program} → Allowed p → length p ≤ mostDeclarations
+pub few-declarations : {p : Program} → Allowed p → length p ≤ mostRows
 few-declarations {p} w = omega (arith, counts-add p, w .few Interval, w .few Tone, w .few System, w .few Retuning, w .few Logic, w .few Harmony)
 
 -- ---- the values

@@ -5,7 +5,7 @@ use mathlib.Core.List.{List, [], _∷_, _++_}
 use Prim.Native.Nat.{ℕ, zero, suc, _+_, _-_, _≤_}
 use native.Mathlib.Nat.{le-of-suc-le-suc}
 use native.Mathlib.Omega.{arith}
-use Rattle.limits.specs.Limits.{mostHarmonyKeys}
+use Rattle.limits.specs.Limits.{mostHarmonyKeys, mostPlaceholders}
 use Rattle.status.specs.Status.{done}
 use Rattle.symbols.specs.declared.Symbol.{Symbol}
 use Rattle.grammar.specs.declared.Kind.{Kind}
@@ -20,7 +20,7 @@ use Rattle.grammar.specs.Syntax.{Terminal}
 use Rattle.grammar.specs.Terminals.{terminalOf, spanOf}
 use Rattle.grammar.specs.Reading.{mostTerms, mostPositions, acted}
 use Rattle.program.specs.Allowed.{Decimal, Degree}
-use Rattle.program.proofs.Formed.{TermItems, no-term, add-term, subtract-term, PlaceItems, no-place, muted-place, tone-place, PositionItems, no-position, muted-position, kept-position, tone-position, StartItems, OrderItems, KeyItems, Some, Body, Formed, declaration}
+use Rattle.program.proofs.Formed.{TermItems, no-term, add-term, subtract-term, PlaceItems, no-place, muted-place, tone-place, PositionItems, no-position, muted-position, kept-position, tone-position, NameItems, no-name, a-name, NumberItems, no-number, a-number, StartItems, OrderItems, KeyItems, Some, Body, Formed, declaration}
 use Rattle.program.proofs.Walk.{Keeps, refuses, goes, gives}
 
 -- ---- where there is room for more
@@ -48,6 +48,16 @@ more-positions {m = suc m} h (kept-position ts ps) = kept-position ts (more-posi
 more-positions {m = zero} h (tone-position ts ps) = absurd (omega arith)
 more-positions {m = suc m} h (tone-position ts ps) = tone-position ts (more-positions (le-of-suc-le-suc h) ps)
 
+pub more-names : {n m : ℕ} {is : List Item} → n ≤ m → NameItems n is → NameItems m is
+more-names h no-name = no-name
+more-names {m = zero} h (a-name ns) = absurd (omega arith)
+more-names {m = suc m} h (a-name ns) = a-name (more-names (le-of-suc-le-suc h) ns)
+
+pub more-numbers : {n m : ℕ} {is : List Item} → n ≤ m → NumberItems n is → NumberItems m is
+more-numbers h no-number = no-number
+more-numbers {m = zero} h (a-number l ns) = absurd (omega arith)
+more-numbers {m = suc m} h (a-number l ns) = a-number l (more-numbers (le-of-suc-le-suc h) ns)
+
 -- ---- stages
 
 -- what comes next of a declaration
@@ -64,8 +74,10 @@ pub data Stage : Type 0 where
   place places : Stage
   -- positions of a tones retuning, if any; of the one under way, a term and signed ones, or signed terms, if any
   positions toneTerm toneTerms : Stage
-  -- a logic's start, its orders, and, after an order's trigger, what it calls and further orders
-  start orders order : Stage
+  -- names of placeholders, if any, and what stands after them
+  names : Stage
+  -- a logic's start, its orders, after an order's trigger what it calls and further orders, and, after what is called, its numbers, if any, and further orders
+  start orders order numbers : Stage
   -- a key of a harmony and further ones, or further ones, if any
   key keys : Stage
 
@@ -83,9 +95,17 @@ pub data SomePlaces (n : ℕ) : List Item → Type 0 where
 pub data ToneTerms (n m : ℕ) : List Item → Type 0 where
   terms-then : {ts is : List Item} → TermItems n ts → PositionItems m is → ToneTerms n m (ts ++ is)
 
--- what an order calls, and further orders
+-- at most n names of placeholders, and what stands after them
+pub data NamesThen (n : ℕ) : List Item → Type 0 where
+  names-then : {ns is : List Item} → NameItems n ns → Body Retuning is → NamesThen n (ns ++ is)
+
+-- at most n numbers that a call gives, and further orders
+pub data NumbersThen (n : ℕ) : List Item → Type 0 where
+  numbers-then : {ns os : List Item} → NumberItems n ns → OrderItems os → NumbersThen n (ns ++ os)
+
+-- what an order calls, with its numbers, and further orders
 pub data Calls : List Item → Type 0 where
-  call-then : {q : ℕ} {is : List Item} → OrderItems is → Calls (item.Order q ∷ is)
+  call-then : {q k : ℕ} {is : List Item} → NumbersThen mostPlaceholders is → Calls (item.Order q k ∷ is)
 
 -- keys of a harmony, at most n, none of them in a set
 pub record SomeKeys (set n : ℕ) (is : List Item) : Type 0 where
@@ -104,6 +124,9 @@ positionsLeft s = mostPositions - s .positions
 
 abbrev pub keysLeft : Progress → ℕ
 keysLeft s = mostHarmonyKeys - s .positions
+
+abbrev pub bracketedLeft : Progress → ℕ
+bracketedLeft s = mostPlaceholders - s .bracketed
 
 -- a term, and those for which there is room after it
 abbrev pub termAndLeft : Progress → ℕ
@@ -124,9 +147,11 @@ Comes places s is = Places (positionsLeft s) is
 Comes positions s is = PositionItems (positionsLeft s) is
 Comes toneTerm s is = ToneTerms (termAndLeft s) (positionsLeft s) is
 Comes toneTerms s is = ToneTerms (termsLeft s) (positionsLeft s) is
+Comes names s is = NamesThen (bracketedLeft s) is
 Comes start s is = Starts is
 Comes orders s is = OrderItems is
 Comes order s is = Calls is
+Comes numbers s is = NumbersThen (bracketedLeft s) is
 Comes key s is = SomeKeys (s .keys) (keysLeft s) is
 Comes keys s is = KeyItems (s .keys) (keysLeft s) is
 

@@ -64,11 +64,14 @@ place-in item.WidthKept = refl
 place-in item.Period = refl
 place-in item.Onward = refl
 place-in (item.Letter c) = refl
-place-in (item.Start p) = refl
-place-in (item.Order p) = refl
+place-in (item.Start q p) = refl
+place-in (item.Order q p) = refl
 place-in (item.Trigger p) = refl
 place-in (item.Key v) = refl
 place-in (item.StarredKey v) = refl
+place-in (item.AmountName f p) = refl
+place-in (item.Placeholder p) = refl
+place-in (item.Argument v) = refl
 
 -- ---- the items up to the first declared name
 

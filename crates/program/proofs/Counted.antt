@@ -8,14 +8,14 @@ use Prim.Native.Nat.{ℕ, suc, _+_, _-_, _≤_, _<_}
 use native.Mathlib.Omega.{arith}
 use borrow.Author.Tests.{eqb-true}
 use lib.Dec.{leb, eqb, leb→le}
-use Rattle.limits.specs.Limits.{mostHarmonyKeys}
+use Rattle.limits.specs.Limits.{mostHarmonyKeys, mostPlaceholders}
 use Rattle.sets.specs.Sets.{has}
 use Rattle.status.specs.Status.{done, symbolNotAllowed}
 use Rattle.grammar.specs.declared.Kind.{Kind}
 use Rattle.grammar.specs.declared.Kind.the-variants.{Interval, Tone, System, Retuning, Logic, Order as AnOrder, Harmony}
 use Rattle.grammar.specs.declared.NumberUse.{NumberUse}
-use Rattle.grammar.specs.declared.NumberUse.the-variants.{RatioFirst, RatioSecond, Degree, Radicand, FirstFactor, Factor, Frequency, AnchorKey, Amount, Key, StarredKey}
-use Rattle.grammar.specs.declared.NameUse.the-variants.{Term, Base, Position, Start, Order, Trigger, CountedTrigger}
+use Rattle.grammar.specs.declared.NumberUse.the-variants.{RatioFirst, RatioSecond, Degree, Radicand, FirstFactor, Factor, Frequency, AnchorKey, Amount, Key, StarredKey, Argument}
+use Rattle.grammar.specs.declared.NameUse.the-variants.{Term, Base, Position, Start, Order, Trigger, CountedTrigger, Placeholder, Amount as NamedAmount}
 use Rattle.grammar.specs.declared.MarkUse.the-variants.{MutedPosition, KeptPosition, KeptAnchor, KeptWidth, Period, Onward, Star}
 use Rattle.grammar.specs.declared.Action.{Action}
 use Rattle.grammar.specs.declared.Action.the-variants.{Pass, Declare, Hold, Held, Number, Sign, Name, Mark, Letter, CountOrder}
@@ -100,6 +100,8 @@ weight (Name Start) = 1
 weight (Name Order) = 2
 weight (Name Trigger) = 1
 weight (Name CountedTrigger) = 0
+weight (Name Placeholder) = 1
+weight (Name (NamedAmount f)) = 1
 weight (Mark u) = 1
 weight Letter = 1
 weight CountOrder = 0
@@ -116,7 +118,7 @@ data Counting (s : Progress) : Action → Outcome → Type 0 where
   ordering : {t : Progress} → soFar AnOrder (s .counts) < limit AnOrder → t .counts ≡ oneMore AnOrder (s .counts) → Counting s CountOrder (Go t)
   triggering : {q : ℕ} {t : Progress} → soFar AnOrder (s .counts) < limit AnOrder → t .counts ≡ oneMore AnOrder (s .counts)
       → Counting s (Name CountedTrigger) (Give t (item.Trigger q))
-  calling : {q : ℕ} {t : Progress} → t .counts ≡ s .counts → Counting s (Name Order) (Give t (item.Order q))
+  calling : {q k : ℕ} {t : Progress} → t .counts ≡ s .counts → Counting s (Name Order) (Give t (item.Order q k))
 
 module _ (s : Progress) (x : Span) where
   -- an action of weight 1
@@ -147,6 +149,7 @@ module _ (s : Progress) (x : Span) where
     used-counting (Amount f) v = giving w refl refl refl
     used-counting Key v = key-counting v (item.Key v) (giving w refl refl refl)
     used-counting StarredKey v = key-counting v (item.StarredKey v) (giving w refl refl refl)
+    used-counting Argument v = unless-full (Counting s a) (λ k p. refusing) mostPlaceholders (s .bracketed) x _ (λ _. giving w refl refl refl)
 
     numbered-counting : (text : List ℕ) (u : NumberUse) (start end : ℕ) → Counting s a (numbered text s u start end x)
     numbered-counting text u start end = if-allowed (Counting s a) (λ k p. refusing) text s u start end x (λ v _. used-counting u v)
@@ -171,6 +174,8 @@ module _ (s : Progress) (x : Span) where
   acted-counting text (Name Start) = giving refl refl refl refl
   acted-counting text (Name Order) = calling refl
   acted-counting text (Name Trigger) = giving refl refl refl refl
+  acted-counting text (Name Placeholder) = full (Name Placeholder) mostPlaceholders (s .bracketed) _ (λ _. giving refl refl refl refl)
+  acted-counting text (Name (NamedAmount f)) = giving refl refl refl refl
   acted-counting text (Name CountedTrigger) = full (Name CountedTrigger) (limit AnOrder) (soFar AnOrder (s .counts)) _ (λ h. triggering h refl)
   acted-counting text (Mark MutedPosition) = positioned-counting (Mark MutedPosition) _ (giving refl refl refl refl)
   acted-counting text (Mark KeptPosition) = positioned-counting (Mark KeptPosition) _ (giving refl refl refl refl)
@@ -218,7 +223,7 @@ names-kept k s (naming {k = m} {p = p} {t = t} h e) =
 names-kept k s (ordering {t = t} h e) = goes t (λ is l. omega (arith, ap (left k) e, less-left k AnOrder (s .counts)))
 names-kept k s (triggering {q = p} {t = t} h e) =
     gives t (item.Trigger p) (λ is l. omega (arith, ap (left k) e, less-left k AnOrder (s .counts)))
-names-kept k s (calling {q = p} {t = t} e) = gives t (item.Order p) (λ is l. omega (arith, ap (left k) e))
+names-kept k s (calling {q = p} {k = n} {t = t} e) = gives t (item.Order p n) (λ is l. omega (arith, ap (left k) e))
 
 pub few-names : (text : List ℕ) → readItems text .number ≡ done → (k : Kind) → namesOf k (declared (readItems text .items)) ≤ limit k
 unfolding declared namesOf
@@ -258,7 +263,7 @@ orders-kept q r s b (naming {k = m} {p = p} {t = t} h e) =
     gives t (item.Declared m p) (λ is l. omega (arith, ap (left AnOrder) e, less-left AnOrder m (s .counts)))
 orders-kept q r s b (ordering {t = t} h e) = goes t (λ is l. omega (arith, ap (left AnOrder) e))
 orders-kept q r s b (triggering {q = p} {t = t} h e) = gives t (item.Trigger p) (λ is l. omega (arith, ap (left AnOrder) e))
-orders-kept q r s b (calling {q = p} {t = t} e) = gives t (item.Order p) (λ is l. omega (arith, ap (left AnOrder) e))
+orders-kept q r s b (calling {q = p} {k = n} {t = t} e) = gives t (item.Order p n) (λ is l. omega (arith, ap (left AnOrder) e))
 
 pub few-orders : (text : List ℕ) → readItems text .number ≡ done → orderItems (readItems text .items) ≤ limit AnOrder
 unfolding orderItems

@@ -2,10 +2,11 @@
 use mathlib.Core.Path.{_≡_}
 use mathlib.Core.Bool.{Bool, true, false}
 use mathlib.Core.List.{List, [], _∷_, _++_}
+use mathlib.Core.Option.{Option, some, none}
 use Prim.Native.Nat.{ℕ, zero, suc, _+_, _≤_, _<_}
 use lib.Dec.{eqb}
 use lib.ListN.{length}
-use Rattle.limits.specs.Limits.{mostHarmonyKey, mostHarmonyKeys}
+use Rattle.limits.specs.Limits.{mostAmount, mostHarmonyKey, mostHarmonyKeys, mostPlaceholders}
 use Rattle.sets.specs.Sets.{has, added}
 use Rattle.grammar.specs.declared.Kind.{Kind}
 use Rattle.grammar.specs.declared.Kind.the-variants.{Interval, Tone, System, Retuning, Logic, Order as AnOrder, Harmony}
@@ -13,12 +14,12 @@ use Rattle.grammar.specs.declared.Form.{Form}
 use Rattle.grammar.specs.declared.Item.{Item}
 use Rattle.grammar.specs.declared.Item.the-variants as item
 use Rattle.grammar.specs.Moves.{kindNumber}
-use Rattle.grammar.specs.Reading.{allowedAmount, limit, mostTerms, mostPositions}
+use Rattle.grammar.specs.Reading.{limit, mostTerms, mostPositions}
 use Rattle.names.specs.Parts as parts
 use Rattle.names.specs.Parts.{Part, declares, gives, uses, says, part}
 use Rattle.names.specs.Names.{Named, declared}
+use Rattle.program.specs.Program.{Declaration, AsLogic, no-logic, a-logic as the-logic, asLogic, Program}
 use Rattle.program.specs.Allowed.{Decimal, Degree, Letter, ifKind}
-use Rattle.program.proofs.Ranges.{InRange}
 
 -- at most n terms
 pub data TermItems : ℕ → List Item → Type 0 where
@@ -39,9 +40,18 @@ pub data PositionItems : ℕ → List Item → Type 0 where
   kept-position : {n : ℕ} {ts is : List Item} → TermItems mostTerms ts → PositionItems n is → PositionItems (suc n) (item.KeptPosition ∷ ts ++ is)
   tone-position : {n q : ℕ} {ts is : List Item} → TermItems mostTerms ts → PositionItems n is → PositionItems (suc n) (item.TonePosition q ∷ ts ++ is)
 
+-- at most n names of placeholders, and at most n numbers that a call gives
+pub data NameItems : ℕ → List Item → Type 0 where
+  no-name : {n : ℕ} → NameItems n []
+  a-name : {n q : ℕ} {is : List Item} → NameItems n is → NameItems (suc n) (item.Placeholder q ∷ is)
+
+pub data NumberItems : ℕ → List Item → Type 0 where
+  no-number : {n : ℕ} → NumberItems n []
+  a-number : {n v : ℕ} {is : List Item} → v ≤ mostAmount → NumberItems n is → NumberItems (suc n) (item.Argument v ∷ is)
+
 pub data StartItems : List Item → Type 0 where
   no-start : StartItems []
-  a-start : {q : ℕ} → StartItems (item.Start q ∷ [])
+  a-start : {q k : ℕ} {ns : List Item} → NumberItems mostPlaceholders ns → StartItems (item.Start q k ∷ ns)
 
 pub data TriggerItem : Item → Type 0 where
   by-letter : {c : ℕ} → Letter c → TriggerItem (item.Letter c)
@@ -49,7 +59,8 @@ pub data TriggerItem : Item → Type 0 where
 
 pub data OrderItems : List Item → Type 0 where
   no-order : OrderItems []
-  an-order : {i : Item} {q : ℕ} {is : List Item} → TriggerItem i → OrderItems is → OrderItems (i ∷ item.Order q ∷ is)
+  an-order : {i : Item} {q k : ℕ} {ns is : List Item} → TriggerItem i → NumberItems mostPlaceholders ns → OrderItems is
+      → OrderItems (i ∷ item.Order q k ∷ ns ++ is)
 
 -- at most n keys of a harmony, none of them in a set, nor named twice
 pub data KeyItems : ℕ → ℕ → List Item → Type 0 where
@@ -72,10 +83,12 @@ pub data Body : Kind → List Item → Type 0 where
   a-system : {a : ℕ} {ps is : List Item} → a ≤ 127 → PlaceItems mostPositions ps → Some ps → TermItems mostTerms is → Body System (item.AnchorKey a ∷ ps ++ is)
   anchor-kept : Body Retuning (item.AnchorKept ∷ [])
   width-kept : Body Retuning (item.WidthKept ∷ [])
-  an-amount : {f : Form} {n : ℕ} → InRange (allowedAmount f) n → Body Retuning (item.Amount f n ∷ [])
+  an-amount : {f : Form} {n : ℕ} → n ≤ mostAmount → Body Retuning (item.Amount f n ∷ [])
+  an-amount-name : {f : Form} {q : ℕ} → Body Retuning (item.AmountName f q ∷ [])
   fresh-period : {is : List Item} → TermItems mostTerms is → Body Retuning (item.Period ∷ is)
   onward-period : {is : List Item} → TermItems mostTerms is → Body Retuning (item.Period ∷ item.Onward ∷ is)
   a-tones : {is : List Item} → PositionItems mostPositions is → Some is → Body Retuning is
+  after-names : {ns is : List Item} → NameItems mostPlaceholders ns → Body Retuning is → Body Retuning (ns ++ is)
   a-logic : {i : Item} {ss os : List Item} → TriggerItem i → StartItems ss → OrderItems os → Body Logic (i ∷ ss ++ os)
   a-harmony : {is : List Item} → KeyItems 0 mostHarmonyKeys is → Some is → Body Harmony is
 
@@ -104,6 +117,39 @@ orderPart (uses parts.trigger f q) n = n
 unfoldable pub orderItems : List Item → ℕ
 orderItems [] = 0
 orderItems (i ∷ is) = orderPart (part i) (orderItems is)
+
+-- and how many starts
+abbrev pub startPart : Part → ℕ → ℕ
+startPart (declares k p) n = n
+startPart (gives g a b) n = n
+startPart (says m) n = n
+startPart (uses parts.add f q) n = n
+startPart (uses parts.subtract f q) n = n
+startPart (uses parts.base f q) n = n
+startPart (uses parts.position f q) n = n
+startPart (uses parts.start f q) n = suc n
+startPart (uses parts.order f q) n = n
+startPart (uses parts.trigger f q) n = n
+
+unfoldable pub startItems : List Item → ℕ
+startItems [] = 0
+startItems (i ∷ is) = startPart (part i) (startItems is)
+
+-- of a declaration, and of all of them
+abbrev pub someStart : Option ℕ → ℕ
+someStart none = 0
+someStart (some k) = 1
+
+abbrev pub startsBy : AsLogic → ℕ
+startsBy no-logic = 0
+startsBy (the-logic c s os) = someStart s
+
+abbrev pub startCount : Declaration → ℕ
+startCount d = startsBy (asLogic d)
+
+unfoldable pub startsIn : Program → ℕ
+startsIn [] = 0
+startsIn (d ∷ ds) = startCount (d .is) + startsIn ds
 
 pub record FormedText (is : List Item) : Type 0 where
   pub formed : Formed is

@@ -10,10 +10,15 @@ pub mod ListSteps
 pub mod LogicSteps
 pub mod KeySteps
 pub mod Shape
+pub mod ItemCount
 pub mod ReadFormed
 pub mod Numbered
 pub mod Declares
 pub mod Bodies
 pub mod AcceptedText
+pub mod AlikeItems
+pub mod Standing
+pub mod FilledText
 pub mod AllowedText
+pub mod WrittenIn
 pub mod Texts

@@ -15,7 +15,7 @@ use Rattle.program.proofs.Formed.{TermItems, no-term, add-term, subtrac
 use Rattle.program.proofs.Formed.{PositionItems, no-position, muted-position, kept-position, tone-position}
 use Rattle.program.proofs.Formed.{StartItems, no-start, a-start, TriggerItem, by-letter, by-harmony, OrderItems, no-order, an-order, KeyItems, no-key, plain-key, starred-key, Some, something}
 use Rattle.program.proofs.Formed.{Body, a-ratio, a-root, a-sequence, a-frequency, from-tone, a-system, a-tones, a-logic, a-harmony}
-use Rattle.program.proofs.Formed.{anchor-kept, width-kept, an-amount, fresh-period, onward-period}
+use Rattle.program.proofs.Formed.{anchor-kept, width-kept, an-amount, an-amount-name, after-names, fresh-period, onward-period, NameItems, no-name, a-name, NumberItems, no-number, a-number}
 use Rattle.program.proofs.Formed.{Formed, no-more, declaration, orderPart, orderItems, FormedText}
 
 -- an item with the number of its name's declaration; `number` gives it from the use and the place of the name
@@ -47,14 +47,22 @@ module _ (number : Use → ℕ → ℕ) where
   positions-kept (kept-position t w) = rw map-append (kept-position (terms-kept t) (positions-kept w))
   positions-kept (tone-position t w) = rw map-append (tone-position (terms-kept t) (positions-kept w))
 
+  names-kept : {n : ℕ} {is : List Item} → NameItems n is → NameItems n (withNumbers number is)
+  names-kept no-name = no-name
+  names-kept (a-name w) = a-name (names-kept w)
+
+  numbers-kept : {n : ℕ} {is : List Item} → NumberItems n is → NumberItems n (withNumbers number is)
+  numbers-kept no-number = no-number
+  numbers-kept (a-number h w) = a-number h (numbers-kept w)
+
   start-kept : {is : List Item} → StartItems is → StartItems (withNumbers number is)
   start-kept no-start = no-start
-  start-kept a-start = a-start
+  start-kept (a-start ns) = a-start (numbers-kept ns)
 
   orders-kept : {is : List Item} → OrderItems is → OrderItems (withNumbers number is)
   orders-kept no-order = no-order
-  orders-kept (an-order (by-letter c) w) = an-order (by-letter c) (orders-kept w)
-  orders-kept (an-order by-harmony w) = an-order by-harmony (orders-kept w)
+  orders-kept (an-order (by-letter c) ns w) = rw map-append (an-order (by-letter c) (numbers-kept ns) (orders-kept w))
+  orders-kept (an-order by-harmony ns w) = rw map-append (an-order by-harmony (numbers-kept ns) (orders-kept w))
 
   keys-kept : {set n : ℕ} {is : List Item} → KeyItems set n is → KeyItems set n (withNumbers number is)
   keys-kept no-key = no-key
@@ -74,6 +82,8 @@ module _ (number : Use → ℕ → ℕ) where
   body-kept anchor-kept = anchor-kept
   body-kept width-kept = width-kept
   body-kept (an-amount h) = an-amount h
+  body-kept an-amount-name = an-amount-name
+  body-kept (after-names ns b) = rw map-append (after-names (names-kept ns) (body-kept b))
   body-kept (fresh-period w) = fresh-period (terms-kept w)
   body-kept (onward-period w) = onward-period (terms-kept w)
   body-kept (a-tones w s) = a-tones (positions-kept w) (some-kept s)

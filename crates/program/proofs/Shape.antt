@@ -11,18 +11,18 @@ use Rattle.grammar.specs.declared.Kind.the-variants.{Interval, Tone, System, Re
 use Rattle.grammar.specs.declared.Action.the-variants.{Pass}
 use Rattle.grammar.specs.declared.Item.{Item}
 use Rattle.grammar.specs.declared.Progress.{Progress}
-use Rattle.grammar.specs.Syntax.{Terminal, blocks, Rule, rules, Node, Begin, Finish, IntervalName, IntervalEquals, IntervalBody, IntervalKind, SecondPart, RootRadicand, IntervalSign, IntervalTerm, IntervalTermName, IntervalNext, ToneName, ToneEquals, ToneBody, ToneSign, ToneTerm, ToneTermName, ToneNext, SystemName, SystemEquals, SystemAnchor, SystemOpen, SystemFirst, SystemPosition, SystemComma, SystemPeriod, SystemSign, SystemTerm, SystemTermName, RetuningName, RetuningEquals, RetuningBody, RetuningInside, RetuningNext, AnchorOperator, AnchorPlusNumber, AnchorMinusNumber, AnchorOpen, AnchorClose, WidthBody, WidthOperator, WidthPlusNumber, WidthMinusNumber, WidthTimesNumber, WidthOverNumber, WidthClose, WidthBracket, PeriodBody, PeriodSign, PeriodTerm, PeriodTermName, TonesSign, TonesTerm, TonesTermName, TonesPosition, LogicName, LogicTrigger, LogicLetter, LogicEquals, LogicStart, LogicOpen, OrderTrigger, OrderLetter, OrderArrow, OrderName, LogicNext, HarmonyName, HarmonyEquals, HarmonyOpen, HarmonyKey, HarmonyStarred, HarmonyComma, HarmonyNext}
+use Rattle.grammar.specs.Syntax.{Terminal, blocks, nextOrder, Rule, rules, Node, Begin, Finish, IntervalName, IntervalEquals, IntervalBody, IntervalKind, SecondPart, RootRadicand, IntervalSign, IntervalTerm, IntervalTermName, IntervalNext, ToneName, ToneEquals, ToneBody, ToneSign, ToneTerm, ToneTermName, ToneNext, SystemName, SystemEquals, SystemAnchor, SystemOpen, SystemFirst, SystemPosition, SystemComma, SystemPeriod, SystemSign, SystemTerm, SystemTermName, RetuningName, RetuningEquals, RetuningBody, RetuningInside, RetuningNext, AnchorOperator, AnchorPlusNumber, AnchorMinusNumber, AnchorOpen, AnchorClose, WidthBody, WidthOperator, WidthPlusNumber, WidthMinusNumber, WidthTimesNumber, WidthOverNumber, WidthClose, WidthBracket, PeriodBody, PeriodSign, PeriodTerm, PeriodTermName, TonesSign, TonesTerm, TonesTermName, TonesPosition, LogicName, LogicTrigger, LogicLetter, LogicEquals, LogicStart, LogicOpen, OrderTrigger, OrderLetter, OrderArrow, OrderName, LogicNext, HarmonyName, HarmonyEquals, HarmonyOpen, HarmonyKey, HarmonyStarred, HarmonyComma, HarmonyNext, PlaceholderName, PlaceholderComma, PlaceholderEquals, StartNumber, StartComma, StartOpen, OrderCalled, OrderNumber, OrderComma}
 use Rattle.grammar.specs.Terminals.{sameTerminal, picked, terminalOf}
 use Rattle.grammar.specs.Reading.{readItems, begun}
 use Rattle.grammar.proofs.Diagrams.{same-terminal}
 use Rattle.program.specs.Allowed.{Each}
 use Rattle.program.proofs.Formed.{no-term, no-order, Formed, no-more}
 use Rattle.program.proofs.Walk.{Kept, walk}
-use Rattle.program.proofs.Ahead.{Stage, nothing, body, secondPart, radicand, sequence, term, terms, period, place, places, positions, toneTerm, toneTerms, start, orders, order, key, keys, no-item, Ahead, ahead, Fit, Move, keeps-ahead}
-use Rattle.program.proofs.Steps.{passing, Ending, declaring, ending, frequency, amount, anchor-same, width-same, hold, ratio-first, ratio-second, root-degree, root-radicand, fit-one}
+use Rattle.program.proofs.Ahead.{Stage, nothing, body, secondPart, radicand, sequence, term, terms, period, place, places, positions, toneTerm, toneTerms, names, start, orders, order, numbers, key, keys, no-item, Ahead, ahead, Fit, Move, keeps-ahead}
+use Rattle.program.proofs.Steps.{passing, Ending, declaring, ending, frequency, amount, amount-name, names-begin, names-on, names-end, placeholder, anchor-same, width-same, hold, ratio-first, ratio-second, root-degree, root-radicand, fit-one}
 use Rattle.program.proofs.TermSteps.{opens-term, opens-sequence, opens-interval, opens-period, sign, factor, named-term, factor-first, base, period-mark, period-onward, tone-sign, tone-factor, tone-term}
 use Rattle.program.proofs.ListSteps.{next-place, no-more-places, system-anchor, muted-place-mark, tone-place-name, place-end, further, first, next-position, no-more-positions, muted-mark, kept-mark, tone-name, position-end, positions-may-end}
-use Rattle.program.proofs.LogicSteps.{logic-letter, logic-harmony, order-letter, order-harmony, start-name, start-none, order-key, order-name}
+use Rattle.program.proofs.LogicSteps.{Orders, as-orders, after-numbers, no-more-numbers, numbers-end, numbers-on, call-number, logic-letter, logic-harmony, order-letter, order-harmony, start-name, start-none, order-key, order-name}
 use Rattle.program.proofs.KeySteps.{harmony-opens, star, plain, starred, next-key, no-more-keys}
 
 -- the stage at each node
@@ -88,7 +88,7 @@ stage LogicTrigger = body Logic
 stage LogicLetter = body Logic
 stage LogicEquals = start
 stage LogicStart = start
-stage LogicOpen = orders
+stage LogicOpen = numbers
 stage OrderTrigger = orders
 stage OrderLetter = orders
 stage OrderArrow = order
@@ -101,6 +101,15 @@ stage HarmonyKey = key
 stage HarmonyStarred = key
 stage HarmonyComma = keys
 stage HarmonyNext = nothing
+stage PlaceholderName = names
+stage PlaceholderComma = names
+stage PlaceholderEquals = body Retuning
+stage StartNumber = numbers
+stage StartComma = numbers
+stage StartOpen = orders
+stage OrderCalled = numbers
+stage OrderNumber = numbers
+stage OrderComma = numbers
 
 -- a rule leads from stage P to the stage of its next node
 abbrev Good : Stage → Rule → Type 0
@@ -122,6 +131,12 @@ new-block end = (ending end, (ending end, (ending end, (ending end, (ending end,
 
 same-body : {t : Terminal} {k : Kind} → Move t (body k) Pass (body k)
 same-body = passing (λ s is c. c)
+
+next-order : {P : Stage} → Orders P → Ending P → Each (Good P) nextOrder
+next-order w end = (order-key w, (order-harmony w, (order-harmony w, (ending end, tt))))
+
+no-call-numbers : Ending numbers
+no-call-numbers s = no-more-numbers no-order
 
 -- ---- the rules of each node
 
@@ -158,22 +173,22 @@ good SystemSign = (sign, (sign, (declaring no-more-terms, (declaring no-more-ter
 good SystemTerm = (factor opens-term, (named-term opens-term, (named-term opens-term, tt)))
 good SystemTermName = (named-term opens-term, (named-term opens-term, tt))
 good RetuningName = (declaring whole, (declaring whole, tt))
-good RetuningEquals = (same-body, tt)
-good RetuningBody = (amount, (same-body, (same-body, tt)))
+good RetuningEquals = (names-begin, (same-body, tt))
+good RetuningBody = (amount, (amount-name, (amount-name, (same-body, (same-body, tt)))))
 good RetuningInside =
     (same-body, (period-mark, (muted-mark first next-position, (kept-mark first, (tone-name first, (tone-name first, tt))))))
 good RetuningNext = (declaring whole, (declaring whole, new-block whole))
 good AnchorOperator = (anchor-same, (same-body, (same-body, tt)))
-good AnchorPlusNumber = (amount, tt)
-good AnchorMinusNumber = (amount, tt)
+good AnchorPlusNumber = (amount, (amount-name, (amount-name, tt)))
+good AnchorMinusNumber = (amount, (amount-name, (amount-name, tt)))
 good AnchorOpen = (ending whole, tt)
 good AnchorClose = (ending whole, tt)
-good WidthBody = (amount, (same-body, tt))
+good WidthBody = (amount, (amount-name, (amount-name, (same-body, tt))))
 good WidthOperator = (width-same, (same-body, (same-body, (same-body, (same-body, tt)))))
-good WidthPlusNumber = (amount, tt)
-good WidthMinusNumber = (amount, tt)
-good WidthTimesNumber = (amount, tt)
-good WidthOverNumber = (amount, tt)
+good WidthPlusNumber = (amount, (amount-name, (amount-name, tt)))
+good WidthMinusNumber = (amount, (amount-name, (amount-name, tt)))
+good WidthTimesNumber = (amount, (amount-name, (amount-name, tt)))
+good WidthOverNumber = (amount, (amount-name, (amount-name, tt)))
 good WidthClose = (ending whole, tt)
 good WidthBracket = (ending whole, tt)
 good PeriodBody = (period-onward, (factor opens-period, (named-term opens-period, (named-term opens-period, tt))))
@@ -190,8 +205,8 @@ good LogicTrigger = (same-body, (logic-harmony, (logic-harmony, tt)))
 good LogicLetter = (logic-letter, tt)
 good LogicEquals = (passing (λ s is c. c), tt)
 good LogicStart = (start-none, (start-name, (start-name, tt)))
-good LogicOpen = (passing (λ s is c. c), tt)
-good OrderTrigger = (order-key, (order-harmony, (order-harmony, (ending no-more-orders, tt))))
+good LogicOpen = (numbers-on, (numbers-end, tt))
+good OrderTrigger = next-order as-orders no-more-orders
 good OrderLetter = (order-letter, tt)
 good OrderArrow = (passing (λ s is c. c), tt)
 good OrderName = (order-name, (order-name, tt))
@@ -203,6 +218,15 @@ good HarmonyKey = (star, (plain, tt))
 good HarmonyStarred = (starred, tt)
 good HarmonyComma = (next-key, (ending no-more-keys, tt))
 good HarmonyNext = (declaring whole, (declaring whole, new-block whole))
+good PlaceholderName = (placeholder, (placeholder, tt))
+good PlaceholderComma = (names-on, (names-end, tt))
+good PlaceholderEquals = (same-body, tt)
+good StartNumber = (call-number, tt)
+good StartComma = (numbers-on, (numbers-end, tt))
+good StartOpen = (passing (λ s is c. c), tt)
+good OrderCalled = (numbers-on, next-order after-numbers no-call-numbers)
+good OrderNumber = (call-number, tt)
+good OrderComma = (numbers-on, (numbers-end, tt))
 
 -- the rule that is picked for a terminal is one of the list, and is for that terminal
 picked-good : (F : Rule → Type 0) (rs : List Rule) (t : Terminal) {r : Rule} → Each F rs → picked rs t ≡ some r → F r × (t ≡ r .symbol)

@@ -3,13 +3,16 @@
 use mathlib.Core.List.{List, [], _∷_}
 use Prim.Native.Nat.{ℕ, suc, _+_, _-_, _≤_, _<_}
 use native.Mathlib.Omega.{arith}
+use Rattle.limits.specs.Limits.{mostAmount, mostPlaceholders}
 use Rattle.grammar.specs.declared.Kind.{Kind}
 use Rattle.grammar.specs.declared.Kind.the-variants.{Interval, Tone, Retuning}
 use Rattle.grammar.specs.declared.NumberUse.{NumberUse}
 use Rattle.grammar.specs.declared.NumberUse.the-variants.{RatioFirst, RatioSecond, Degree, Radicand, Frequency, Amount}
+use Rattle.grammar.specs.declared.NameUse.the-variants.{Placeholder, Amount as NamedAmount}
 use Rattle.grammar.specs.declared.MarkUse.the-variants.{KeptAnchor, KeptWidth}
-use Rattle.grammar.specs.declared.Action.the-variants.{Pass, Declare, Hold, Held, Number, Mark}
+use Rattle.grammar.specs.declared.Action.the-variants.{Pass, Declare, Hold, Held, Number, Name, Mark}
 use Rattle.grammar.specs.declared.Form.{Form}
+use Rattle.grammar.specs.declared.Form.the-variants.{AnchorTo, AnchorUp, AnchorDown, WidthTo, WidthUp, WidthDown, WidthTimes, WidthOver}
 use Rattle.grammar.specs.declared.Item.{Item}
 use Rattle.grammar.specs.declared.Item.the-variants as item
 use Rattle.grammar.specs.declared.Progress.{Progress}
@@ -18,11 +21,11 @@ use Rattle.grammar.specs.declared.Outcome.{Outcome}
 use Rattle.grammar.specs.declared.Outcome.the-variants.{Give}
 use Rattle.grammar.specs.Syntax.{Terminal}
 use Rattle.grammar.specs.Terminals.{spanOf}
-use Rattle.grammar.specs.Reading.{allowed, limit, soFar, unlessFull, used, acted}
-use Rattle.program.proofs.Formed.{Body, a-ratio, a-root, a-frequency, anchor-kept, width-kept, an-amount}
+use Rattle.grammar.specs.Reading.{allowedAmount, allowed, limit, soFar, unlessFull, used, acted}
+use Rattle.program.proofs.Formed.{Body, a-ratio, a-root, a-frequency, anchor-kept, width-kept, an-amount, an-amount-name, after-names, no-name, a-name}
 use Rattle.program.proofs.Ranges.{InRange, degree}
 use Rattle.program.proofs.Outcomes.{unless-full, if-allowed}
-use Rattle.program.proofs.Ahead.{Stage, nothing, body, secondPart, radicand, Nothing, no-item, Comes, FitFactor, Leads, refused, passed, given, declares, Move}
+use Rattle.program.proofs.Ahead.{Stage, nothing, body, secondPart, radicand, names, more-names, NamesThen, names-then, Nothing, no-item, Comes, FitFactor, Leads, refused, passed, given, declares, Move}
 
 -- ---- any stage
 
@@ -85,12 +88,49 @@ module _ {t : Terminal} {P Q : Stage} {u : NumberUse}
 only : {k : Kind} {s : Progress} {i : Item} → Body k (i ∷ []) → Leads (body k) nothing s (Give s i)
 only {k} {i = i} h = given (λ f. f) (λ is f c. nothing-more (λ (l : List Item). Body k (i ∷ l)) h c)
 
+-- n is at most 9,999, after `/` too
+at-most : (f : Form) {n : ℕ} → InRange (allowedAmount f) n → n ≤ mostAmount
+at-most AnchorTo h = h .1
+at-most AnchorUp h = h .1
+at-most AnchorDown h = h .1
+at-most WidthTo h = h .1
+at-most WidthUp h = h .1
+at-most WidthDown h = h .1
+at-most WidthTimes h = h .1
+at-most WidthOver h = h .1
+
+named-body : {n : ℕ} {is : List Item} → n ≤ mostPlaceholders → NamesThen n is → Body Retuning is
+named-body l (names-then ns b) = after-names (more-names l ns) b
+
+one-name : {n m q : ℕ} {is : List Item} → suc n ≤ m → NamesThen n is → NamesThen m (item.Placeholder q ∷ is)
+one-name l (names-then ns b) = names-then (more-names l (a-name ns)) b
+
 module _ {t : Terminal} where
   pub frequency : Move t (body Tone) (Number Frequency) nothing
   frequency = numbering (λ s x v h. only (a-frequency h))
 
   pub amount : {f : Form} → Move t (body Retuning) (Number (Amount f)) nothing
-  amount = numbering (λ s x v h. only (an-amount h))
+  amount {f} = numbering (λ s x v h. only (an-amount (at-most f h)))
+
+  pub amount-name : {f : Form} → Move t (body Retuning) (Name (NamedAmount f)) nothing
+  unfolding acted
+  amount-name = record { leads = λ text s y e. only an-amount-name }
+
+  -- placeholders' names, and what stands after them
+  pub names-begin : Move t (body Retuning) Pass names
+  names-begin = passing (λ s is c. named-body (omega arith) c)
+
+  pub names-on : Move t names Pass names
+  names-on = passing (λ s is c. c)
+
+  pub names-end : Move t names Pass (body Retuning)
+  names-end = passing (λ s is c. names-then no-name c)
+
+  pub placeholder : Move t names (Name Placeholder) names
+  unfolding acted
+  placeholder = record {
+    leads = λ text s y e. full s mostPlaceholders (s .bracketed) (spanOf y) _ (λ l. given (λ f. f) (λ is f c. one-name (one-fewer l) c));
+  }
 
   pub anchor-same : Move t (body Retuning) (Mark KeptAnchor) nothing
   unfolding acted

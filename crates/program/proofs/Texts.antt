@@ -11,6 +11,9 @@ use Rattle.grammar.specs.Syntax as grammarSyntax
 use Rattle.grammar.specs.Terminals as grammarTerminals
 use Rattle.grammar.specs.Reading as grammarReading
 use Rattle.names.specs.Names as namesNames
+use Rattle.placeholders.specs.Placeholders as placeholders
+use Rattle.placeholders.specs.Filling as filled
+use Rattle.names.specs.Inner as namesInner
 use Rattle.values.specs.Values as valuesValues
 use Rattle.cents.specs.Log as centsLog
 use Rattle.cents.specs.Measure as centsMeasure
@@ -29,6 +32,10 @@ use Rattle.program.specs.TenOctaves as tenOctaves
 use Rattle.program.specs.BothLimits as bothLimits
 use Rattle.program.specs.FarEnds as farEnds
 use Rattle.program.specs.UnplayableChord as unplayableChord
+use Rattle.program.specs.NewAnchor as newAnchor
+use Rattle.program.specs.Divisors as divisors
+use Rattle.program.specs.Unneeded as unneeded
+use Rattle.program.specs.OneName as oneName
 use Rattle.program.specs.Verdicts.{verdicts}
 
 -- all at once, since what is computed is opened at each
@@ -37,7 +44,9 @@ read : (Text.readText text ≡ Text.accepted program) × (Text.readText twoLogic
     × (Text.readText pentatonic.text ≡ Text.accepted pentatonic.program) × (Text.readText nineOctaves.text ≡ Text.accepted nineOctaves.program)
     × (Text.readText mutedChord.text ≡ Text.accepted mutedChord.program) × (Text.readText tenOctaves.text ≡ Text.accepted tenOctaves.program)
     × (Text.readText bothLimits.text ≡ Text.accepted bothLimits.program) × (Text.readText farEnds.text ≡ Text.accepted farEnds.program)
-    × (Text.readText unplayableChord.text ≡ Text.accepted unplayableChord.program) × Hold verdicts
+    × (Text.readText unplayableChord.text ≡ Text.accepted unplayableChord.program) × (Text.readText newAnchor.text ≡ Text.accepted newAnchor.program)
+    × (Text.readText divisors.text ≡ Text.accepted divisors.program) × (Text.readText unneeded.text ≡ Text.accepted unneeded.program)
+    × (Text.readText oneName.text ≡ Text.accepted oneName.program) × Hold verdicts
 unfolding Hold verdicts leadingZeros sets.has sets.added grammarSyntax.rules symbolsBytes.isBlank symbolsBytes.isDigit symbolsBytes.isHexDigit symbolsBytes.isCapital
     symbolsBytes.isLetter symbolsBytes.inName symbolsBytes.small symbolsBytes.takeWhile symbolsBytes.same symbolsSymbols.marks symbolsSymbols.markIn
     symbolsSymbols.markOr symbolsSymbols.markAt symbolsSymbols.runEnd symbolsSymbols.digitsTo symbolsSymbols.pointed symbolsSymbols.decimalAt
@@ -47,12 +56,13 @@ unfolding Hold verdicts leadingZeros sets.has sets.added grammarSyntax.rules sym
     numeralsNumbers.beforePoint numeralsNumbers.places numeralsNumbers.ranged numeralsNumbers.tenThousandths numeralsNumbers.pointOf
     numeralsNumbers.decimalOf numeralsNumbers.wholeOf grammarTerminals.picked grammarTerminals.terminalOf grammarReading.acted grammarReading.stepped
     grammarReading.readFrom grammarReading.readItems namesNames.declared namesNames.bearerFrom namesNames.twiceFrom namesNames.calledIn namesNames.resolved
-    namesNames.meanings valuesValues.plus valuesValues.total valuesValues.shifted valuesValues.ranged valuesValues.valueAt valuesValues.anyOf valuesValues.leads
+    namesNames.meanings namesInner.beginningsFrom placeholders.named placeholders.handed placeholders.isAmong
+    placeholders.faultFrom filled.wantedBy filled.given filled.filledFrom filled.filledIn filled.settled valuesValues.plus valuesValues.total valuesValues.shifted valuesValues.ranged valuesValues.valueAt valuesValues.anyOf valuesValues.leads
     valuesValues.isBeyond valuesValues.firstFrom valuesValues.verdict valuesValues.outcome valuesValues.number valuesValues.numbers valuesValues.handed
     valuesValues.valueTable centsLog.highestBit centsLog.bits centsLog.L centsMeasure.nearest centsMeasure.measure Program.termsOf Program.systemPositionsOf
     Program.grouped Program.ordered Program.startOf Program.keysOf Program.partsOf Program.programOf Meaning.valueOf Meaning.valued Text.readText
 read =
-    (refl, refl, refl, refl, refl, refl, refl, refl, refl, refl, refl, (refl, (refl, (refl, (refl, (refl, (refl, (refl, (refl, (refl, (refl, (refl, (refl, (refl, (refl, (refl, (refl, (refl, (refl, (refl, (refl, (refl, (refl, tt)))))))))))))))))))))))
+    (refl, refl, refl, refl, refl, refl, refl, refl, refl, refl, refl, refl, refl, refl, refl, (refl, (refl, (refl, (refl, (refl, (refl, (refl, (refl, (refl, (refl, (refl, (refl, (refl, (refl, (refl, (refl, (refl, (refl, (refl, (refl, (refl, (refl, (refl, (refl, (refl, (refl, (refl, (refl, (refl, (refl, (refl, (refl, (refl, (refl, (refl, (refl, (refl, tt))))))))))))))))))))))))))))))))))))))
 
 pub case-s-read : Text.readText text ≡ Text.accepted program
 case-s-read = read .0
@@ -87,6 +97,18 @@ far-ends-read = read .9
 pub unplayable-chord-read : Text.readText unplayableChord.text ≡ Text.accepted unplayableChord.program
 unplayable-chord-read = read .10
 
+pub new-anchor-read : Text.readText newAnchor.text ≡ Text.accepted newAnchor.program
+new-anchor-read = read .11
+
+pub divisors-read : Text.readText divisors.text ≡ Text.accepted divisors.program
+divisors-read = read .12
+
+pub unneeded-read : Text.readText unneeded.text ≡ Text.accepted unneeded.program
+unneeded-read = read .13
+
+pub one-name-read : Text.readText oneName.text ≡ Text.accepted oneName.program
+one-name-read = read .14
+
 -- each of the texts of specs/Verdicts.antt is read as it says
 pub verdicts-hold : Hold verdicts
-verdicts-hold = read .11
+verdicts-hold = read .15

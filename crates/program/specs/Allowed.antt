@@ -16,11 +16,11 @@ use Rattle.names.specs.Names.{meant}
 use Rattle.tuning.specs.declared.Operator.the-variants.{Plus, Minus, Times, Divide}
 use Rattle.tuning.specs.declared.Amount.{Amount}
 use Rattle.tuning.specs.declared.Amount.the-variants.{Kept, Absolute, Relative}
-use Rattle.limits.specs.Limits.{mostPart, mostDegree, mostFactor, mostAnchor, leastDivisor, mostAmount, firstLetter, lastLetter, mostHarmonyKey, mostHarmonyKeys}
+use Rattle.limits.specs.Limits.{mostPart, mostDegree, mostFactor, mostAnchor, mostAmount, mostCalls, firstLetter, lastLetter, mostHarmonyKey, mostHarmonyKeys}
 use Rattle.sets.specs.Sets.{has, added}
 use Rattle.harmonies.specs.Harmonies.{HarmonyKey}
 use Rattle.values.specs.Values.{Term}
-use Rattle.program.specs.Program.{Declaration, ratio, root, sequence, frequency, from, system, anchor, width, freshPeriod, onwardPeriod, tones, logic, harmony, Placed, Program, Position, mute, kept, named, Trigger, byLetter, byHarmony, Order}
+use Rattle.program.specs.Program.{Declaration, ratio, root, sequence, frequency, from, system, anchor, width, freshPeriod, onwardPeriod, tones, pattern, logic, harmony, Placed, Program, Position, mute, kept, named, Trigger, byLetter, byHarmony, Order}
 use Rattle.program.specs.Meaning.{declarationAt}
 
 -- ---- numbers
@@ -40,7 +40,8 @@ pub record Letter (c : ℕ) : Type 0 where
   pub least : firstLetter ≤ c
   pub most : c ≤ lastLetter
 
--- "n in anchor and width retunings: whole, 0 to 9,999; after `/` from 1"; an anchor knows only `+` and `-`
+-- "n in anchor and width retunings: whole, 0 to 9,999"; an anchor knows only `+` and `-`. A written n is from 1 after `/`; of a number that a call gives
+-- document 02, 1/13, says "only a zero handed to `/` waits for the call"
 abbrev pub AnchorAmount : Amount → Type 0
 AnchorAmount Kept = Unit
 AnchorAmount (Absolute n) = n ≤ mostAmount
@@ -55,7 +56,7 @@ WidthAmount (Absolute n) = n ≤ mostAmount
 WidthAmount (Relative Plus n) = n ≤ mostAmount
 WidthAmount (Relative Minus n) = n ≤ mostAmount
 WidthAmount (Relative Times n) = n ≤ mostAmount
-WidthAmount (Relative Divide n) = (leastDivisor ≤ n) × (n ≤ mostAmount)
+WidthAmount (Relative Divide n) = n ≤ mostAmount
 
 -- ---- references
 
@@ -71,6 +72,7 @@ kindOf (width m) = Retuning
 kindOf (freshPeriod ts) = Retuning
 kindOf (onwardPeriod ts) = Retuning
 kindOf (tones l) = Retuning
+kindOf pattern = Retuning
 kindOf (logic c s os) = Logic
 kindOf (harmony ks) = Harmony
 
@@ -82,6 +84,28 @@ isKind k (m ∷ ms) = eqb (kindNumber k) (kindNumber m) || isKind k ms
 pub record Refers (p : Program) (ks : List Kind) (n : ℕ) : Type 0 where
   pub within : n < length p
   pub kind : isKind (kindOf (declarationAt p n)) ks ≡ true
+
+-- a retuning whose n is a placeholder
+abbrev pub isPattern : Declaration → Bool
+isPattern (ratio p q) = false
+isPattern (root a b) = false
+isPattern (sequence ts) = false
+isPattern (frequency f) = false
+isPattern (from k ts) = false
+isPattern (system a l ts) = false
+isPattern (anchor m) = false
+isPattern (width m) = false
+isPattern (freshPeriod ts) = false
+isPattern (onwardPeriod ts) = false
+isPattern (tones l) = false
+isPattern pattern = true
+isPattern (logic c s os) = false
+isPattern (harmony ks) = false
+
+-- document 02, 1/13: what is called has its numbers written in
+pub record Callable (p : Program) (ks : List Kind) (n : ℕ) : Type 0 where
+  pub refers : Refers p ks n
+  pub whole : isPattern (declarationAt p n) ≡ false
 
 -- something holds of each in a list
 abbrev pub Each : {A : Type 0} → (A → Type 0) → List A → Type 0
@@ -116,7 +140,7 @@ FitPosition p (named k ts) = Refers p (meant parts.position) k × Terms p ts
 
 abbrev pub FitStart : Program → Option ℕ → Type 0
 FitStart p none = Unit
-FitStart p (some k) = Refers p (meant parts.start) k
+FitStart p (some k) = Callable p (meant parts.start) k
 
 abbrev pub FitTrigger : Program → Trigger → Type 0
 FitTrigger p (byLetter c) = Letter c
@@ -124,7 +148,7 @@ FitTrigger p (byHarmony k) = Refers p (meant parts.trigger) k
 
 pub record FitOrder (p : Program) (o : Order) : Type 0 where
   pub trigger : FitTrigger p (o .trigger)
-  pub calls : Refers p (meant parts.order) (o .calls)
+  pub calls : Callable p (meant parts.order) (o .calls)
 
 -- "anchor in a tone system: whole, 0 to 127"
 pub record FitSystem (p : Program) (a : ℕ) (l : List (Option ℕ)) (ts : List Term) : Type 0 where
@@ -166,6 +190,7 @@ Fits p (width m) = WidthAmount m
 Fits p (freshPeriod ts) = Terms p ts
 Fits p (onwardPeriod ts) = Terms p ts
 Fits p (tones l) = FitTones p l
+Fits p pattern = Unit
 Fits p (logic c s os) = FitLogic p c s os
 Fits p (harmony ks) = FitHarmony ks
 
@@ -193,6 +218,7 @@ orderCount (width m) = 0
 orderCount (freshPeriod ts) = 0
 orderCount (onwardPeriod ts) = 0
 orderCount (tones l) = 0
+orderCount pattern = 0
 orderCount (logic c s os) = length os
 orderCount (harmony ks) = 0
 
@@ -200,8 +226,41 @@ unfoldable pub ordersIn : Program → ℕ
 ordersIn [] = 0
 ordersIn (d ∷ ds) = orderCount (d .is) + ordersIn ds
 
--- "intervals, tones: 256 each; tone systems, logics: 32 each; retunings: 128; orders in all logics together: 512"; "at most 64 harmonies"
+-- how many tones retunings there are
+abbrev pub tonesCount : Declaration → ℕ
+tonesCount (ratio p q) = 0
+tonesCount (root a b) = 0
+tonesCount (sequence ts) = 0
+tonesCount (frequency f) = 0
+tonesCount (from k ts) = 0
+tonesCount (system a l ts) = 0
+tonesCount (anchor m) = 0
+tonesCount (width m) = 0
+tonesCount (freshPeriod ts) = 0
+tonesCount (onwardPeriod ts) = 0
+tonesCount (tones l) = 1
+tonesCount pattern = 0
+tonesCount (logic c s os) = 0
+tonesCount (harmony ks) = 0
+
+unfoldable pub tonesIn : Program → ℕ
+tonesIn [] = 0
+tonesIn (d ∷ ds) = tonesCount (d .is) + tonesIn ds
+
+-- "intervals, tones: 256 each; tone systems, logics: 32 each; retunings: 128; orders in all logics together: 512"; "at most 64 harmonies"; and one retuning
+-- that is filled in for each call
+abbrev pub mostOf : Kind → ℕ
+mostOf Interval = limit Interval
+mostOf Tone = limit Tone
+mostOf System = limit System
+mostOf Retuning = limit Retuning + mostCalls
+mostOf Logic = limit Logic
+mostOf AnOrder = limit AnOrder
+mostOf Harmony = limit Harmony
+
 pub record Allowed (p : Program) : Type 0 where
-  pub few : (k : Kind) → countOf k p ≤ limit k
+  pub few : (k : Kind) → countOf k p ≤ mostOf k
   pub orders : ordersIn p ≤ limit AnOrder
+  -- those that are filled in are anchors and widths
+  pub listed : tonesIn p ≤ limit Retuning
   pub each : Each (λ (d : Placed). Fits p (d .is)) p

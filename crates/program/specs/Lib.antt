@@ -14,4 +14,9 @@ pub mod TenOctaves
 pub mod BothLimits
 pub mod FarEnds
 pub mod UnplayableChord
+pub mod NewAnchor
+pub mod Divisors
+pub mod Unneeded
+pub mod OneName
+pub mod WrittenIn
 pub mod Verdicts

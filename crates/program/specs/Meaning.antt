@@ -8,7 +8,7 @@ use Rattle.values.specs.Values.{Term, Range, tone, period, Origin, interval, pi
 use Rattle.values.specs.declared.Value.{Value}
 use Rattle.values.specs.declared.Value.the-variants.{Beyond, Exactly}
 use Rattle.values.specs.declared.Outcome.{Outcome}
-use Rattle.program.specs.Program.{Declaration, ratio, root, sequence, frequency, from, system, anchor, width, freshPeriod, onwardPeriod, tones, logic, harmony, Placed, Program}
+use Rattle.program.specs.Program.{Declaration, ratio, root, sequence, frequency, from, system, anchor, width, freshPeriod, onwardPeriod, tones, pattern, logic, harmony, Placed, Program}
 
 -- a value that is what it starts from
 abbrev pub measured : Origin → Own
@@ -31,6 +31,7 @@ ownOf (width m) = sequenced tone []
 ownOf (freshPeriod ts) = sequenced tone []
 ownOf (onwardPeriod ts) = sequenced tone []
 ownOf (tones l) = sequenced tone []
+ownOf pattern = sequenced tone []
 ownOf (logic c s os) = sequenced tone []
 ownOf (harmony ks) = sequenced tone []
 

@@ -1,5 +1,5 @@
--- What a text declares: document 01, "Declarations"; document 02, 5/13. The declarations are numbered 0, 1, 2, .. in the order of the text, and refer to each other by
--- these numbers. Ratio parts, radicands and frequencies are in ten-thousandths.
+-- What a text declares: document 01, "Declarations"; document 02, 5/13 and 1/13. The declarations are numbered 0, 1, 2, .. in the order of the text, and refer to each other by
+-- these numbers; behind them stand the retunings that its calls fill in. Ratio parts, radicands and frequencies are in ten-thousandths.
 use mathlib.Core.Bool.{Bool, true, false}
 use mathlib.Core.List.{List, [], _∷_}
 use mathlib.Core.Option.{Option, some, none}
@@ -11,6 +11,8 @@ use Rattle.grammar.specs.declared.Form.the-variants.{AnchorTo, AnchorUp, Anchor
 use Rattle.grammar.specs.declared.Item.{Item}
 use Rattle.names.specs.Parts as parts
 use Rattle.names.specs.Parts.{Part, declares, gives, uses, says, part, Given, Use, Said}
+use Rattle.placeholders.specs.declared.Seen.the-variants.{Other, Declares, Names, Wants, Calls, Hands}
+use Rattle.placeholders.specs.Placeholders.{seen}
 use Rattle.tuning.specs.declared.Operator.the-variants.{Plus, Minus, Times, Divide}
 use Rattle.tuning.specs.declared.Amount.{Amount}
 use Rattle.tuning.specs.declared.Amount.the-variants.{Kept, Absolute, Relative}
@@ -48,6 +50,8 @@ pub data Declaration : Type 0 where
   anchor width : Amount → Declaration
   freshPeriod onwardPeriod : List Term → Declaration
   tones : List Position → Declaration
+  -- one whose n is a placeholder: a call of it calls a declaration of its own, the same retuning with the call's number written in
+  pattern : Declaration
   -- a logic: its trigger, its start, its orders
   logic : Trigger → Option ℕ → List Order → Declaration
   -- a harmony: "by key numbers from 0 to 59 in braces; a star before a number means that it may be held or not"
@@ -70,6 +74,7 @@ asLogic (width m) = no-logic
 asLogic (freshPeriod ts) = no-logic
 asLogic (onwardPeriod ts) = no-logic
 asLogic (tones l) = no-logic
+asLogic pattern = no-logic
 asLogic (logic c s os) = a-logic c s os
 asLogic (harmony ks) = no-logic
 
@@ -90,6 +95,7 @@ asHarmony (width m) = no-harmony
 asHarmony (freshPeriod ts) = no-harmony
 asHarmony (onwardPeriod ts) = no-harmony
 asHarmony (tones l) = no-harmony
+asHarmony pattern = no-harmony
 asHarmony (logic c s os) = no-harmony
 asHarmony (harmony ks) = a-harmony ks
 
@@ -126,6 +132,9 @@ givenListed parts.root a = unlisted
 givenListed parts.frequency a = unlisted
 givenListed parts.anchorKey a = unlisted
 givenListed (parts.amount f) a = unlisted
+givenListed (parts.wanting f) a = unlisted
+givenListed parts.placeholder a = unlisted
+givenListed parts.argument a = unlisted
 
 abbrev pub useListed : Use → ℕ → ℕ → AsListed
 useListed parts.add f n = a-term (record { minus = false; factor = f; of = n })
@@ -292,15 +301,19 @@ asking WidthDown n = width (Relative Minus n)
 asking WidthTimes n = width (Relative Times n)
 asking WidthOver n = width (Relative Divide n)
 
+-- (no text gives a number to be handed without a call: any value serves there)
 abbrev pub byNumber : Given → ℕ → ℕ → List Item → Declaration
 byNumber parts.ratio a b rest = ratio a b
 byNumber parts.root a b rest = root a b
 byNumber parts.frequency a b rest = frequency a
 byNumber parts.anchorKey a b rest = system a (systemPositionsOf rest) (termsOf rest)
 byNumber (parts.amount f) a b rest = asking f b
+byNumber (parts.wanting f) a b rest = pattern
 byNumber parts.letter a b rest = logic (byLetter a) (startOf rest) (ordersOf rest)
 byNumber parts.key a b rest = harmony (keyOf a false ∷ keysOf rest)
 byNumber parts.starredKey a b rest = harmony (keyOf a true ∷ keysOf rest)
+byNumber parts.placeholder a b rest = sequence []
+byNumber parts.argument a b rest = sequence []
 
 -- (no text gives a start or an order without its logic, nor a declaration without a part: any value serves there)
 abbrev pub byUse : Use → ℕ → ℕ → Item → List Item → Declaration
@@ -342,9 +355,18 @@ byPart (gives g a b) i rest = byNumber g a b rest
 byPart (uses u f n) i rest = byUse u f n i rest
 byPart (says m) i rest = byMark m i rest
 
+abbrev pub formOf : List Item → Declaration
+formOf [] = sequence []
+formOf (i ∷ rest) = byPart (part i) i rest
+
+-- document 02, 1/13: "one to four placeholder names in brackets after any retuning's name"; the parts after them
+abbrev pub unnamed : List Item → List Item
+unnamed [] = []
+unnamed (i ∷ is) =
+    elim (seen i) [ Names p ↦ unnamed is | Other ↦ i ∷ is | Declares ↦ i ∷ is | Wants f p ↦ i ∷ is | Calls q k ↦ i ∷ is | Hands n ↦ i ∷ is ]
+
 abbrev pub declarationOf : List Item → Declaration
-declarationOf [] = sequence []
-declarationOf (i ∷ rest) = byPart (part i) i rest
+declarationOf is = formOf (unnamed is)
 
 -- ---- the whole text
 

@@ -1,6 +1,6 @@
--- Texts and what they are read as: one for each of the numbers 2 to 8 at least.
+-- Texts and what they are read as: one for each of the numbers 2 to 9 and 24 at least.
 use mathlib.Core.List.{List, [], _∷_}
-use Rattle.status.specs.Status.{noSymbol, symbolNotAllowed, numberOutOfRange, nameTwice, nameNotDeclared, dependsOnItself, valueOutOfRange}
+use Rattle.status.specs.Status.{noSymbol, symbolNotAllowed, numberOutOfRange, nameTwice, nameNotDeclared, dependsOnItself, valueOutOfRange, itemTooMany, placeholderWrong}
 use Rattle.cents.specs.Sums.{Row, _gives_}
 use Rattle.ascii.specs.Ascii.{bytes}
 use Rattle.program.specs.Text.{refused, accepted, readText}
@@ -47,4 +47,27 @@ verdicts =
     ∷ (readText (bytes "LOGIC L C = x [ D -> y ]") gives refused nameNotDeclared 8)
     -- 3 where a trigger lacks
     ∷ (readText (bytes "HARMONY C = { 0 } LOGIC L = [ ]") gives refused symbolNotAllowed 26)
+    -- document 02, 1/13: 24 at a placeholder that is not named; without brackets none is
+    ∷ (readText (bytes "RETUNING a = x [ ]") gives refused placeholderWrong 13)
+    -- 24 at the second, where one is named twice; capitals count as small
+    ∷ (readText (bytes "RETUNING a ( y, Y ) = y [ ]") gives refused placeholderWrong 16)
+    -- 24 at the called name, where the count is wrong: too few, too many, and for a logic, which takes none
+    ∷ (readText (bytes "RETUNING a ( x ) = x [ ] LOGIC L KEY L = a [ ]") gives refused placeholderWrong 41)
+    ∷ (readText (bytes "RETUNING a = 60 [ ] LOGIC L KEY L = a ( 1 ) [ ]") gives refused placeholderWrong 36)
+    ∷ (readText (bytes "LOGIC L KEY L = [ KEY A -> L ( 1 ) ]") gives refused placeholderWrong 27)
+    -- 3 for bad brackets
+    ∷ (readText (bytes "RETUNING a ( ) = 60 [ ]") gives refused symbolNotAllowed 13)
+    ∷ (readText (bytes "RETUNING a ( x, ) = x [ ]") gives refused symbolNotAllowed 16)
+    ∷ (readText (bytes "TONE a ( x ) = 440") gives refused symbolNotAllowed 7)
+    ∷ (readText (bytes "RETUNING a ( x ) = x + 1 [ ]") gives refused symbolNotAllowed 21)
+    -- 9 at a fifth name or number
+    ∷ (readText (bytes "RETUNING a ( v, w, x, y, z ) = x [ ]") gives refused itemTooMany 25)
+    ∷ (readText (bytes "RETUNING a ( x ) = x [ ] LOGIC L KEY L = a ( 1, 2, 3, 4, 5 ) [ ]") gives refused itemTooMany 57)
+    -- 4 where a fifth number is out of range, too: at one place the lower number
+    ∷ (readText (bytes "RETUNING a ( x ) = x [ ] LOGIC L KEY L = a ( 1, 2, 3, 4, 10000 ) [ ]") gives refused numberOutOfRange 57)
+    -- "24, after 6 and before 7"
+    ∷ (readText (bytes "RETUNING a = x [ ] INTERVAL b = c") gives refused nameNotDeclared 32)
+    ∷ (readText (bytes "RETUNING a = x [ ] INTERVAL b = b") gives refused placeholderWrong 13)
+    -- a written 0 after `/` is out of range, as before
+    ∷ (readText (bytes "RETUNING a ( x ) = [ << @ / 0 >> ]") gives refused numberOutOfRange 28)
     ∷ []
