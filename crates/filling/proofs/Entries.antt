@@ -12,7 +12,7 @@ use Rattle.integers.proofs.Signed.{signed}
 use Rattle.tables.specs.declared.Counts.{Counts}
 use Rattle.tables.specs.Layout.{numbersOf}
 use Rattle.tables.specs.Values.{NumbersFit}
-use Rattle.program.specs.Program.{Declaration, ratio, root, sequence, frequency, from, system, anchor, width, freshPeriod, onwardPeriod, tones, logic, harmony}
+use Rattle.program.specs.Program.{Declaration, ratio, root, sequence, frequency, from, system, anchor, width, freshPeriod, onwardPeriod, tones, pattern, logic, harmony}
 use Rattle.filling.specs.Tables.{sumOf, toneOf, changeOf}
 use Rattle.filling.specs.Inner.{valueIn, Writable, rowAfter, oneMore, countedBy, counted}
 use Rattle.tuning.proofs.Caps.{capped-small}
@@ -42,6 +42,7 @@ module _ (values : List ℤ) (used : Counts) where
   numbers-fit (tones l) w =
       let n = rw length-map at (w .changes) in
       record { second = small (omega arith); from = omega arith; to = omega arith }
+  numbers-fit pattern w = record { second = small (omega arith); from = omega arith; to = omega arith }
   numbers-fit (logic c s os) w = record { second = small (omega (arith, w .parts .start)); from = omega (arith, w .orders); to = omega (arith, w .orders) }
   numbers-fit (harmony ks) w =
       let y = harmonyOf ks in
@@ -67,4 +68,5 @@ module _ (value : ℕ → ℤ) (used : Counts) where
   counted-same (onwardPeriod ts) = same
   counted-same (tones l) = rw (length-map l (changeOf value), add-zero (used .tones), add-zero (used .orders))
   counted-same (logic c s os) = rw (add-zero (used .tones), add-zero (used .changes))
+  counted-same pattern = same
   counted-same (harmony ks) = same

@@ -12,7 +12,7 @@ use Rattle.tuning.specs.declared.Amount.the-variants.{Kept, Absolute, Relative}
 use Rattle.values.specs.Values.{Term}
 use Rattle.values.specs.Rows.{rows}
 use Rattle.tables.specs.Layout.{amountNumber}
-use Rattle.program.specs.Program.{Declaration, ratio, root, sequence, frequency, from, system, anchor, width, freshPeriod, onwardPeriod, tones, logic, harmony, Placed, Program, Position, mute, kept, named, Trigger, byLetter, byHarmony, Order}
+use Rattle.program.specs.Program.{Declaration, ratio, root, sequence, frequency, from, system, anchor, width, freshPeriod, onwardPeriod, tones, pattern, logic, harmony, Placed, Program, Position, mute, kept, named, Trigger, byLetter, byHarmony, Order}
 use Rattle.program.specs.Allowed as allowed
 use Rattle.program.specs.Allowed.{Each, Terms, AnchorAmount, WidthAmount, FitStart, FitTrigger, Fits}
 use Rattle.filling.specs.Tables.{sumOf, toneOf, tonesOf, changeOf, changesOf, ordersOf, triggerCode, rowOf, filledFrom}
@@ -58,14 +58,14 @@ module _ {p : Program} {values : List ℤ} (v : Valued p values) (few : length p
 
   start-fit : (s : Option ℕ) → FitStart p s → calledBy s < 2 ^ 31
   start-fit none h = omega arith
-  start-fit (some k) h = omega (arith, h .within)
+  start-fit (some k) h = omega (arith, h .refers .within)
 
   trigger-fit : (x : Trigger) → FitTrigger p x → triggerCode x < 2 ^ 16
   trigger-fit (byLetter c) h = omega (arith, h .most)
   trigger-fit (byHarmony k) h = omega (arith, h .within)
 
   order-fit : (o : Order) → allowed.FitOrder p o → FitOrder o
-  order-fit o h = record { trigger = trigger-fit (o .trigger) (h .trigger); calls = omega (arith, h .calls .within) }
+  order-fit o h = record { trigger = trigger-fit (o .trigger) (h .trigger); calls = omega (arith, h .calls .refers .within) }
 
   pub fit-parts : (d : Declaration) → Fits p d → FitParts values d
   fit-parts (ratio a b) h = tt
@@ -79,6 +79,7 @@ module _ {p : Program} {values : List ℤ} (v : Valued p values) (few : length p
   fit-parts (freshPeriod ts) h = terms-fit h
   fit-parts (onwardPeriod ts) h = terms-fit h
   fit-parts (tones l) h = each-map position-fit l (h .each)
+  fit-parts pattern h = tt
   fit-parts (logic x s os) h = record { trigger = trigger-fit x (h .trigger); start = start-fit s (h .start); orders = each-map order-fit os (h .orders) }
   fit-parts (harmony ks) h = h .each
 
@@ -116,6 +117,7 @@ module _ (p : Program) (v w : ℕ → ℤ) (agree : (k : ℕ) → k < length p �
   tones-same (onwardPeriod ts) h = refl
   tones-same (tones l) h = refl
   tones-same (logic c s os) h = refl
+  tones-same pattern h = refl
   tones-same (harmony ks) h = refl
 
   changes-same : (d : Declaration) → Fits p d → changesOf v d ≡ changesOf w d
@@ -131,6 +133,7 @@ module _ (p : Program) (v w : ℕ → ℤ) (agree : (k : ℕ) → k < length p �
   changes-same (onwardPeriod ts) h = refl
   changes-same (tones l) h = all-same l (h .each)
   changes-same (logic c s os) h = refl
+  changes-same pattern h = refl
   changes-same (harmony ks) h = refl
 
   row-same : (i t c o : ℕ) (d : Declaration) → i < length p → Fits p d → rowOf v i t c o d ≡ rowOf w i t c o d
@@ -145,6 +148,7 @@ module _ (p : Program) (v w : ℕ → ℤ) (agree : (k : ℕ) → k < length p �
   row-same i t c o (freshPeriod ts) k h = rw (sum-same ts (h .each))
   row-same i t c o (onwardPeriod ts) k h = rw (sum-same ts (h .each))
   row-same i t c o (tones l) k h = refl
+  row-same i t c o pattern k h = refl
   row-same i t c o (logic x s os) k h = refl
   row-same i t c o (harmony ks) k h = refl
 

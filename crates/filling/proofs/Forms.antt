@@ -19,7 +19,7 @@ use Rattle.tables.specs.Layout.{soundingOf, pitchOf, changeCode, changeNumber}
 use Rattle.tables.specs.declared.Counts.{Counts}
 use Rattle.tables.specs.declared.Row.{Row}
 use Rattle.tables.specs.declared.Row.the-variants as row
-use Rattle.program.specs.Program.{Declaration, asking, declarationOf, periodBy, periodOf, termThen, freshPeriod, onwardPeriod, termsOf, system, tones, logic, harmony, Position, Trigger, Order, asListed, grouped, startOf, ordersOf, keysOf}
+use Rattle.program.specs.Program.{Declaration, asking, formOf, periodBy, periodOf, termThen, freshPeriod, onwardPeriod, termsOf, system, tones, logic, harmony, Position, Trigger, Order, asListed, grouped, startOf, ordersOf, keysOf}
 use Rattle.harmonies.specs.Harmonies.{HarmonyKey}
 use Rattle.names.specs.Inner.{itemsBetween}
 use Rattle.filling.specs.Tables.{tonesOf, changesOf, rowOf}
@@ -40,8 +40,8 @@ asking-fits values WidthDown h = h
 asking-fits values WidthTimes h = h
 asking-fits values WidthOver h = h
 
-pub asking-small : (values : List ℤ) {i : Item} (f : Form) (n : ℕ) → i ≡ item.Amount f n → FitParts values (declarationOf (i ∷ [])) → n < 2 ^ 16
-asking-small values f n e h = asking-fits values f (subst (λ (x : Item). FitParts values (declarationOf (x ∷ []))) e h)
+pub asking-small : (values : List ℤ) {i : Item} (f : Form) (n : ℕ) → i ≡ item.Amount f n → FitParts values (formOf (i ∷ [])) → n < 2 ^ 16
+asking-small values f n e h = asking-fits values f (subst (λ (x : Item). FitParts values (formOf (x ∷ []))) e h)
 
 -- it has no value
 asking-plain : (y z : ℤ) (f : Form) (n : ℕ) → plainRow y (asking f n) ≡ plainRow z (asking f n)
@@ -54,22 +54,22 @@ asking-plain y z WidthDown n = refl
 asking-plain y z WidthTimes n = refl
 asking-plain y z WidthOver n = refl
 
-pub as-asking : (z : ℤ) {i : Item} {r : Row} (f : Form) (n : ℕ) → i ≡ item.Amount f n → r ≡ plainRow (pos 0) (asking f n) → r ≡ plainRow z (declarationOf (i ∷ []))
-as-asking z f n e h = h ∙ asking-plain (pos 0) z f n ∙ ap (λ (x : Item). plainRow z (declarationOf (x ∷ []))) (sym e)
+pub as-asking : (z : ℤ) {i : Item} {r : Row} (f : Form) (n : ℕ) → i ≡ item.Amount f n → r ≡ plainRow (pos 0) (asking f n) → r ≡ plainRow z (formOf (i ∷ []))
+as-asking z f n e h = h ∙ asking-plain (pos 0) z f n ∙ ap (λ (x : Item). plainRow z (formOf (x ∷ []))) (sym e)
 
 -- what the items after the first do not matter for
 pub record Plain (values : List ℤ) (used : Counts) (i : Item) (rest : List Item) : Type 0 where
-  pub row : rowAfter (valueIn values) used (declarationOf (i ∷ rest)) ≡ plainRow (valueIn values (used .rows)) (declarationOf (i ∷ []))
-  pub lists : (l : Lists) → listed (valueIn values) used (declarationOf (i ∷ rest)) l ≡ l
-  pub fit : FitParts values (declarationOf (i ∷ rest)) → FitParts values (declarationOf (i ∷ []))
+  pub row : rowAfter (valueIn values) used (formOf (i ∷ rest)) ≡ plainRow (valueIn values (used .rows)) (formOf (i ∷ []))
+  pub lists : (l : Lists) → listed (valueIn values) used (formOf (i ∷ rest)) l ≡ l
+  pub fit : FitParts values (formOf (i ∷ rest)) → FitParts values (formOf (i ∷ []))
 
 -- ---- a first item that is not one of some variants
 
--- no tone, no anchor and no width: the row is an interval's
+-- no tone, no anchor, no width and no pattern: the row is an interval's
 abbrev pub intervals : List ℕ
-intervals = 0 ∷ 1 ∷ 2 ∷ 3 ∷ 4 ∷ 7 ∷ 8 ∷ 9 ∷ 10 ∷ 14 ∷ 15 ∷ 16 ∷ 17 ∷ 18 ∷ 19 ∷ 20 ∷ 21 ∷ []
+intervals = 0 ∷ 1 ∷ 2 ∷ 3 ∷ 4 ∷ 7 ∷ 8 ∷ 9 ∷ 10 ∷ 14 ∷ 15 ∷ 16 ∷ 17 ∷ 18 ∷ 19 ∷ 20 ∷ 21 ∷ 23 ∷ 24 ∷ []
 
-pub as-interval : (z : ℤ) (i : Item) → OneOf intervals (tag i) → row.Interval (record { 0 = z }) ≡ plainRow z (declarationOf (i ∷ []))
+pub as-interval : (z : ℤ) (i : Item) → OneOf intervals (tag i) → row.Interval (record { 0 = z }) ≡ plainRow z (formOf (i ∷ []))
 as-interval z (item.Declared a b) h = refl
 as-interval z (item.Ratio a b) h = refl
 as-interval z (item.Root a b) h = refl
@@ -87,15 +87,18 @@ as-interval z item.WidthKept h = absurd (miss intervals 12 tt h)
 as-interval z item.Period h = refl
 as-interval z item.Onward h = refl
 as-interval z (item.Letter a) h = refl
-as-interval z (item.Start a) h = refl
-as-interval z (item.Order a) h = refl
+as-interval z (item.Start a b) h = refl
+as-interval z (item.Order a b) h = refl
 as-interval z (item.Trigger a) h = refl
 as-interval z (item.Key a) h = refl
 as-interval z (item.StarredKey a) h = refl
+as-interval z (item.AmountName f a) h = absurd (miss intervals 22 tt h)
+as-interval z (item.Placeholder a) h = refl
+as-interval z (item.Argument a) h = refl
 
 -- `[ ]` and no `@`: the period is a new one
 abbrev pub noOnward : List ℕ
-noOnward = 0 ∷ 1 ∷ 2 ∷ 3 ∷ 4 ∷ 5 ∷ 6 ∷ 7 ∷ 8 ∷ 9 ∷ 10 ∷ 11 ∷ 12 ∷ 13 ∷ 14 ∷ 16 ∷ 17 ∷ 18 ∷ 19 ∷ 20 ∷ 21 ∷ []
+noOnward = 0 ∷ 1 ∷ 2 ∷ 3 ∷ 4 ∷ 5 ∷ 6 ∷ 7 ∷ 8 ∷ 9 ∷ 10 ∷ 11 ∷ 12 ∷ 13 ∷ 14 ∷ 16 ∷ 17 ∷ 18 ∷ 19 ∷ 20 ∷ 21 ∷ 22 ∷ 23 ∷ 24 ∷ []
 
 pub as-fresh : (i : Item) → OneOf noOnward (tag i) → (rest : List Item) → periodOf (i ∷ rest) ≡ freshPeriod (termsOf (i ∷ rest))
 as-fresh (item.Declared a b) h rest = refl
@@ -115,15 +118,18 @@ as-fresh item.WidthKept h rest = refl
 as-fresh item.Period h rest = refl
 as-fresh item.Onward h rest = absurd (miss noOnward 15 tt h)
 as-fresh (item.Letter a) h rest = refl
-as-fresh (item.Start a) h rest = refl
-as-fresh (item.Order a) h rest = refl
+as-fresh (item.Start a b) h rest = refl
+as-fresh (item.Order a b) h rest = refl
 as-fresh (item.Trigger a) h rest = refl
 as-fresh (item.Key a) h rest = refl
 as-fresh (item.StarredKey a) h rest = refl
+as-fresh (item.AmountName f a) h rest = refl
+as-fresh (item.Placeholder a) h rest = refl
+as-fresh (item.Argument a) h rest = refl
 
 -- no list and no sum, where it is no position and no trigger
 abbrev pub plains : List ℕ
-plains = 0 ∷ 1 ∷ 2 ∷ 3 ∷ 4 ∷ 5 ∷ 6 ∷ 8 ∷ 9 ∷ 10 ∷ 11 ∷ 12 ∷ 13 ∷ 16 ∷ 17 ∷ 18 ∷ 19 ∷ []
+plains = 0 ∷ 1 ∷ 2 ∷ 3 ∷ 4 ∷ 5 ∷ 6 ∷ 8 ∷ 9 ∷ 10 ∷ 11 ∷ 12 ∷ 13 ∷ 16 ∷ 17 ∷ 18 ∷ 19 ∷ 22 ∷ 23 ∷ 24 ∷ []
 
 pub as-plain : (values : List ℤ) (used : Counts) (i : Item) → OneOf plains (tag i) → begins (part i) ≡ false → asTrigger (asListed (part i)) ≡ none → (rest : List Item)
     → Plain values used i rest
@@ -151,15 +157,18 @@ as-plain values used item.WidthKept h e n rest = record { row = refl; lists = λ
 as-plain values used item.Period h e n rest = absurd (miss plains 14 tt h)
 as-plain values used item.Onward h e n rest = absurd (miss plains 15 tt h)
 as-plain values used (item.Letter a) h e n rest = absurd (some-or-none n)
-as-plain values used (item.Start a) h e n rest = record { row = refl; lists = λ l. refl; fit = λ f. f }
-as-plain values used (item.Order a) h e n rest = record { row = refl; lists = λ l. refl; fit = λ f. f }
+as-plain values used (item.Start a b) h e n rest = record { row = refl; lists = λ l. refl; fit = λ f. f }
+as-plain values used (item.Order a b) h e n rest = record { row = refl; lists = λ l. refl; fit = λ f. f }
 as-plain values used (item.Trigger a) h e n rest = absurd (some-or-none n)
 as-plain values used (item.Key a) h e n rest = absurd (miss plains 20 tt h)
 as-plain values used (item.StarredKey a) h e n rest = absurd (miss plains 21 tt h)
+as-plain values used (item.AmountName f a) h e n rest = record { row = refl; lists = λ l. refl; fit = λ f. f }
+as-plain values used (item.Placeholder a) h e n rest = record { row = refl; lists = λ l. refl; fit = λ f. f }
+as-plain values used (item.Argument a) h e n rest = record { row = refl; lists = λ l. refl; fit = λ f. f }
 
 -- ---- positions
 
-pub as-tones : {i : Item} → Inside i → begins (part i) ≡ true → (rest : List Item) → declarationOf (i ∷ rest) ≡ tones (grouped (i ∷ rest) .positions)
+pub as-tones : {i : Item} → Inside i → begins (part i) ≡ true → (rest : List Item) → formOf (i ∷ rest) ≡ tones (grouped (i ∷ rest) .positions)
 as-tones add e rest = absurd (clash e refl)
 as-tones subtract e rest = absurd (clash e refl)
 as-tones muted e rest = refl
@@ -176,7 +185,7 @@ as-tones {i} (outside o) e rest = absurd (clash e (no-begin i o))
 -- ---- triggers
 
 pub as-logic : {i : Item} → Inside i → {x : Trigger} → asTrigger (asListed (part i)) ≡ some x → (rest : List Item)
-    → declarationOf (i ∷ rest) ≡ logic x (startOf rest) (ordersOf rest)
+    → formOf (i ∷ rest) ≡ logic x (startOf rest) (ordersOf rest)
 as-logic add e rest = absurd (some-or-none (sym e))
 as-logic subtract e rest = absurd (some-or-none (sym e))
 as-logic muted e rest = absurd (some-or-none (sym e))
@@ -192,11 +201,11 @@ as-logic (outside o) e rest = absurd (some-or-none (sym e ∙ ap asTrigger o))
 
 -- ---- keys
 
-pub plain-first : (v : ℕ) (rest : List Item) → declarationOf (item.Key v ∷ rest) ≡ harmony (keysOf (item.Key v ∷ rest))
+pub plain-first : (v : ℕ) (rest : List Item) → formOf (item.Key v ∷ rest) ≡ harmony (keysOf (item.Key v ∷ rest))
 unfolding keysOf
 plain-first v rest = refl
 
-pub starred-first : (v : ℕ) (rest : List Item) → declarationOf (item.StarredKey v ∷ rest) ≡ harmony (keysOf (item.StarredKey v ∷ rest))
+pub starred-first : (v : ℕ) (rest : List Item) → formOf (item.StarredKey v ∷ rest) ≡ harmony (keysOf (item.StarredKey v ∷ rest))
 unfolding keysOf
 starred-first v rest = refl
 

@@ -36,8 +36,8 @@ pub data Inside : Item → Type 0 where
   kept : Inside item.KeptPosition
   tone : {n : ℕ} → Inside (item.TonePosition n)
   letter : {c : ℕ} → Inside (item.Letter c)
-  start : {n : ℕ} → Inside (item.Start n)
-  order : {n : ℕ} → Inside (item.Order n)
+  start : {q n : ℕ} → Inside (item.Start q n)
+  order : {q n : ℕ} → Inside (item.Order q n)
   trigger : {n : ℕ} → Inside (item.Trigger n)
   key : {n : ℕ} → Inside (item.Key n)
   starred : {n : ℕ} → Inside (item.StarredKey n)
@@ -61,11 +61,14 @@ inside item.WidthKept = outside refl
 inside item.Period = outside refl
 inside item.Onward = outside refl
 inside (item.Letter a) = letter
-inside (item.Start a) = start
-inside (item.Order a) = order
+inside (item.Start a b) = start
+inside (item.Order a b) = order
 inside (item.Trigger a) = trigger
 inside (item.Key a) = key
 inside (item.StarredKey a) = starred
+inside (item.AmountName a b) = outside refl
+inside (item.Placeholder a) = outside refl
+inside (item.Argument a) = outside refl
 
 -- ---- an item that is not one of some variants: where a match falls through
 
@@ -74,7 +77,7 @@ tag i = tagOf variants.the-type i
 
 -- the variants but those of terms
 abbrev pub noTerms : List ℕ
-noTerms = 0 ∷ 1 ∷ 2 ∷ 5 ∷ 6 ∷ 7 ∷ 8 ∷ 9 ∷ 10 ∷ 11 ∷ 12 ∷ 13 ∷ 14 ∷ 15 ∷ 16 ∷ 17 ∷ 18 ∷ 19 ∷ 20 ∷ 21 ∷ []
+noTerms = 0 ∷ 1 ∷ 2 ∷ 5 ∷ 6 ∷ 7 ∷ 8 ∷ 9 ∷ 10 ∷ 11 ∷ 12 ∷ 13 ∷ 14 ∷ 15 ∷ 16 ∷ 17 ∷ 18 ∷ 19 ∷ 20 ∷ 21 ∷ 22 ∷ 23 ∷ 24 ∷ []
 
 pub no-term : {i : Item} → Inside i → OneOf noTerms (tag i) → termThen (part i) [] ≡ []
 no-term add h = absurd (miss noTerms 3 tt h)
@@ -92,7 +95,7 @@ no-term (outside o) h = ap (λ (q : AsListed). withTerm q []) o
 
 -- but those of a tone system's positions
 abbrev pub noPlaces : List ℕ
-noPlaces = 0 ∷ 1 ∷ 2 ∷ 3 ∷ 4 ∷ 5 ∷ 6 ∷ 7 ∷ 9 ∷ 11 ∷ 12 ∷ 13 ∷ 14 ∷ 15 ∷ 16 ∷ 17 ∷ 18 ∷ 19 ∷ 20 ∷ 21 ∷ []
+noPlaces = 0 ∷ 1 ∷ 2 ∷ 3 ∷ 4 ∷ 5 ∷ 6 ∷ 7 ∷ 9 ∷ 11 ∷ 12 ∷ 13 ∷ 14 ∷ 15 ∷ 16 ∷ 17 ∷ 18 ∷ 19 ∷ 20 ∷ 21 ∷ 22 ∷ 23 ∷ 24 ∷ []
 
 pub no-place : {i : Item} → Inside i → OneOf noPlaces (tag i) → systemPositionThen (part i) [] ≡ []
 no-place add h = refl
@@ -110,7 +113,7 @@ no-place (outside o) h = ap (λ (q : AsListed). withSystemPosition q []) o
 
 -- but those with which positions of a tones retuning begin
 abbrev pub noPositions : List ℕ
-noPositions = 0 ∷ 1 ∷ 2 ∷ 3 ∷ 4 ∷ 5 ∷ 6 ∷ 7 ∷ 11 ∷ 12 ∷ 13 ∷ 14 ∷ 15 ∷ 16 ∷ 17 ∷ 18 ∷ 19 ∷ 20 ∷ 21 ∷ []
+noPositions = 0 ∷ 1 ∷ 2 ∷ 3 ∷ 4 ∷ 5 ∷ 6 ∷ 7 ∷ 11 ∷ 12 ∷ 13 ∷ 14 ∷ 15 ∷ 16 ∷ 17 ∷ 18 ∷ 19 ∷ 20 ∷ 21 ∷ 22 ∷ 23 ∷ 24 ∷ []
 
 pub no-position : {i : Item} → Inside i → OneOf noPositions (tag i) → (ts : List Term) → positionBy (part i) ts ≡ []
 no-position add h ts = refl
@@ -128,7 +131,7 @@ no-position (outside o) h ts = ap (λ (q : AsListed). withGroup q (record { befo
 
 -- but a trigger
 abbrev pub noTriggers : List ℕ
-noTriggers = 0 ∷ 1 ∷ 2 ∷ 3 ∷ 4 ∷ 5 ∷ 6 ∷ 7 ∷ 8 ∷ 9 ∷ 10 ∷ 11 ∷ 12 ∷ 13 ∷ 14 ∷ 15 ∷ 17 ∷ 18 ∷ 20 ∷ 21 ∷ []
+noTriggers = 0 ∷ 1 ∷ 2 ∷ 3 ∷ 4 ∷ 5 ∷ 6 ∷ 7 ∷ 8 ∷ 9 ∷ 10 ∷ 11 ∷ 12 ∷ 13 ∷ 14 ∷ 15 ∷ 17 ∷ 18 ∷ 20 ∷ 21 ∷ 22 ∷ 23 ∷ 24 ∷ []
 
 pub no-trigger : {i : Item} → Inside i → OneOf noTriggers (tag i) → asTrigger (asListed (part i)) ≡ none
 no-trigger add h = refl
@@ -146,7 +149,7 @@ no-trigger (outside o) h = ap asTrigger o
 
 -- but what an order calls
 abbrev pub noCalls : List ℕ
-noCalls = 0 ∷ 1 ∷ 2 ∷ 3 ∷ 4 ∷ 5 ∷ 6 ∷ 7 ∷ 8 ∷ 9 ∷ 10 ∷ 11 ∷ 12 ∷ 13 ∷ 14 ∷ 15 ∷ 16 ∷ 17 ∷ 19 ∷ 20 ∷ 21 ∷ []
+noCalls = 0 ∷ 1 ∷ 2 ∷ 3 ∷ 4 ∷ 5 ∷ 6 ∷ 7 ∷ 8 ∷ 9 ∷ 10 ∷ 11 ∷ 12 ∷ 13 ∷ 14 ∷ 15 ∷ 16 ∷ 17 ∷ 19 ∷ 20 ∷ 21 ∷ 22 ∷ 23 ∷ 24 ∷ []
 
 -- before a trigger no call waits
 trigger-call : (x : Trigger) (called : Option ℕ) (l : List Order) → triggeredBy x called l .call ≡ none
@@ -169,7 +172,7 @@ no-call (outside o) h g = ap (λ (q : AsListed). withOrder q g .call) o
 
 -- but a start
 abbrev pub noStarts : List ℕ
-noStarts = 0 ∷ 1 ∷ 2 ∷ 3 ∷ 4 ∷ 5 ∷ 6 ∷ 7 ∷ 8 ∷ 9 ∷ 10 ∷ 11 ∷ 12 ∷ 13 ∷ 14 ∷ 15 ∷ 16 ∷ 18 ∷ 19 ∷ 20 ∷ 21 ∷ []
+noStarts = 0 ∷ 1 ∷ 2 ∷ 3 ∷ 4 ∷ 5 ∷ 6 ∷ 7 ∷ 8 ∷ 9 ∷ 10 ∷ 11 ∷ 12 ∷ 13 ∷ 14 ∷ 15 ∷ 16 ∷ 18 ∷ 19 ∷ 20 ∷ 21 ∷ 22 ∷ 23 ∷ 24 ∷ []
 
 pub no-start : {i : Item} → Inside i → OneOf noStarts (tag i) → (s : Option ℕ) → startThen (part i) s ≡ s
 no-start add h s = refl
@@ -187,7 +190,7 @@ no-start (outside o) h s = ap (λ (q : AsListed). withStart q s) o
 
 -- but a key of a harmony
 abbrev pub noKeys : List ℕ
-noKeys = 0 ∷ 1 ∷ 2 ∷ 3 ∷ 4 ∷ 5 ∷ 6 ∷ 7 ∷ 8 ∷ 9 ∷ 10 ∷ 11 ∷ 12 ∷ 13 ∷ 14 ∷ 15 ∷ 16 ∷ 17 ∷ 18 ∷ 19 ∷ []
+noKeys = 0 ∷ 1 ∷ 2 ∷ 3 ∷ 4 ∷ 5 ∷ 6 ∷ 7 ∷ 8 ∷ 9 ∷ 10 ∷ 11 ∷ 12 ∷ 13 ∷ 14 ∷ 15 ∷ 16 ∷ 17 ∷ 18 ∷ 19 ∷ 22 ∷ 23 ∷ 24 ∷ []
 
 pub no-key : {i : Item} → Inside i → OneOf noKeys (tag i) → keyThen (part i) [] ≡ []
 no-key add h = refl

@@ -71,5 +71,5 @@ module _ (l : List ℕ) (i to : ℕ) {x : Item} (e : x ≡ itemAt l i) where
       pub trigger-alone : OneOf noCalls (tag y) → [] ≡ orderAt l i to
       trigger-alone h = at-trigger (call-here l (i + 1) to f k ∙ no-call (inside y) h _)
 
-      pub trigger-and-call : {n : ℕ} → y ≡ item.Order n → record { trigger = t; calls = n } ∷ [] ≡ orderAt l i to
+      pub trigger-and-call : {q n : ℕ} → y ≡ item.Order q n → record { trigger = t; calls = n } ∷ [] ≡ orderAt l i to
       trigger-and-call r = at-trigger (call-here l (i + 1) to (sym r ∙ f) k)

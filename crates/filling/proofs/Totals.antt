@@ -12,8 +12,8 @@ use Rattle.grammar.specs.declared.Kind.the-variants.{System, Retuning}
 use Rattle.grammar.specs.Moves.{kindNumber}
 use Rattle.grammar.specs.Reading.{mostPositions}
 use Rattle.tables.specs.Layout.{mostRows, mostTones, mostChanges, mostOrders}
-use Rattle.program.specs.Program.{Declaration, ratio, root, sequence, frequency, from, system, anchor, width, freshPeriod, onwardPeriod, tones, logic, harmony, Placed, Program}
-use Rattle.program.specs.Allowed.{kindOf, Each, Fits, ifKind, countOf, orderCount, ordersIn, Allowed}
+use Rattle.program.specs.Program.{Declaration, ratio, root, sequence, frequency, from, system, anchor, width, freshPeriod, onwardPeriod, tones, pattern, logic, harmony, Placed, Program}
+use Rattle.program.specs.Allowed.{kindOf, Each, Fits, ifKind, countOf, orderCount, tonesCount, tonesIn, ordersIn, Allowed}
 use Rattle.program.proofs.AcceptedText.{few-declarations}
 use Rattle.filling.specs.Tables.{toneOf, tonesOf, changeOf, changesOf, ordersOf, Filled, filledFrom}
 
@@ -26,7 +26,7 @@ isOf k d = eqb (kindNumber (kindOf d)) (kindNumber k)
 module _ (value : ℕ → ℤ) (p : Program) where
   record Share (d : Declaration) : Type 0 where
     of-tones : length (tonesOf value d) ≤ mostPositions * ifKind (isOf System d) 0
-    of-changes : length (changesOf value d) ≤ mostPositions * ifKind (isOf Retuning d) 0
+    of-changes : length (changesOf value d) ≤ mostPositions * tonesCount d
     of-orders : length (ordersOf d) ≡ orderCount d
 
   share : (d : Declaration) → Fits p d → Share d
@@ -42,6 +42,7 @@ module _ (value : ℕ → ℤ) (p : Program) where
   share (onwardPeriod ts) h = record { of-tones = omega arith; of-changes = omega arith; of-orders = refl }
   share (tones l) h = record { of-tones = omega arith; of-changes = rw (length-map l (changeOf value)) (omega (arith, h .positions .few)); of-orders = refl }
   share (logic c s os) h = record { of-tones = omega arith; of-changes = omega arith; of-orders = refl }
+  share pattern h = record { of-tones = omega arith; of-changes = omega arith; of-orders = refl }
   share (harmony ks) h = record { of-tones = omega arith; of-changes = omega arith; of-orders = refl }
 
 -- ---- all of them
@@ -54,11 +55,11 @@ module _ (value : ℕ → ℤ) (p : Program) where
   record Total (ds : Program) (f : Filled) : Type 0 where
     all-rows : length (f .rows) ≡ length ds
     all-tones : length (f .tones) ≤ mostPositions * countOf System ds
-    all-changes : length (f .changes) ≤ mostPositions * countOf Retuning ds
+    all-changes : length (f .changes) ≤ mostPositions * tonesIn ds
     all-orders : length (f .orders) ≡ ordersIn ds
 
   total : (i t c o : ℕ) (ds : Program) → Each (λ (d : Placed). Fits p (d .is)) ds → Total ds (filledFrom value i t c o ds)
-  unfolding filledFrom countOf ordersIn
+  unfolding filledFrom countOf tonesIn ordersIn
   total i t c o [] h = record { all-rows = refl; all-tones = omega arith; all-changes = omega arith; all-orders = refl }
   total i t c o (d ∷ ds) h =
       let ts = tonesOf value (d .is) in
@@ -70,7 +71,7 @@ module _ (value : ℕ → ℤ) (p : Program) where
       record {
         all-rows = ap suc (r .all-rows);
         all-tones = omega (arith, length-append ts (f .tones), if-more (isOf System (d .is)) (countOf System ds), s .of-tones, r .all-tones);
-        all-changes = omega (arith, length-append cs (f .changes), if-more (isOf Retuning (d .is)) (countOf Retuning ds), s .of-changes, r .all-changes);
+        all-changes = omega (arith, length-append cs (f .changes), s .of-changes, r .all-changes);
         all-orders = omega (arith, length-append os (f .orders), s .of-orders, r .all-orders);
       }
 
@@ -87,6 +88,6 @@ filled-within value {p} w =
     record {
       rows = omega (arith, t .all-rows, few-declarations w);
       tones = omega (arith, t .all-tones, w .few System);
-      changes = omega (arith, t .all-changes, w .few Retuning);
+      changes = omega (arith, t .all-changes, w .listed);
       orders = omega (arith, t .all-orders, w .orders);
     }

@@ -67,3 +67,11 @@ module _ {is : List Item} {items : List ℕ} {count : ℕ} {starts : List ℕ} {
           → Filling (valueIn values) (programOf is) (d + 1) used′ rows′ lists′
       written-next {used′} {rows′} {lists′} a =
           filling-next h within inside (subst (λ (c : Declaration). Added (valueIn values) used c rows lists used′ rows′ lists′) body a)
+
+-- the same of a declaration that is told in another way
+pub writable-as : {values : List ℤ} {used : Counts} {c d : Declaration} → c ≡ d → Writable values used c → Writable values used d
+writable-as {values} {used} e w = subst (Writable values used) e w
+
+pub added-as : {value : ℕ → ℤ} {used : Counts} {c d : Declaration} {rows : List ℤ} {before : Lists} {r : Counts} {rows′ : List ℤ} {after : Lists} → c ≡ d
+    → Added value used c rows before r rows′ after → Added value used d rows before r rows′ after
+added-as {value} {used} {rows} {before} {r} {rows′} {after} e w = subst (λ (x : Declaration). Added value used x rows before r rows′ after) e w

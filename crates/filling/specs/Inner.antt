@@ -21,7 +21,7 @@ use Rattle.tables.specs.declared.Counts.{Counts}
 use Rattle.tables.specs.declared.Row.{Row}
 use Rattle.tables.specs.declared.Row.the-variants as row
 use Rattle.tables.specs.Layout.{Tables, mostRows, rowWidth, mostTones, mostChanges, mostOrders, countsSize, numbersOf, written, amountNumber, soundingOf, pitchOf, changeCode, changeNumber}
-use Rattle.program.specs.Program.{Declaration, ratio, root, sequence, frequency, from, system, anchor, width, freshPeriod, onwardPeriod, tones, logic, harmony, Program, Position, mute, kept, named, Trigger, byLetter, byHarmony, Order}
+use Rattle.program.specs.Program.{Declaration, ratio, root, sequence, frequency, from, system, anchor, width, freshPeriod, onwardPeriod, tones, pattern, logic, harmony, Program, Position, mute, kept, named, Trigger, byLetter, byHarmony, Order}
 use Rattle.program.specs.Program.{AsListed, unlisted, a-term, muted-position, kept-position, tone-position, a-start, a-trigger, a-call, a-key, groupThen, grouped, orderThen, ordered}
 use Rattle.program.specs.Meaning.{valueOf}
 use Rattle.program.specs.Allowed.{Each}
@@ -174,6 +174,7 @@ FitParts values (width m) = amountNumber m < 2 ^ 16
 FitParts values (freshPeriod ts) = Summable values ts
 FitParts values (onwardPeriod ts) = Summable values ts
 FitParts values (tones l) = Each (FitPosition values) l
+FitParts values pattern = Unit
 FitParts values (logic x s os) = FitLogic x s os
 FitParts values (harmony ks) = Each FitKey ks
 
@@ -215,6 +216,7 @@ plainRow z (width m) = row.Retuning (Width m) 0 0
 plainRow z (freshPeriod ts) = row.Interval (record { 0 = z })
 plainRow z (onwardPeriod ts) = row.Interval (record { 0 = z })
 plainRow z (tones l) = row.Interval (record { 0 = z })
+plainRow z pattern = row.Pattern
 plainRow z (logic x s os) = row.Interval (record { 0 = z })
 plainRow z (harmony ks) = row.Interval (record { 0 = z })
 
@@ -259,6 +261,7 @@ countedBy used (row.Retuning (Period x) m n) = oneMore used (used .tones) (used 
 countedBy used (row.Retuning Tones m n) = oneMore used (used .tones) n (used .orders)
 countedBy used (row.Logic x s m n) = oneMore used (used .tones) (used .changes) n
 countedBy used (row.Harmony y z) = oneMore used (used .tones) (used .changes) (used .orders)
+countedBy used row.Pattern = oneMore used (used .tones) (used .changes) (used .orders)
 
 -- as the declaration says
 abbrev pub counted : (ℕ → ℤ) → Counts → Declaration → Counts

@@ -16,7 +16,7 @@ use Rattle.tables.specs.declared.Row.{Row}
 use Rattle.tables.specs.declared.Row.the-variants as row
 use Rattle.tables.specs.Layout.{mostRows, rowWidth, mostTones, mostChanges, mostOrders, harmonyBase, writtenAll, full, soundingOf, pitchOf, changeCode, changeNumber}
 use Rattle.tables.specs.Layout as layout
-use Rattle.program.specs.Program.{Declaration, ratio, root, sequence, frequency, from, system, anchor, width, freshPeriod, onwardPeriod, tones, logic, harmony, Program, Position, mute, kept, named, Trigger, byLetter, byHarmony, Order}
+use Rattle.program.specs.Program.{Declaration, ratio, root, sequence, frequency, from, system, anchor, width, freshPeriod, onwardPeriod, tones, pattern, logic, harmony, Program, Position, mute, kept, named, Trigger, byLetter, byHarmony, Order}
 use Rattle.program.specs.Meaning.{valueOf}
 use Rattle.harmonies.specs.Harmonies.{harmonyOf}
 
@@ -58,6 +58,7 @@ module _ (value : ℕ → ℤ) where
   tonesOf (onwardPeriod ts) = []
   tonesOf (tones l) = []
   tonesOf (logic c s os) = []
+  tonesOf pattern = []
   tonesOf (harmony ks) = []
 
   -- the changes of a tones retuning
@@ -79,6 +80,7 @@ module _ (value : ℕ → ℤ) where
   changesOf (onwardPeriod ts) = []
   changesOf (tones l) = map changeOf l
   changesOf (logic c s os) = []
+  changesOf pattern = []
   changesOf (harmony ks) = []
 
   -- the row of declaration i, before which so many tones, changes and orders stand
@@ -94,6 +96,7 @@ module _ (value : ℕ → ℤ) where
   rowOf i t c o (freshPeriod ts) = row.Retuning (Period (Fresh (record { 0 = sum ts }))) 0 0
   rowOf i t c o (onwardPeriod ts) = row.Retuning (Period (Onward (record { 0 = sum ts }))) 0 0
   rowOf i t c o (tones l) = row.Retuning Tones c (c + length l)
+  rowOf i t c o pattern = row.Pattern
   rowOf i t c o (logic x s os) = row.Logic (triggerCode x) (startCode s) o (o + length os)
   rowOf i t c o (harmony ks) = let y = harmonyOf ks in row.Harmony (y .needed) (y .named)
 
@@ -110,6 +113,7 @@ ordersOf (freshPeriod ts) = []
 ordersOf (onwardPeriod ts) = []
 ordersOf (tones l) = []
 ordersOf (logic c s os) = os
+ordersOf pattern = []
 ordersOf (harmony ks) = []
 
 -- ---- the lists of all declarations

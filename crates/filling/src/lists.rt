@@ -166,7 +166,7 @@ fn read_order(items: &[u32], i: usize, to: usize) -> OrderHere
     if to <= i + 1 {
         return OrderHere::Nothing;
     }
-    let Item::Order(called) = items::item_at(items, i + 1) else {
+    let Item::Order(_, called) = items::item_at(items, i + 1) else {
         return OrderHere::Nothing;
     };
     OrderHere::Order(trigger, called)
@@ -195,7 +195,7 @@ pub fn find_start(items: &[u32], from: usize, to: usize) -> u32
     ensures { λ r. ⌜ r ≡ calledBy (startOf (itemsBetween (now (items .entry)) from to)) ⌝ }
 {
     for i in from..to {
-        if let Item::Start(called) = items::item_at(items, i) {
+        if let Item::Start(_, called) = items::item_at(items, i) {
             return called + 1;
         }
     }

@@ -26,13 +26,14 @@ use tuning::Amount;
 use tuning::Operator;
 use tuning::PeriodChange;
 use tuning::Retuning;
+use valuation::skip_names;
 ghost use mathlib.Core.Path.{_≡_};
 ghost use mathlib.Core.List.{[], _∷_};
 ghost use Prim.Native.Nat.{_+_, _≤_, _<_};
 ghost use lib.IntN.{pos};
 ghost use lib.ListN.{length};
 ghost use Rattle.tables.specs.Layout.{tablesIn, triggersIn, callsIn, mostRows, mostOrders, soundingOf, pitchOf, changeCode, changeNumber};
-ghost use Rattle.program.specs.Program.{asking, declarationOf, periodOf, tones, grouped, startOf, ordersOf, keysOf};
+ghost use Rattle.program.specs.Program.{asking, formOf, declarationOf, periodOf, tones, grouped, startOf, ordersOf, keysOf};
 ghost use Rattle.harmonies.specs.Harmonies.{harmonyOf};
 ghost use Rattle.names.specs.Inner.{itemsBetween};
 ghost use Rattle.tables.specs.Values.{Slices};
@@ -79,8 +80,8 @@ fn make_asking(form: Form, n: u16) -> Row
 // The row of a declaration with no list and no sum of its own.
 fn make_plain(item: Item, values: &[i64], row: usize) -> Row
     requires { ⌜ FitValue (now values) row ⌝ }
-    requires { ⌜ FitParts (now values) (declarationOf (item ∷ [])) ⌝ }
-    ensures { λ r. ⌜ r ≡ plainRow (valueIn (now (values .entry)) row) (declarationOf (item ∷ [])) ⌝ }
+    requires { ⌜ FitParts (now values) (formOf (item ∷ [])) ⌝ }
+    ensures { λ r. ⌜ r ≡ plainRow (valueIn (now (values .entry)) row) (formOf (item ∷ [])) ⌝ }
 {
     match item {
         Item::Frequency(_) => Row::Tone(pitch_at(values, row)),
@@ -88,6 +89,7 @@ fn make_plain(item: Item, values: &[i64], row: usize) -> Row
         Item::AnchorKept => make_anchor(Amount::Kept),
         Item::WidthKept => make_width(Amount::Kept),
         Item::Amount(form, n) => make_asking(form, n as u16),
+        Item::AmountName(_, _) => Row::Pattern,
         _ => Row::Interval(interval_at(values, row)),
     }
 }
@@ -128,9 +130,9 @@ fn write_system(
     sounding: &mut [u16],
     tones: &mut [i32],
 ) -> Row
-    requires { ⌜ Writable (now values) used (declarationOf (Item.AnchorKey key ∷ itemsBetween (now items) from to)) ⌝ }
-    ensures { λ r. ⌜ r ≡ rowAfter (valueIn (now (values .entry))) used (declarationOf (Item.AnchorKey key ∷ itemsBetween (now (items .entry)) from to)) ⌝ }
-    ensures { λ _. ⌜ Stored soundingOf pitchOf (tonesOf (valueIn (now (values .entry))) (declarationOf (Item.AnchorKey key ∷ itemsBetween (now (items .entry)) from to))) (used .tones) (now (sounding .entry)) (now (tones .entry)) (now (sounding .exit)) (now (tones .exit)) ⌝ }
+    requires { ⌜ Writable (now values) used (formOf (Item.AnchorKey key ∷ itemsBetween (now items) from to)) ⌝ }
+    ensures { λ r. ⌜ r ≡ rowAfter (valueIn (now (values .entry))) used (formOf (Item.AnchorKey key ∷ itemsBetween (now (items .entry)) from to)) ⌝ }
+    ensures { λ _. ⌜ Stored soundingOf pitchOf (tonesOf (valueIn (now (values .entry))) (formOf (Item.AnchorKey key ∷ itemsBetween (now (items .entry)) from to))) (used .tones) (now (sounding .entry)) (now (tones .entry)) (now (sounding .exit)) (now (tones .exit)) ⌝ }
 {
     let end = lists::write_positions(
         items,
@@ -259,8 +261,8 @@ fn write_lists(
     codes: &mut [u16],
 ) -> Row
     requires { ⌜ Slices (now numbers) (now codes) ⌝ }
-    requires { ⌜ Writable (now values) used (declarationOf (itemsBetween (now items) from to)) ⌝ }
-    ensures { λ r. ⌜ RowedIn (valueIn (now (values .entry))) used (declarationOf (itemsBetween (now (items .entry)) from to)) (tablesIn (now (numbers .entry)) (now (codes .entry))) r (tablesIn (now (numbers .exit)) (now (codes .exit))) ⌝ }
+    requires { ⌜ Writable (now values) used (formOf (itemsBetween (now items) from to)) ⌝ }
+    ensures { λ r. ⌜ RowedIn (valueIn (now (values .entry))) used (formOf (itemsBetween (now (items .entry)) from to)) (tablesIn (now (numbers .entry)) (now (codes .entry))) r (tablesIn (now (numbers .exit)) (now (codes .exit))) ⌝ }
 {
     let row = used.rows as usize;
     if to <= from {
@@ -291,7 +293,26 @@ fn write_lists(
     }
 }
 
-// Writes the declaration whose items stand there: its row, and what belongs to it. Answers how many there are then.
+// Writes the declaration whose parts stand there: its row, and what belongs to it. Answers how many there are then.
+fn write_parts(
+    items: &[u32],
+    from: usize,
+    to: usize,
+    values: &[i64],
+    used: Counts,
+    numbers: &mut [i32],
+    codes: &mut [u16],
+) -> Counts
+    requires { ⌜ Slices (now numbers) (now codes) ⌝ }
+    requires { ⌜ Writable (now values) used (formOf (itemsBetween (now items) from to)) ⌝ }
+    ensures { λ r. ⌜ AddedIn (valueIn (now (values .entry))) used (formOf (itemsBetween (now (items .entry)) from to)) (tablesIn (now (numbers .entry)) (now (codes .entry))) r (tablesIn (now (numbers .exit)) (now (codes .exit))) ⌝ }
+{
+    let row = write_lists(items, from, to, values, used, numbers, codes);
+    encode::store_row(&mut numbers[0..TONES_AT], used.rows as usize, row);
+    count_row(used, row)
+}
+
+// The same of all its items, of which the names of its placeholders come first.
 pub fn write_declaration(
     items: &[u32],
     from: usize,
@@ -305,7 +326,6 @@ pub fn write_declaration(
     requires { ⌜ Writable (now values) used (declarationOf (itemsBetween (now items) from to)) ⌝ }
     ensures { λ r. ⌜ AddedIn (valueIn (now (values .entry))) used (declarationOf (itemsBetween (now (items .entry)) from to)) (tablesIn (now (numbers .entry)) (now (codes .entry))) r (tablesIn (now (numbers .exit)) (now (codes .exit))) ⌝ }
 {
-    let row = write_lists(items, from, to, values, used, numbers, codes);
-    encode::store_row(&mut numbers[0..TONES_AT], used.rows as usize, row);
-    count_row(used, row)
+    let parts = skip_names(items, from, to);
+    write_parts(items, parts, to, values, used, numbers, codes)
 }

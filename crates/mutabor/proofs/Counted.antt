@@ -13,7 +13,7 @@ use lib.ListN.{length, length-append, length-map}
 use Rattle.grammar.specs.declared.Kind.{Kind}
 use Rattle.grammar.specs.declared.Kind.the-variants.{Interval, Tone, System, Retuning, Logic, Harmony}
 use Rattle.grammar.specs.Moves.{kindNumber}
-use Rattle.limits.specs.Limits.{mostIntervals, mostToneNames, mostSystems, mostRetunings, mostLogics, mostHarmonies}
+use Rattle.limits.specs.Limits.{mostIntervals, mostToneNames, mostSystems, mostRetunings, mostCalls, mostLogics, mostHarmonies}
 use Rattle.tuning.specs.State.{places}
 use Rattle.tuning.specs.declared.Tone.{Tone as SoundingTone}
 use Rattle.tuning.specs.declared.ToneChange.{ToneChange}
@@ -22,9 +22,9 @@ use Rattle.tables.specs.declared.Row.{Row}
 use Rattle.tables.specs.Layout.{used}
 use Rattle.validity.specs.Valid.{kinds, oneMore, kindsFrom, kindsRight, belonging, ends, follows, endsAfter, partsFollow}
 use Rattle.validity.proofs.Sizes.{Room}
-use Rattle.program.specs.Program.{Declaration, ratio, root, sequence, frequency, from, system, anchor, width, freshPeriod, onwardPeriod, tones, logic, harmony, Placed, Program}
+use Rattle.program.specs.Program.{Declaration, ratio, root, sequence, frequency, from, system, anchor, width, freshPeriod, onwardPeriod, tones, pattern, logic, harmony, Placed, Program}
 use Rattle.program.specs.Meaning.{valueOf}
-use Rattle.program.specs.Allowed.{kindOf, Each, Fits, ifKind, countOf, orderCount, ordersIn, Allowed}
+use Rattle.program.specs.Allowed.{tonesCount, tonesIn, kindOf, Each, Fits, ifKind, countOf, orderCount, ordersIn, Allowed}
 use Rattle.program.proofs.AcceptedText.{few-declarations}
 use Rattle.filling.specs.Tables.{toneOf, tonesOf, changeOf, changesOf, ordersOf, rowOf, filledFrom, laidOut}
 use Rattle.mutabor.proofs.Filled.{gathered, only-systems, only-retunings, filled, filled-lists}
@@ -35,19 +35,33 @@ ofKind k d = ifKind (eqb (kindNumber (kindOf d)) (kindNumber k)) 0
 
 -- ---- "positions in one list: 60"
 
-module _ (p : Program) {A : Type 0} (f : Declaration → List A) (k : Kind)
-    (few : (d : Declaration) → Fits p d → length (f d) ≤ places * ofKind k d) where
-  one-more : (b : Bool) (n : ℕ) → ifKind b n ≡ ifKind b 0 + n
-  one-more true n = omega arith
-  one-more false n = omega arith
-
-  gathered-few : (q : Program) → Each (λ (d : Placed). Fits p (d .is)) q → length (gathered f q) ≤ places * countOf k q
-  unfolding flatMap countOf
+-- so many as there are of those that may have some
+module _ (p : Program) {A : Type 0} (f : Declaration → List A) (one : Declaration → ℕ) (all : Program → ℕ) (none : all [] ≡ 0)
+    (more : (d : Placed) (q : Program) → all (d ∷ q) ≡ one (d .is) + all q) (few : (d : Declaration) → Fits p d → length (f d) ≤ places * one d) where
+  gathered-few : (q : Program) → Each (λ (d : Placed). Fits p (d .is)) q → length (gathered f q) ≤ places * all q
+  unfolding flatMap
   gathered-few [] fit = omega arith
-  gathered-few (d ∷ q) fit =
-      let c = d .is in
-      let n = one-more (eqb (kindNumber (kindOf c)) (kindNumber k)) (countOf k q) in
-      omega (arith, length-append (f c) (gathered f q), few c (fit .0), n, gathered-few q (fit .1))
+  gathered-few (d ∷ q) fit = omega (arith, length-append (f (d .is)) (gathered f q), few (d .is) (fit .0), more d q, gathered-few q (fit .1))
+
+system-more : (d : Placed) (q : Program) → countOf System (d ∷ q) ≡ ofKind System (d .is) + countOf System q
+unfolding countOf
+system-more d q = go (eqb (kindNumber (kindOf (d .is))) (kindNumber System))
+  where
+    go : (b : Bool) → ifKind b (countOf System q) ≡ ifKind b 0 + countOf System q
+    go true = omega arith
+    go false = omega arith
+
+no-system : countOf System [] ≡ 0
+unfolding countOf
+no-system = refl
+
+tones-more : (d : Placed) (q : Program) → tonesIn (d ∷ q) ≡ tonesCount (d .is) + tonesIn q
+unfolding tonesIn
+tones-more d q = refl
+
+no-list : tonesIn [] ≡ 0
+unfolding tonesIn
+no-list = refl
 
 module _ (p : Program) (value : ℕ → ℤ) where
   few-tones : (d : Declaration) → Fits p d → length (tonesOf value d) ≤ places * ofKind System d
@@ -56,9 +70,9 @@ module _ (p : Program) (value : ℕ → ℤ) where
       let n = subst (Fits p) e fit .positions in
       rw e (omega (arith, length-map l (toneOf value), n .few)))
 
-  few-changes : (d : Declaration) → Fits p d → length (changesOf value d) ≤ places * ofKind Retuning d
+  few-changes : (d : Declaration) → Fits p d → length (changesOf value d) ≤ places * tonesCount d
   few-changes d fit =
-      only-retunings value (λ (xs : List ToneChange). length xs ≤ places * ofKind Retuning d) d (omega arith) (λ l e.
+      only-retunings value (λ (xs : List ToneChange). length xs ≤ places * tonesCount d) d (omega arith) (λ l e.
       let n = subst (Fits p) e fit .positions in
       rw e (omega (arith, length-map l (changeOf value), n .few)))
 
@@ -77,6 +91,7 @@ own-orders (freshPeriod ts) = refl
 own-orders (onwardPeriod ts) = refl
 own-orders (tones l) = refl
 own-orders (logic c s os) = refl
+own-orders pattern = refl
 own-orders (harmony ks) = refl
 
 all-orders : (p : Program) → length (gathered ordersOf p) ≡ ordersIn p
@@ -89,12 +104,12 @@ all-orders (d ∷ p) = length-append (ordersOf (d .is)) (gathered ordersOf p) �
 pub room : (p : Program) → Allowed p → Room (used (laidOut (filled p)))
 room p a =
     let l = filled-lists p in
-    let ts = gathered-few p (tonesOf (valueOf p)) System (few-tones p (valueOf p)) p (a .each) in
-    let cs = gathered-few p (changesOf (valueOf p)) Retuning (few-changes p (valueOf p)) p (a .each) in
+    let ts = gathered-few p (tonesOf (valueOf p)) (ofKind System) (countOf System) no-system system-more (few-tones p (valueOf p)) p (a .each) in
+    let cs = gathered-few p (changesOf (valueOf p)) tonesCount tonesIn no-list tones-more (few-changes p (valueOf p)) p (a .each) in
     record {
       rows = rw (l .rows) (few-declarations a);
       tones = rw (l .tones) (omega (arith, a .few System));
-      changes = rw (l .changes) (omega (arith, a .few Retuning));
+      changes = rw (l .changes) (omega (arith, a .listed));
       orders = rw (l .orders, all-orders p) (a .orders);
     }
 
@@ -128,6 +143,7 @@ module _ (value : ℕ → ℤ) where
       go (freshPeriod ts) rest more = more x y s (suc r) l h ∙ simp (suc-add, add-suc)
       go (onwardPeriod ts) rest more = more x y s (suc r) l h ∙ simp (suc-add, add-suc)
       go (tones m) rest more = more x y s (suc r) l h ∙ simp (suc-add, add-suc)
+      go pattern rest more = more x y s (suc r) l h ∙ simp (suc-add, add-suc)
       go (logic a m os) rest more = more x y s r (suc l) h ∙ simp (suc-add, add-suc)
       go (harmony ks) rest more = more x y s r l (suc h) ∙ simp (suc-add, add-suc)
 
@@ -138,7 +154,7 @@ kinds-few p a =
       le-leb (0 + countOf Interval p) mostIntervals (omega (arith, a .few Interval)),
       le-leb (0 + countOf Tone p) mostToneNames (omega (arith, a .few Tone)),
       le-leb (0 + countOf System p) mostSystems (omega (arith, a .few System)),
-      le-leb (0 + countOf Retuning p) mostRetunings (omega (arith, a .few Retuning)),
+      le-leb (0 + countOf Retuning p) (mostRetunings + mostCalls) (omega (arith, a .few Retuning)),
       le-leb (0 + countOf Logic p) mostLogics (omega (arith, a .few Logic)),
       le-leb (0 + countOf Harmony p) mostHarmonies (omega (arith, a .few Harmony)),
     )
@@ -169,6 +185,7 @@ module _ (value : ℕ → ℤ) where
       go (freshPeriod ts) = record { begins = refl; after = none }
       go (onwardPeriod ts) = record { begins = refl; after = none }
       go (tones l) = record { begins = eq-eqb c c refl; after = simp (length-map, add-zero) }
+      go pattern = record { begins = refl; after = none }
       go (logic x s os) = record { begins = eq-eqb o o refl; after = simp add-zero }
       go (harmony ks) = record { begins = refl; after = none }
 

@@ -13,7 +13,7 @@ use Rattle.tuning.specs.declared.Tone.{Tone}
 use Rattle.tuning.specs.declared.ToneChange.{ToneChange}
 use Rattle.tables.specs.declared.Row.{Row}
 use Rattle.tables.specs.declared.Row.the-variants.{Unused}
-use Rattle.program.specs.Program.{Declaration, ratio, root, sequence, frequency, from, system, anchor, width, freshPeriod, onwardPeriod, tones, logic, harmony, Placed, Program, Position, Trigger, Order}
+use Rattle.program.specs.Program.{Declaration, ratio, root, sequence, frequency, from, system, anchor, width, freshPeriod, onwardPeriod, tones, pattern, logic, harmony, Placed, Program, Position, Trigger, Order}
 use Rattle.program.specs.Meaning.{declarationAt, valueOf}
 use Rattle.filling.specs.Tables.{toneOf, tonesOf, changeOf, changesOf, ordersOf, rowOf, Filled, filledFrom}
 use Rattle.mutabor.proofs.Lists.{slice-behind}
@@ -77,6 +77,7 @@ module _ (value : ℕ → ℤ) where
   only-systems P (onwardPeriod ts) empty own = empty
   only-systems P (tones l) empty own = empty
   only-systems P (logic c s os) empty own = empty
+  only-systems P pattern empty own = empty
   only-systems P (harmony ks) empty own = empty
 
   pub only-retunings : (P : List ToneChange → Type 0) (d : Declaration) → P []
@@ -93,6 +94,7 @@ module _ (value : ℕ → ℤ) where
   only-retunings P (onwardPeriod ts) empty own = empty
   only-retunings P (tones l) empty own = own l refl
   only-retunings P (logic c s os) empty own = empty
+  only-retunings P pattern empty own = empty
   only-retunings P (harmony ks) empty own = empty
 
 pub only-logics : (P : List Order → Type 0) (d : Declaration) → P []
@@ -109,6 +111,7 @@ only-logics P (freshPeriod ts) empty own = empty
 only-logics P (onwardPeriod ts) empty own = empty
 only-logics P (tones l) empty own = empty
 only-logics P (logic c s os) empty own = own c s os refl
+only-logics P pattern empty own = empty
 only-logics P (harmony ks) empty own = empty
 
 -- ---- what is filled

@@ -6,7 +6,7 @@ use native.Mathlib.Omega.{arith}
 use borrow.Author.Tests.{leb-false, le-leb}
 use lib.Dec.{leb, leb·zero}
 use lib.IntN.{ℤ, pos, negsuc}
-use Rattle.limits.specs.Limits.{leastDivisor, mostAmount, firstLetter, lastLetter}
+use Rattle.limits.specs.Limits.{mostAmount, firstLetter, lastLetter}
 use Rattle.tuning.specs.Desk.{isAnchor}
 use Rattle.tuning.specs.declared.Operator.the-variants.{Plus, Minus, Times, Divide}
 use Rattle.tuning.specs.declared.Amount.{Amount}
@@ -46,7 +46,7 @@ width-right (Absolute n) h = le-leb n mostAmount h
 width-right (Relative Plus n) h = le-leb n mostAmount h
 width-right (Relative Minus n) h = le-leb n mostAmount h
 width-right (Relative Times n) h = le-leb n mostAmount h
-width-right (Relative Divide n) h = rw (le-leb leastDivisor n (h .0), le-leb n mostAmount (h .1))
+width-right (Relative Divide n) h = le-leb n mostAmount h
 
 pub letter-right : (c : ℕ) → Letter c → isCapital c ≡ true
 letter-right c h = rw (le-leb firstLetter c (h .least), le-leb c lastLetter (h .most))

@@ -36,5 +36,5 @@ module _ (text items : List ℕ) {items′ : List ℕ} {r : Reading} (w : (r ≡
     pub not-read : (r .number ≡ 0 → ⊥) → q .number ≡ r .number → q .place ≡ r .place → after ≡ blank → Leaves (byVerdict blank (readText text)) q after
     not-read h e f g = items-refused text (λ z. h (same-number ∙ z)) (e ∙ same-number) (f ∙ ap (λ (x : Reading). x .place) (w .0)) g
 
-    pub names-meant : r .number ≡ 0 → Leaves (byVerdict blank (byMeaning (meanings text (itemsIn (r .count) items′)))) q after → Leaves (byVerdict blank (readText text)) q after
-    names-meant h x = items-read text (all-read h) (subst (λ (l : List Item). Leaves (byVerdict blank (byMeaning (meanings text l))) q after) (sym same-items) x)
+    pub names-meant : r .number ≡ 0 → Leaves (byVerdict blank (byMeaning text (meanings text (itemsIn (r .count) items′)))) q after → Leaves (byVerdict blank (readText text)) q after
+    names-meant h x = items-read text (all-read h) (subst (λ (l : List Item). Leaves (byVerdict blank (byMeaning text (meanings text l))) q after) (sym same-items) x)

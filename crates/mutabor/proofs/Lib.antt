@@ -8,5 +8,6 @@ pub mod ValidTables
 pub mod Steps
 pub mod ItemsRead
 pub mod Named
+pub mod Settled
 pub mod Valuing
 pub mod NamePlaces

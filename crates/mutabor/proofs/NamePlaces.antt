@@ -8,7 +8,8 @@ use lib.ListN.{length, getD, length-take}
 use lib.Seq.{getD-take}
 use Rattle.grammar.specs.declared.Item.{Item}
 use Rattle.grammar.specs.Items.{rows, rowSize, place, itemSlots}
-use Rattle.names.specs.Inner.{beginnings, mostDeclarations}
+use Rattle.limits.specs.Limits.{mostRows}
+use Rattle.names.specs.Inner.{beginnings}
 use Rattle.names.proofs.Held.{held-few}
 use Rattle.program.specs.Program.{programOf}
 use Rattle.program.specs.Text.{placeOf}
@@ -45,7 +46,7 @@ module _ {is : List Item} {items starts : List ℕ} {count n d : ℕ} (w : Ready
       ap (λ (l : List ℕ). getD l (rowSize * getD starts d 0 + 2) 0) (w .held .rows) ∙ third is _ (getD starts d 0) none inside
       ∙ ap (λ (k : ℕ). place (getD is k none)) begins ∙ sym (place-at is d declared-there none)
 
-  pub number-small : d < mostDeclarations
+  pub number-small : d < mostRows
   number-small = omega (arith, h, w .number, few-declarations (w .allowed))
 
   pub place-small : rowSize * getD starts d 0 + 2 < itemSlots

@@ -11,7 +11,7 @@ use Rattle.tables.specs.Layout.{Tables, fullSize, rowWidth, mostRows, mostTones
 use Rattle.tables.proofs.Sections.{same-tables}
 use Rattle.validity.proofs.Sizes.{sizes-of}
 use Rattle.grammar.specs.Reading.{readItems}
-use Rattle.names.specs.Names.{Meant, meanings}
+use Rattle.names.specs.Names.{meanings}
 use Rattle.program.specs.Text.{Verdict, refused, accepted, ifZero, byMeaning, readText}
 use Rattle.filling.specs.Inner.{blank}
 use Rattle.mutabor.specs.declared.TextReading.{TextReading}
@@ -90,16 +90,15 @@ pub items-refused : (text : List ℕ) {r : TextReading} {after : Tables} → (re
     → after ≡ blank → Leaves (byVerdict blank (readText text)) r after
 unfolding readText
 items-refused text {r} {after} h e f g =
-    subst (λ (v : Verdict). Leaves (byVerdict blank v) r after) (sym (if-not-zero (readItems text .number) (readItems text .place) (byMeaning (meanings text (readItems text .items))) h)) (refuses _ _ e f g)
+    subst (λ (v : Verdict). Leaves (byVerdict blank v) r after) (sym (if-not-zero (readItems text .number) (readItems text .place) (byMeaning text (meanings text (readItems text .items))) h)) (refuses _ _ e f g)
 
 pub items-read : (text : List ℕ) {r : TextReading} {after : Tables} → readItems text .number ≡ 0
-    → Leaves (byVerdict blank (byMeaning (meanings text (readItems text .items)))) r after → Leaves (byVerdict blank (readText text)) r after
+    → Leaves (byVerdict blank (byMeaning text (meanings text (readItems text .items)))) r after → Leaves (byVerdict blank (readText text)) r after
 unfolding readText
 items-read text {r} {after} h w =
-    subst (λ (v : Verdict). Leaves (byVerdict blank v) r after) (sym (if-zero (readItems text .number) (readItems text .place) (byMeaning (meanings text (readItems text .items))) h)) w
+    subst (λ (v : Verdict). Leaves (byVerdict blank v) r after) (sym (if-zero (readItems text .number) (readItems text .place) (byMeaning text (meanings text (readItems text .items))) h)) w
 
--- 5 and 6
-pub names-refused : (m : Meant) {r : TextReading} {after : Tables} → (m .number ≡ 0 → ⊥) → r .number ≡ m .number → r .place ≡ m .place → after ≡ blank
-    → Leaves (byVerdict blank (byMeaning m)) r after
-names-refused m {r} {after} h e f g =
-    subst (λ (v : Verdict). Leaves (byVerdict blank v) r after) (sym (if-not-zero (m .number) (m .place) _ h)) (refuses _ _ e f g)
+-- 5 and 6, and 24
+pub names-refused : (n p : ℕ) (v : Verdict) {r : TextReading} {after : Tables} → (n ≡ 0 → ⊥) → r .number ≡ n → r .place ≡ p → after ≡ blank
+    → Leaves (byVerdict blank (ifZero n p v)) r after
+names-refused n p v {r} {after} h e f g = subst (λ (x : Verdict). Leaves (byVerdict blank x) r after) (sym (if-not-zero n p v h)) (refuses n p e f g)

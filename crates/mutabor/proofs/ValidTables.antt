@@ -1,7 +1,7 @@
 -- The tables of a program that keeps "Numbers allowed" and whose values are in range are valid: no frame is answered 23 on their account.
 -- Assumes nothing.
 use mathlib.Core.Path.{_≡_, refl, sym, ap, _∙_, subst}
-use mathlib.Core.Bool.{Bool, true, not, _&&_}
+use mathlib.Core.Bool.{Bool, true, not, _&&_, false}
 use mathlib.Core.List.{List, [], _∷_, map, flatMap}
 use mathlib.Core.Option.{Option, some, none}
 use Prim.Native.Nat.{ℕ, _+_, _*_, _-_, _<_}
@@ -12,6 +12,7 @@ use lib.ListN.{length, length-map, getD}
 use Rattle.names.specs.Parts as parts
 use Rattle.names.specs.Names.{meant}
 use Rattle.values.specs.declared.Outcome.the-variants.{Done}
+use Rattle.values.proofs.Cases.{clash}
 use Rattle.tuning.specs.Desk.{beyond}
 use Rattle.tuning.specs.State.{places, heard}
 use Rattle.tuning.specs.declared.Tone.{Tone}
@@ -26,11 +27,11 @@ use Rattle.tables.proofs.Stored.{written-length}
 use Rattle.validity.specs.Valid.{isSum, isCapital, isSystemOrRetuning, isCalled, refersTo, isStart, isHarmony, isTrigger, declarationRight, validTables}
 use Rattle.validity.proofs.Sizes.{Sizes}
 use Rattle.validity.proofs.Laid.{valid-is, row-laid, rows-laid, declarations-laid, tones-laid, changes-laid, orders-laid, zeros-after, noughts-after}
-use Rattle.program.specs.Program.{Declaration, ratio, root, sequence, frequency, from, system, anchor, width, freshPeriod, onwardPeriod, tones, logic, harmony, Placed, Program, Position, mute, kept, named, Trigger, byLetter, byHarmony, Order}
+use Rattle.program.specs.Program.{Declaration, ratio, root, sequence, frequency, from, system, anchor, width, freshPeriod, onwardPeriod, tones, pattern, logic, harmony, Placed, Program, Position, mute, kept, named, Trigger, byLetter, byHarmony, Order}
 use Rattle.sets.proofs.Tests.{either-right}
 use Rattle.harmonies.specs.Harmonies.{harmonyOf}
 use Rattle.program.specs.Meaning.{declarationAt, valueOf, valued}
-use Rattle.program.specs.Allowed.{kindOf, isKind, Each, FitSystemPosition, FitStart, FitTrigger, FitOrder, Fits, Allowed}
+use Rattle.program.specs.Allowed.{isPattern, kindOf, isKind, Each, FitSystemPosition, FitStart, FitTrigger, FitOrder, Fits, Allowed}
 use Rattle.program.specs.Text.{accepted, readText}
 use Rattle.program.proofs.AcceptedText.{steps, fits-at, value-tone, value-period}
 use Rattle.filling.specs.Tables.{sumOf, toneOf, tonesOf, changeOf, changesOf, startCode, triggerCode, rowOf, ordersOf, laidOut, tablesOf}
@@ -44,22 +45,39 @@ use Rattle.mutabor.proofs.InRange.{sum-right, key-right, anchor-right, 
 -- ---- references: the kinds that a name may mean are those of the rows that it may refer to
 
 module _ (value : ℕ → ℤ) (i t c o : ℕ) where
-  -- what a start may mean, what an order may mean, and what a trigger may mean
-  kind-row : (d : Declaration) → (isKind (kindOf d) (meant parts.start) ≡ isSystemOrRetuning (rowOf value i t c o d))
-      × (isKind (kindOf d) (meant parts.order) ≡ isCalled (rowOf value i t c o d)) × (isKind (kindOf d) (meant parts.trigger) ≡ isHarmony (rowOf value i t c o d))
-  kind-row (ratio a b) = (refl, refl, refl)
-  kind-row (root a b) = (refl, refl, refl)
-  kind-row (sequence ts) = (refl, refl, refl)
-  kind-row (frequency f) = (refl, refl, refl)
-  kind-row (from k ts) = (refl, refl, refl)
-  kind-row (system a l ts) = (refl, refl, refl)
-  kind-row (anchor m) = (refl, refl, refl)
-  kind-row (width m) = (refl, refl, refl)
-  kind-row (freshPeriod ts) = (refl, refl, refl)
-  kind-row (onwardPeriod ts) = (refl, refl, refl)
-  kind-row (tones l) = (refl, refl, refl)
-  kind-row (logic x s os) = (refl, refl, refl)
-  kind-row (harmony ks) = (refl, refl, refl)
+  -- what a start may mean, what an order may mean, and what a trigger may mean; a retuning whose n is a placeholder is not called
+  kind-row : (d : Declaration) → isPattern d ≡ false
+      → (isKind (kindOf d) (meant parts.start) ≡ isSystemOrRetuning (rowOf value i t c o d)) × (isKind (kindOf d) (meant parts.order) ≡ isCalled (rowOf value i t c o d))
+  kind-row (ratio a b) e = (refl, refl)
+  kind-row (root a b) e = (refl, refl)
+  kind-row (sequence ts) e = (refl, refl)
+  kind-row (frequency f) e = (refl, refl)
+  kind-row (from k ts) e = (refl, refl)
+  kind-row (system a l ts) e = (refl, refl)
+  kind-row (anchor m) e = (refl, refl)
+  kind-row (width m) e = (refl, refl)
+  kind-row (freshPeriod ts) e = (refl, refl)
+  kind-row (onwardPeriod ts) e = (refl, refl)
+  kind-row (tones l) e = (refl, refl)
+  kind-row pattern e = absurd (clash refl e)
+  kind-row (logic x s os) e = (refl, refl)
+  kind-row (harmony ks) e = (refl, refl)
+
+  trigger-row : (d : Declaration) → isKind (kindOf d) (meant parts.trigger) ≡ isHarmony (rowOf value i t c o d)
+  trigger-row (ratio a b) = refl
+  trigger-row (root a b) = refl
+  trigger-row (sequence ts) = refl
+  trigger-row (frequency f) = refl
+  trigger-row (from k ts) = refl
+  trigger-row (system a l ts) = refl
+  trigger-row (anchor m) = refl
+  trigger-row (width m) = refl
+  trigger-row (freshPeriod ts) = refl
+  trigger-row (onwardPeriod ts) = refl
+  trigger-row (tones l) = refl
+  trigger-row pattern = refl
+  trigger-row (logic x s os) = refl
+  trigger-row (harmony ks) = refl
 
 -- ---- tables that are laid out
 
@@ -84,15 +102,15 @@ module _ (p : Program) (a : Allowed p) (v : valued p ≡ Done) where
   start-right : (s : Option ℕ) → FitStart p s → isStart laid (startCode s) ≡ true
   start-right none h = refl
   start-right (some k) h =
-      let w = kind-row value k (tonesBefore p k) (changesBefore p k) (ordersBefore p k) (declarationAt p k) in
-      refers-right isSystemOrRetuning k (h .within) (sym (w .0) ∙ h .kind)
+      let w = kind-row value k (tonesBefore p k) (changesBefore p k) (ordersBefore p k) (declarationAt p k) (h .whole) in
+      refers-right isSystemOrRetuning k (h .refers .within) (sym (w .0) ∙ h .refers .kind)
 
   trigger-right : (x : Trigger) → FitTrigger p x → isTrigger laid (triggerCode x) ≡ true
   trigger-right (byLetter c) h = rw (letter-right c h)
   trigger-right (byHarmony k) h =
-      let w = kind-row value k (tonesBefore p k) (changesBefore p k) (ordersBefore p k) (declarationAt p k) in
+      let w = trigger-row value k (tonesBefore p k) (changesBefore p k) (ordersBefore p k) (declarationAt p k) in
       let e : harmonyBase + k - harmonyBase ≡ k = omega arith in
-      either-right (isCapital (harmonyBase + k)) _ (rw (le-leb harmonyBase (harmonyBase + k) (omega arith), e) (refers-right isHarmony k (h .within) (sym (w .2) ∙ h .kind)))
+      either-right (isCapital (harmonyBase + k)) _ (rw (le-leb harmonyBase (harmonyBase + k) (omega arith), e) (refers-right isHarmony k (h .within) (sym w ∙ h .kind)))
 
   row-right : (k : ℕ) → k < length p → declarationRight laid (rowFor p k) ≡ true
   unfolding declarationRight
@@ -113,6 +131,7 @@ module _ (p : Program) (a : Allowed p) (v : valued p ≡ Done) where
       by-declaration (freshPeriod ts) e fit = rw (sum-right (sumOf value ts))
       by-declaration (onwardPeriod ts) e fit = rw (sum-right (sumOf value ts))
       by-declaration (tones l) e fit = let n = fit .positions in part-right 1 places (changesBefore p k) (length l) (n .some) (n .few)
+      by-declaration pattern e fit = refl
       by-declaration (logic c s os) e fit =
           let t = part-stands ordersOf p k h (filled-lists p .orders) (ap ordersOf e) refl in
           rw (
@@ -171,8 +190,8 @@ module _ (p : Program) (a : Allowed p) (v : valued p ≡ Done) where
   order-right : (x : Order) → FitOrder p x → orderRight x ≡ true
   order-right x fit =
       let k = x .calls in
-      let w = kind-row value k (tonesBefore p k) (changesBefore p k) (ordersBefore p k) (declarationAt p k) in
-      rw (trigger-right (x .trigger) (fit .trigger), refers-right isCalled k (fit .calls .within) (sym (w .1) ∙ fit .calls .kind))
+      let w = kind-row value k (tonesBefore p k) (changesBefore p k) (ordersBefore p k) (declarationAt p k) (fit .calls .whole) in
+      rw (trigger-right (x .trigger) (fit .trigger), refers-right isCalled k (fit .calls .refers .within) (sym (w .1) ∙ fit .calls .refers .kind))
 
   logic-right : (os : List Order) → Each (FitOrder p) os → every orderRight os ≡ true
   unfolding every

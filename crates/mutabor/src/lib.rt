@@ -1,7 +1,9 @@
 // The reader: a text becomes tables, or a number and a place, with every lent table zero.
 use filling::write_tables;
 use grammar::reading::read_items;
+use limits::MOST_DECLARATIONS;
 use names::resolve_names;
+use placeholders::settle;
 use status::DEPENDS_ON_ITSELF;
 use status::DONE;
 use status::TEXT_TOO_LONG;
@@ -23,14 +25,15 @@ ghost use Rattle.names.specs.Inner.{itemsIn, Held};
 ghost use Rattle.tables.specs.Layout.{tablesIn};
 ghost use Rattle.program.specs.Program.{programOf};
 ghost use Rattle.program.specs.Meaning.{valued};
-ghost use Rattle.program.specs.Text.{placeOf, byValue, byMeaning, readText};
+ghost use Rattle.placeholders.specs.Filling.{settled};
+ghost use Rattle.program.specs.Text.{placeOf, byValue, bySettling, byMeaning, readText};
 ghost use Rattle.valuation.specs.Inner.{Ready};
 ghost use Rattle.filling.specs.Inner.{blank};
 ghost use Rattle.mutabor.specs.Reading.{byVerdict, reading, Leaves};
-ghost use Rattle.mutabor.specs.Inner.{Cleared};
+ghost use Rattle.mutabor.specs.Inner.{Cleared, Resolved};
 
-// Room for an item at every byte of the longest text, three numbers each, of which the last is a name's place.
-const ITEM_SLOTS: usize = 98_304;
+// Room for an item at every symbol of the longest text and two at each call, three numbers each, of which the last is a name's place.
+const ITEM_SLOTS: usize = 101_571;
 
 const ITEM_SIZE: usize = 3;
 
@@ -97,7 +100,40 @@ fn take_declarations(
     }
 }
 
-// Resolves the names (5, 6), and goes on with the declarations.
+// Settles the placeholders (24), and goes on with the declarations.
+fn take_names(
+    text: &[u8],
+    items: &mut [u32],
+    count: usize,
+    starts: &mut [u32],
+    n: usize,
+    numbers: &mut [i32],
+    codes: &mut [u16],
+) -> TextReading
+    ghost { List Item }
+    requires { λ is. ⌜ itemsIn count (now items) ≡ is ⌝ }
+    requires { λ is. ⌜ Resolved (now text) is (now items) (now starts) n ⌝ }
+    requires { λ is. ⌜ tablesIn (now numbers) (now codes) ≡ blank ⌝ }
+    ensures { λ is r. ⌜ Leaves (byVerdict blank (bySettling (settled (now (text .entry)) is))) r (tablesIn (now (numbers .exit)) (now (codes .exit))) ⌝ }
+{
+    let settled = settle(text, items, count, starts, n);
+    if settled.number != DONE {
+        return TextReading {
+            number: settled.number,
+            place: settled.place,
+        };
+    }
+    take_declarations(
+        items,
+        settled.items,
+        starts,
+        settled.declarations,
+        numbers,
+        codes,
+    )
+}
+
+// Resolves the names (5, 6), and goes on with the placeholders.
 fn take_items(
     text: &[u8],
     items: &mut [u32],
@@ -110,9 +146,9 @@ fn take_items(
     requires { λ is. ⌜ Held is (now items) ⌝ }
     requires { λ is. ⌜ (readItems (now text) .items ≡ is) × (readItems (now text) .number ≡ done) ⌝ }
     requires { λ is. ⌜ tablesIn (now numbers) (now codes) ≡ blank ⌝ }
-    ensures { λ is r. ⌜ Leaves (byVerdict blank (byMeaning (meanings (now (text .entry)) is))) r (tablesIn (now (numbers .exit)) (now (codes .exit))) ⌝ }
+    ensures { λ is r. ⌜ Leaves (byVerdict blank (byMeaning (now (text .entry)) (meanings (now (text .entry)) is))) r (tablesIn (now (numbers .exit)) (now (codes .exit))) ⌝ }
 {
-    let mut declared = [0u32; ROWS];
+    let mut declared = [0u32; MOST_DECLARATIONS];
     let mut starts = [0u32; ROWS];
     let named = resolve_names(text, items, count, &mut declared, &mut starts);
     if named.number != DONE {
@@ -122,7 +158,7 @@ fn take_items(
         };
     }
     let n = named.declarations;
-    take_declarations(items, count, &starts, n, numbers, codes)
+    take_names(text, items, count, &mut starts, n, numbers, codes)
 }
 
 // Reads the symbols (2, 3, 4, 9), and goes on with the items.

@@ -4,7 +4,7 @@ use native.Mathlib.Omega.{arith}
 use Rattle.names.specs.Inner.{Declarable}
 use Rattle.names.proofs.Limits.{read-declarable}
 use Rattle.mutabor.proofs.Steps.{names-refused}
-use Rattle.mutabor.proofs.Named.{ready-now, names-resolved}
+use Rattle.mutabor.proofs.Named.{resolved-now, names-resolved}
 use borrow.Author.Needs.{needs}
 use Rattle.mutabor.proofs.take_items.Statement.{statement}
 use Rattle.mutabor.proofs.take_items.Tie as tie
@@ -22,13 +22,19 @@ same-length : tie.Need-same-length
 same-length c = search needs
 
 returns : tie.Need-returns
-returns c = names-refused _ (λ h. c .if1 .taken (c .before .before .before .before .before .before .resolve-names .ensures .number ∙ h)) (c .before .before .before .before .before .before .resolve-names .ensures .number) (c .before .before .before .before .before .before .resolve-names .ensures .place) (c .before .before .before .before .before .before .before .before .before .before .before .before .before .pre .1 .1)
+returns c = names-refused _ _ _ (λ h. c .if1 .taken (c .before .before .before .before .before .before .resolve-names .ensures .number ∙ h)) (c .before .before .before .before .before .before .resolve-names .ensures .number) (c .before .before .before .before .before .before .resolve-names .ensures .place) (c .before .before .before .before .before .before .before .before .before .before .before .before .before .pre .1 .1)
 
-slice-aggregate-take-declarations : tie.Need-slice-aggregate-take-declarations
-slice-aggregate-take-declarations c = search needs
+slice-aggregate-take-names : tie.Need-slice-aggregate-take-names
+slice-aggregate-take-names c = search needs
 
-take-declarations-requires : tie.Need-take-declarations-requires
-take-declarations-requires c κs = (ready-now _ _ (c .before .before .before .before .before .before .before .before .before .before .resolve-names .ensures) (c .before .before .before .before .if1 .left) _ refl (c .before .before .before .before .before .before .before .before .before .before .before .before .before .before .before .before .before .pre .1 .0 .0) (c .before .before .before .before .before .before .before .before .before .before .before .before .before .before .before .before .before .pre .1 .0 .1) (c .before .before .before .before .before .before .before .before .before .before .resolve-names .kept .1 .0 ∙ c .before .before .before .before .before .before .before .before .before .before .before .before .before .before .before .before .before .pre .0 .size), c .before .before .before .before .before .before .before .before .before .before .before .before .before .before .before .before .before .pre .1 .1)
+take-names-requires : tie.Need-take-names-requires
+take-names-requires c κs =
+    let at = c .before .before .before .before .before .before .before .before .before .before in
+    let given = at .before .before .before .before .before .before .before .pre in (
+      resolved-now _ _ (at .resolve-names .ensures) (c .before .before .before .before .if1 .left) _ refl (given .1 .0 .0) (given .1 .0 .1) (at .resolve-names .kept .1 .0 ∙ given .0 .size)
+          (omega (arith, at .resolve-names .kept .1 .1 .1 .1 .0)),
+      given .1 .1,
+    )
 
 same-length-2 : tie.Need-same-length-2
 same-length-2 c = search needs
@@ -40,7 +46,11 @@ same-length-4 : tie.Need-same-length-4
 same-length-4 c = search needs
 
 returns-2 : tie.Need-returns-2
-returns-2 c = names-resolved _ _ (c .before .before .before .before .before .before .before .before .before .before .before .before .before .before .resolve-names .ensures) (c .before .before .before .before .before .before .before .before .if1 .left) _ refl (c .before .before .before .before .before .before .before .before .before .before .before .before .before .before .before .before .before .before .before .before .before .pre .1 .0 .0) (c .before .before .before .before .before .before .before .before .before .before .before .before .before .before .before .before .before .before .before .before .before .pre .1 .0 .1) (c .before .before .before .before .before .before .before .before .before .before .before .before .before .before .resolve-names .kept .1 .0 ∙ c .before .before .before .before .before .before .before .before .before .before .before .before .before .before .before .before .before .before .before .before .before .pre .0 .size) (c .before .before .before .take-declarations .ensures)
+returns-2 c =
+    let at = c .before .before .before .before .before .before .before .before .before .before .before .before .before .before .before .before .before in
+    let given = at .before .before .before .before .before .before .before .pre in
+    names-resolved _ _ (at .resolve-names .ensures) (c .before .before .before .before .before .before .before .before .before .before .before .if1 .left) _ refl (given .1 .0 .0) (given .1 .0 .1) (at .resolve-names .kept .1 .0 ∙ given .0 .size)
+    (c .before .before .before .before .before .before .take-names .ensures)
 
 pub take-items-spec : {M : Type 1} → statement M
 take-items-spec =
@@ -51,8 +61,8 @@ take-items-spec =
     resolve-names-requires
     same-length
     returns
-    slice-aggregate-take-declarations
-    take-declarations-requires
+    slice-aggregate-take-names
+    take-names-requires
     same-length-2
     same-length-3
     same-length-4

@@ -30,7 +30,7 @@ enum-known-called c = search needs
 
 -- the start that is found
 found : (c : tie.After-known-told Inv-loop μ-loop) → let args = c .before .before .before .before .before .before .before .args in
-    startOf (itemsBetween (args .items .now) (args .from) (args .to)) ≡ some (c .before .called .given .0 .0)
+    startOf (itemsBetween (args .items .now) (args .from) (args .to)) ≡ some (c .before .called .given .0 .1 .0)
 found c =
     let at-item-at = c .before .before .before in
     let at-loop-test = at-item-at .before in

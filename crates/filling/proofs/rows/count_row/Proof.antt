@@ -10,7 +10,7 @@ use Rattle.tuning.specs.declared.Retuning.the-variants.{Anchor, Width, Period, 
 use Rattle.tuning.proofs.Retuning as forms
 use Rattle.tables.specs.declared.Counts.{Counts}
 use Rattle.tables.specs.declared.Row.{Row}
-use Rattle.tables.specs.declared.Row.the-variants.{Unused, Interval, Tone, System, Retuning, Logic, Harmony}
+use Rattle.tables.specs.declared.Row.the-variants.{Unused, Interval, Tone, System, Retuning, Logic, Harmony, Pattern}
 use Rattle.tables.proofs.Row as rows
 use Rattle.filling.specs.Inner.{oneMore, countedBy}
 use Rattle.filling.proofs.rows.count_row.Statement.{statement}
@@ -51,7 +51,7 @@ returns-4 : tie.Need-returns-4
 returns-4 c = rw (c .before .row3 .given .1)
 
 abbrev withoutLists : List ℕ
-withoutLists = 0 ∷ 1 ∷ 2 ∷ 6 ∷ []
+withoutLists = 0 ∷ 1 ∷ 2 ∷ 6 ∷ 7 ∷ []
 
 no-list : (used : Counts) (r : Row) → OneOf withoutLists (tagOf rows.the-type r) → oneMore used (used .tones) (used .changes) (used .orders) ≡ countedBy used r
 no-list used Unused h = refl
@@ -61,6 +61,7 @@ no-list used (System a P m n) h = absurd (miss withoutLists 3 tt h)
 no-list used (Retuning r m n) h = absurd (miss withoutLists 4 tt h)
 no-list used (Logic x s m n) h = absurd (miss withoutLists 5 tt h)
 no-list used (Harmony y z) h = refl
+no-list used Pattern h = refl
 
 returns-5 : tie.Need-returns-5
 returns-5 c = no-list _ (c .before .before .args .row) (c .match .keys4)

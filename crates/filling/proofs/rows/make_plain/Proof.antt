@@ -42,6 +42,9 @@ cast-make-asking c =
 make-asking-requires : tie.Need-make-asking-requires
 make-asking-requires c κs = search needs
 
+enum-told-5 : tie.Need-enum-told-5
+enum-told-5 c = search needs
+
 interval-at-requires : tie.Need-interval-at-requires
 interval-at-requires c κs = search needs
 
@@ -63,8 +66,11 @@ returns-5 : tie.Need-returns-5
 returns-5 c = let g = c .before .before .item .given in as-asking _ (g .0 .0) (g .0 .1 .0) (g .1) (c .make-asking .ensures)
 
 returns-6 : tie.Need-returns-6
-returns-6 c =
-    ap (λ (z : ℤ). Interval (record { 0 = z })) (c .interval-at .ensures) ∙ as-interval _ (c .before .before .args .item) (c .before .match .keys6)
+returns-6 c = rw (c .enum-told5 .given .1)
+
+returns-7 : tie.Need-returns-7
+returns-7 c =
+    ap (λ (z : ℤ). Interval (record { 0 = z })) (c .interval-at .ensures) ∙ as-interval _ (c .before .before .args .item) (c .before .match .keys7)
 
 pub make-plain-spec : {M : Type 1} → statement M
 make-plain-spec =
@@ -81,10 +87,12 @@ make-plain-spec =
     enum-known-item
     cast-make-asking
     make-asking-requires
+    enum-told-5
     interval-at-requires
     returns
     returns-2
     returns-3
     returns-4
     returns-5
-    returns-6)
+    returns-6
+    returns-7)

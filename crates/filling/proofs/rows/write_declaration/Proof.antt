@@ -1,34 +1,19 @@
--- The row is stored, and says how many there are then.
-use mathlib.Core.Path.{sym, _∙_, subst}
-use Rattle.tables.specs.declared.Row.{Row}
-use Rattle.tables.specs.Layout.{numbersOf}
-use Rattle.tables.specs.Values.{NumbersFit}
-use Rattle.filling.proofs.Entries.{numbers-fit}
-use Rattle.filling.proofs.Slices.{row-in}
+-- Its parts are what its items are after the names of placeholders.
+use mathlib.Core.Path.{sym, ap}
 use borrow.Author.Needs.{needs}
+use Rattle.program.specs.Program.{formOf}
+use Rattle.filling.proofs.Written.{writable-as, added-as}
 use Rattle.filling.proofs.rows.write_declaration.Statement.{statement}
 use Rattle.filling.proofs.rows.write_declaration.Tie as tie
 
-write-lists-requires : tie.Need-write-lists-requires
-write-lists-requires c κs = search needs
+skip-names-requires : tie.Need-skip-names-requires
+skip-names-requires c κs = search needs
 
-sub-store-row : tie.Need-sub-store-row
-sub-store-row c = search needs
-
-part-store-row-start : tie.Need-part-store-row-start
-part-store-row-start c = search needs
-
-part-store-row-end : tie.Need-part-store-row-end
-part-store-row-end c = search needs
-
-cast-store-row : tie.Need-cast-store-row
-cast-store-row c = search needs
-
-store-row-requires : tie.Need-store-row-requires
-store-row-requires c κs = subst (λ (r : Row). NumbersFit (numbersOf r)) (sym (c .before .before .before .before .before .write-lists .ensures .rowed .row)) (numbers-fit _ _ _ (c .before .before .before .before .before .before .before .before .before .before .pre .1))
-
-count-row-requires : tie.Need-count-row-requires
-count-row-requires c κs = search needs
+write-parts-requires : tie.Need-write-parts-requires
+write-parts-requires c κs =
+    let at = c .before .before in
+    let given = at .before .before .before .pre in
+    (given .0, writable-as (ap formOf (sym (at .skip-names .ensures))) (given .1))
 
 same-length : tie.Need-same-length
 same-length c = search needs
@@ -37,22 +22,11 @@ same-length-2 : tie.Need-same-length-2
 same-length-2 c = search needs
 
 returns : tie.Need-returns
-returns c = let w = c .before .before .before .before .before .before .before .before .write-lists in
-    let s = c .before .before .before .before .before .before .before .before .before .before .before .before .before .pre .0 in
-    row-in (record { all-numbers = w .kept .1 .1 .1 .1 .1 .0 ∙ s .all-numbers; all-codes = w .kept .1 .1 .1 .1 .1 .1 .0 ∙ s .all-codes }) (w .ensures)
-    (c .before .before .store-row .last .0) (c .before .before .store-row .kept .0) (c .before .before .store-row .ensures) (c .count-row .ensures)
+returns c =
+    let put = c .before .before .before in
+    let at = put .before .before .before in
+    added-as (ap formOf (at .skip-names .ensures)) (put .write-parts .ensures)
 
 pub write-declaration-spec : {M : Type 1} → statement M
 write-declaration-spec =
-    tie.close
-    (tie.spec
-    write-lists-requires
-    sub-store-row
-    part-store-row-start
-    part-store-row-end
-    cast-store-row
-    store-row-requires
-    count-row-requires
-    same-length
-    same-length-2
-    returns)
+    tie.close (tie.spec skip-names-requires write-parts-requires same-length same-length-2 returns)

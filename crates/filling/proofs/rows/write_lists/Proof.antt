@@ -8,7 +8,7 @@ use Rattle.grammar.specs.declared.Item.{Item}
 use Rattle.grammar.specs.declared.Item.the-variants as item
 use Rattle.names.specs.Parts.{part}
 use Rattle.tables.specs.declared.Row.the-variants.{Interval}
-use Rattle.program.specs.Program.{Declaration, declarationOf, periodOf, tones, grouped, logic, startOf, ordersOf, harmony, keysOf}
+use Rattle.program.specs.Program.{Declaration, formOf, periodOf, tones, grouped, logic, startOf, ordersOf, harmony, keysOf}
 use Rattle.names.specs.Inner.{itemsBetween}
 use Rattle.filling.specs.Inner.{begins, triggerBy, triggersHere, Writable}
 use Rattle.filling.proofs.Inside.{inside}
@@ -31,31 +31,31 @@ module _ (c : tie.After-item-at) where
   abbrev rest : List Item
   rest = itemsBetween (start .args .items .now) (start .args .from + 1) (start .args .to)
 
-  first : {x : Item} → c .item-at .result ≡ x → declarationOf body ≡ declarationOf (x ∷ rest)
-  first e = ap declarationOf (item-next _ _ _ (sym e ∙ c .item-at .ensures) (c .before .if1 .left))
+  first : {x : Item} → c .item-at .result ≡ x → formOf body ≡ formOf (x ∷ rest)
+  first e = ap formOf (item-next _ _ _ (sym e ∙ c .item-at .ensures) (c .before .if1 .left))
 
-  onward : c .item-at .result ≡ item.Onward → declarationOf body ≡ periodOf body
+  onward : c .item-at .result ≡ item.Onward → formOf body ≡ periodOf body
   onward e = first e ∙ ap periodOf (sym (item-next _ _ _ (sym e ∙ c .item-at .ensures) (c .before .if1 .left)))
 
-  positions : begins (part (c .item-at .result)) ≡ true → declarationOf body ≡ tones (grouped body .positions)
+  positions : begins (part (c .item-at .result)) ≡ true → formOf body ≡ tones (grouped body .positions)
   positions e =
       first refl
       ∙ as-tones (inside (c .item-at .result)) e rest
       ∙ ap (λ (is : List Item). tones (grouped is .positions)) (sym (item-next _ _ _ (c .item-at .ensures) (c .before .if1 .left)))
 
-  keys : {x : Item} → c .item-at .result ≡ x → declarationOf (x ∷ rest) ≡ harmony (keysOf (x ∷ rest)) → declarationOf body ≡ harmony (keysOf body)
+  keys : {x : Item} → c .item-at .result ≡ x → formOf (x ∷ rest) ≡ harmony (keysOf (x ∷ rest)) → formOf body ≡ harmony (keysOf body)
   keys e q =
       first e
       ∙ q
       ∙ ap (λ (is : List Item). harmony (keysOf is)) (sym (item-next _ _ _ (sym e ∙ c .item-at .ensures) (c .before .if1 .left)))
 
   -- whatever it is equal to can be written
-  writable : {d : Declaration} → declarationOf body ≡ d → Writable (start .args .values .now) (start .args .used) d
+  writable : {d : Declaration} → formOf body ≡ d → Writable (start .args .values .now) (start .args .used) d
   writable e = subst (λ (d : Declaration). Writable (start .args .values .now) (start .args .used) d) e (start .pre .1)
 
 -- a logic, by the trigger with which it begins
 triggered : (c : tie.After-trigger) → let here = c .before .before .before .before .before in
-    declarationOf (body here) ≡ logic (triggerBy (c .trigger .given .0 .0)) (startOf (rest here)) (ordersOf (rest here))
+    formOf (body here) ≡ logic (triggerBy (c .trigger .given .0 .0)) (startOf (rest here)) (ordersOf (rest here))
 triggered c =
     let here = c .before .before .before .before .before in
     let e = sym (c .before .before .read-trigger .ensures) ∙ ap triggersHere (c .trigger .given .1) in
@@ -79,7 +79,7 @@ interval-at-requires c κs = search needs
 returns : tie.Need-returns
 returns c =
     let e = ap (λ (z : ℤ). Interval (record { 0 = z })) (c .interval-at .ensures) in
-    rowed-in-as (ap declarationOf (between-none _ _ _ (c .before .if1 .taken))) (record { rowed = record { row = e; lists = refl }; rows = refl })
+    rowed-in-as (ap formOf (between-none _ _ _ (c .before .if1 .taken))) (record { rowed = record { row = e; lists = refl }; rows = refl })
 
 item-at-requires : tie.Need-item-at-requires
 item-at-requires c κs = search needs
