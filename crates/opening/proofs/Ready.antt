@@ -13,9 +13,10 @@ use Rattle.values.specs.declared.Outcome.the-variants.{Done, Circular, OutOfRan
 use Rattle.tables.specs.Layout.{Tables, fullSize}
 use Rattle.grammar.specs.Reading.{readItems}
 use Rattle.names.specs.Names.{Meant, meanings}
+use Rattle.placeholders.specs.Filling.{settled}
 use Rattle.program.specs.Program.{Program, programOf}
 use Rattle.program.specs.Meaning.{valued}
-use Rattle.program.specs.Text.{Verdict, refused, accepted, byValue, ifZero, byMeaning, readText}
+use Rattle.program.specs.Text.{Verdict, refused, accepted, byValue, ifZero, bySettling, byMeaning, readText}
 use Rattle.program.proofs.AllowedText.{accepted-allowed}
 use Rattle.filling.specs.Tables.{tablesOf}
 use Rattle.hexadecimal.specs.Digits.{hexes}
@@ -43,14 +44,17 @@ by-value p (Circular i) = λ e. omega arith
 by-value p (OutOfRange i) = λ e. omega arith
 by-value p Done = tt
 
-by-meaning : (m : Meant) → numbered (byMeaning m)
-by-meaning m = if-zero (m .number) (m .place) _ (by-value (programOf (m .items)) (valued (programOf (m .items))))
+by-settling : (m : Meant) → numbered (bySettling m)
+by-settling m = if-zero (m .number) (m .place) _ (by-value (programOf (m .items)) (valued (programOf (m .items))))
+
+by-meaning : (text : List ℕ) (m : Meant) → numbered (byMeaning text m)
+by-meaning text m = if-zero (m .number) (m .place) _ (by-settling (settled text (m .items)))
 
 text-numbered : (text : List ℕ) → numbered (readText text)
 unfolding readText
 text-numbered text =
     let r = readItems text in
-    if-zero (r .number) (r .place) _ (by-meaning (meanings text (r .items)))
+    if-zero (r .number) (r .place) _ (by-meaning text (meanings text (r .items)))
 
 -- number 0: the tables are those of an accepted text
 pub ready : (text : List ℕ) (t : Tables) → reading text t .number ≡ done → validDesk (reading text t .tables) startDesk ≡ true

@@ -14,7 +14,7 @@ use lib.Seq.{slice, slice-cons}
 use Rattle.limits.specs.Limits.{firstLetter, lastLetter}
 use Rattle.tuning.proofs.Lists.{both}
 use Rattle.tables.specs.declared.Row.{Row as TableRow}
-use Rattle.tables.specs.declared.Row.the-variants.{Unused, Interval, Tone, System, Retuning, Logic, Harmony}
+use Rattle.tables.specs.declared.Row.the-variants.{Unused, Interval, Tone, System, Retuning, Logic, Harmony, Pattern}
 use Rattle.tables.specs.Layout.{Tables, rowCount, orderCount, rowAt, readAt, rowOf, harmonyBase, asLogic, asHarmony}
 use Rattle.validity.specs.Valid.{isCapital, validTables}
 use Rattle.validity.proofs.Laws.{valid-of, ValidRow, ValidTrigger, of-letter, of-harmony, row-valid, order-trigger}
@@ -33,6 +33,7 @@ module _ (t : Tables) (v : validTables t ≡ true) where
   sets-fit (Retuning r from to) h = tt
   sets-fit (Logic c s from to) h = tt
   sets-fit (Harmony needed named) h = (h .needed, h .named)
+  sets-fit Pattern h = tt
 
   pub audible : (c : ℕ) → ValidTrigger t c → Audible (t .rows) c
   audible c (of-letter h) k =
@@ -48,6 +49,7 @@ module _ (t : Tables) (v : validTables t ≡ true) where
   logic-audible (Retuning r from to) h = tt
   logic-audible (Logic c s from to) h = audible c (h .trigger)
   logic-audible (Harmony needed named) h = tt
+  logic-audible Pattern h = tt
 
   pub audible-rows : AudibleRows (t .rows) (rowCount t)
   audible-rows i h = logic-audible (rowAt t i) (row-valid t v i h)

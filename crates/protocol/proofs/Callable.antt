@@ -15,7 +15,7 @@ use Rattle.tuning.specs.declared.ToneChanges.{ToneChanges}
 use Rattle.tuning.proofs.Held.{ValidTuning, held-coded, length-coded, valid-held}
 use Rattle.tuning.proofs.Laws.{ValidAction, state-valid}
 use Rattle.tables.specs.declared.Row.{Row as TableRow}
-use Rattle.tables.specs.declared.Row.the-variants.{Unused, Interval, Tone, System, Retuning, Logic, Harmony}
+use Rattle.tables.specs.declared.Row.the-variants.{Unused, Interval, Tone, System, Retuning, Logic, Harmony, Pattern}
 use Rattle.tables.specs.Layout.{Tables, rowCount, rowAt, tonesFrom, changesFrom, toneOf}
 use Rattle.tables.specs.Values as values
 use Rattle.tables.proofs.Lists.{part-length}
@@ -40,6 +40,7 @@ module _ (t : Tables) (v : validTables t ≡ true) where
   callable-row (Retuning r from to) h = h
   callable-row (Logic c s from to) h = tt
   callable-row (Harmony needed named) h = tt
+  callable-row Pattern h = tt
 
   callable : (k : ℕ) → k < rowCount t → Callable t k
   callable k h = record { fields = fields-fit t v k h; row = callable-row (rowAt t k) (row-valid t v k h) }
@@ -74,6 +75,7 @@ module _ (t : Tables) (v : validTables t ≡ true) where
   action-valid (Retuning r from to) h = retuning-valid r (values.listed (changesFrom t from to))
   action-valid (Logic c s from to) h = tt
   action-valid (Harmony needed named) h = tt
+  action-valid Pattern h = tt
 
   pub call-valid : (s : State) (k : ℕ) → k < rowCount t → Whole s → Whole (tunedBy t s k .state)
   call-valid s k h w = go (actionAt t k) (action-valid (rowAt t k) (row-valid t v k h))

@@ -11,7 +11,7 @@ use Rattle.tuning.specs.Desk.{cents}
 use Rattle.tuning.specs.declared.State.{State}
 use Rattle.tuning.specs.declared.Reply.{Reply}
 use Rattle.tables.specs.declared.Row.{Row as TableRow}
-use Rattle.tables.specs.declared.Row.the-variants.{Unused, Interval, Tone, System, Retuning, Logic, Harmony}
+use Rattle.tables.specs.declared.Row.the-variants.{Unused, Interval, Tone, System, Retuning, Logic, Harmony, Pattern}
 use Rattle.tables.specs.Layout.{Tables, rowAt}
 use Rattle.tables.proofs.Row as variants
 use Rattle.protocol.specs.declared.Callee.{Callee}
@@ -25,7 +25,7 @@ use Rattle.protocol.specs.Inner.{callsOf, struckBy, tuned, tunedBy, foun
 
 -- the variants of a row that call nothing
 abbrev pub uncalled : List ℕ
-uncalled = 0 ∷ 1 ∷ 2 ∷ 5 ∷ 6 ∷ []
+uncalled = 0 ∷ 1 ∷ 2 ∷ 5 ∷ 6 ∷ 7 ∷ []
 
 module _ (t : Tables) (s : State) where
   pub call-none : (r : TableRow) → OneOf uncalled (tagOf variants.the-type r)
@@ -37,6 +37,7 @@ module _ (t : Tables) (s : State) where
   call-none (Retuning r from to) h = absurd (miss uncalled 4 tt h)
   call-none (Logic c n from to) h = refl
   call-none (Harmony needed named) h = refl
+  call-none Pattern h = refl
 
   pub call-row : (k : ℕ) {r : TableRow} → r ≡ rowAt t k → tuned s (actionBy t r) ≡ tunedBy t s k
   call-row k e = ap (λ (x : TableRow). tuned s (actionBy t x)) e

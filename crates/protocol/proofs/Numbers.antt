@@ -6,7 +6,7 @@ use mathlib.Core.Option.{Option, some, none}
 use Prim.Native.Nat.{ℕ}
 use lib.Dec.{eqb}
 use lib.IntN.{ℤ}
-use Rattle.status.specs.Status.{done, anchorOutOfRange, widthOutOfRange, periodOutOfRange, endSilent, toneOutOfRange, keyUnplayable, keyHeld, keyNotHeld, keySilent, letterUnbound, badFrame}
+use Rattle.status.specs.Status.{done, divisionByZero, anchorOutOfRange, widthOutOfRange, periodOutOfRange, endSilent, toneOutOfRange, keyUnplayable, keyHeld, keyNotHeld, keySilent, letterUnbound, badFrame}
 use Rattle.tuning.specs.Tuning.{Tuning, Action, anchorTo, widthTo, periodTo, tonesTo, system}
 use Rattle.tuning.specs.Scale.{Sound, muted, sounds}
 use Rattle.tuning.specs.Desk.{cents, isPlayable, Check, firstFailing, checks, called}
@@ -27,6 +27,7 @@ use Rattle.protocol.specs.Answers.{letterOutcome, moveOutcome, soundAt, 
 
 pub record OfCalls (P : ℕ → Type 0) : Type 0 where
   pub taken : P done
+  pub divided : P divisionByZero
   pub anchor : P anchorOutOfRange
   pub width : P widthOutOfRange
   pub period : P periodOutOfRange
@@ -64,7 +65,7 @@ module _ (P : ℕ → Type 0) where
       where
         known : (c : Action cents) → Each (checks s c)
         known (anchorTo m) = (h .anchor, (h .ends, (h .tone, tt)))
-        known (widthTo m) = (h .width, (h .ends, (h .tone, (h .period, tt))))
+        known (widthTo m) = (h .divided, (h .width, (h .ends, (h .tone, (h .period, tt)))))
         known (periodTo m) = (h .period, tt)
         known (tonesTo l) = (h .tone, tt)
         known (system y) = tt

@@ -9,7 +9,7 @@ use borrow.Author.Tests.{ltb-true}
 use lib.Dec.{ltb}
 use Rattle.tuning.proofs.Lists.{both}
 use Rattle.tables.specs.declared.Row.{Row as TableRow}
-use Rattle.tables.specs.declared.Row.the-variants.{Unused, Interval, Tone, System, Retuning, Logic, Harmony}
+use Rattle.tables.specs.declared.Row.the-variants.{Unused, Interval, Tone, System, Retuning, Logic, Harmony, Pattern}
 use Rattle.tables.specs.Layout.{Tables, rowCount, rowAt, asLogic}
 use Rattle.validity.specs.Valid.{isLogic, validTables}
 use Rattle.validity.proofs.Laws.{valid-of, ValidRow, row-valid, fields-fit, order-valid}
@@ -32,6 +32,7 @@ module _ (t : Tables) (v : validTables t ≡ true) where
   orders-there (System a P from to) h = tt
   orders-there (Retuning r from to) h = tt
   orders-there (Harmony needed named) h = tt
+  orders-there Pattern h = tt
   orders-there (Logic c s from to) h =
       let w = valid-of t v in
       record {
@@ -57,6 +58,7 @@ module _ (t : Tables) (v : validTables t ≡ true) where
   order-within p (System a P from to) h {k} e = absurd (Option·none-ne-some k e)
   order-within p (Retuning r from to) h {k} e = absurd (Option·none-ne-some k e)
   order-within p (Harmony needed named) h {k} e = absurd (Option·none-ne-some k e)
+  order-within p Pattern h {k} e = absurd (Option·none-ne-some k e)
   order-within p (Logic c s from to) h {k} e =
       let o = order-called p (t .triggers) (t .calls) from to (orders-there (Logic c s from to) h .calls) e in
       subst (λ (x : ℕ). x < rowCount t) (o .is) (order-valid t v (o .index) (omega (arith, o .most, h .within)) .within)
@@ -80,6 +82,7 @@ module _ (t : Tables) (v : validTables t ≡ true) where
     calls-within k (System b P from to) w l = (l, tt)
     calls-within k (Retuning r from to) w l = (l, tt)
     calls-within k (Harmony needed named) w l = (l, tt)
+    calls-within k Pattern w l = (l, tt)
     calls-within k (Logic c zero from to) w l = (l, tt)
     calls-within k (Logic c (suc j) from to) w l =
         let z = w .start (omega arith) .within in

@@ -12,7 +12,7 @@ use Rattle.integers.specs.Parts.{up}
 use Rattle.orders.specs.declared.Kind.{Kind}
 use Rattle.orders.specs.declared.Kind.the-variants as kind
 use Rattle.tables.specs.declared.Row.{Row as TableRow}
-use Rattle.tables.specs.declared.Row.the-variants.{Unused, Interval, Tone, System, Retuning, Logic, Harmony}
+use Rattle.tables.specs.declared.Row.the-variants.{Unused, Interval, Tone, System, Retuning, Logic, Harmony, Pattern}
 use Rattle.tables.specs.Layout.{Tables, rowCount, logicForm, readAt, rowOf, rowAt, asLogic}
 use Rattle.tables.proofs.Row as variants
 use Rattle.tables.proofs.Rows.{form-row}
@@ -43,7 +43,7 @@ told o e h = back o ∙ ap optionOf (sym e ∙ h)
 
 -- the variants of a row that is no logic
 abbrev pub noLogic : List ℕ
-noLogic = 0 ∷ 1 ∷ 2 ∷ 3 ∷ 4 ∷ 6 ∷ []
+noLogic = 0 ∷ 1 ∷ 2 ∷ 3 ∷ 4 ∷ 6 ∷ 7 ∷ []
 
 module _ (t : Tables) (p : ℕ → Bool) where
   pub no-orders : (r : TableRow) → OneOf noLogic (tagOf variants.the-type r) → none ≡ orderBy t p r
@@ -54,6 +54,7 @@ module _ (t : Tables) (p : ℕ → Bool) where
   no-orders (Retuning r from to) h = refl
   no-orders (Logic c s from to) h = absurd (miss noLogic 5 tt h)
   no-orders (Harmony needed named) h = refl
+  no-orders Pattern h = refl
 
   module _ (a : Active) {o : Option ℕ} (e : o ≡ none) where
     else-order : orderOf t p a ≡ elseOrder t a p o
@@ -78,6 +79,7 @@ logic-called p rows k h = ap (λ (x : Kind). byKind x k) (sym (go (rowOf (readAt
     go (Retuning r from to) h = absurd (false≢true h)
     go (Logic c s from to) h = refl
     go (Harmony needed named) h = absurd (false≢true h)
+    go Pattern h = absurd (false≢true h)
 
 calls-itself : (a : Active) (k : ℕ) (r : TableRow) → isLogicKind (kindOf r) ≡ false
     → _≡_ {A = Struck} (record { active = a; calls = k ∷ [] }) (callsAs a k (asLogic r))
@@ -88,6 +90,7 @@ calls-itself a k (System b P from to) h = refl
 calls-itself a k (Retuning r from to) h = refl
 calls-itself a k (Logic c s from to) h = absurd (false≢true (sym h))
 calls-itself a k (Harmony needed named) h = refl
+calls-itself a k Pattern h = refl
 
 struck-as : (t : Tables) (a : Active) (o : Option ℕ) → struckAs (t .rows) a (calledIn (t .rows) o) ≡ called t a o
 unfolding rowOf

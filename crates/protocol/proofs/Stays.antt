@@ -19,7 +19,7 @@ use Rattle.tuning.proofs.Lists.{both}
 use Rattle.tuning.proofs.Held.{length-coded}
 use Rattle.tuning.proofs.Laws.{start-valid, start-state-valid}
 use Rattle.tables.specs.declared.Row.{Row as TableRow}
-use Rattle.tables.specs.declared.Row.the-variants.{Unused, Interval, Tone, System, Retuning, Logic, Harmony}
+use Rattle.tables.specs.declared.Row.the-variants.{Unused, Interval, Tone, System, Retuning, Logic, Harmony, Pattern}
 use Rattle.tables.specs.Layout.{Tables, rowCount, rowAt, asLogic}
 use Rattle.validity.specs.Valid.{validTables}
 use Rattle.frames.specs.Frames.{Frame, bad, letter, key, dump, frameOf, move}
@@ -60,6 +60,7 @@ module _ (t : Tables) (v : validTables t ≡ true) where
     called-right k (Retuning r from to) e l = h
     called-right k (Logic c s from to) e l = rw (lt-ltb k (rowCount t) l, e)
     called-right k (Harmony needed named) e l = h
+    called-right k Pattern e l = h
 
     pub struck-right : activeRight t (struck t a x .active) ≡ true
     unfolding struck

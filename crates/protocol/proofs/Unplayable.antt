@@ -49,6 +49,7 @@ module _ (t : Tables) (d : Desk) (frame : List ℕ) (room : ℕ) where
   others = record {
     call = record {
       taken = λ e. absurd (omega arith);
+      divided = λ e. absurd (omega arith);
       anchor = λ e. absurd (omega arith);
       width = λ e. absurd (omega arith);
       period = λ e. absurd (omega arith);

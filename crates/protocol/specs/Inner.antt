@@ -19,10 +19,10 @@ use Rattle.tuning.specs.State.{held, replied, validState}
 use Rattle.tuning.specs.declared.Reply.{Reply}
 use Rattle.tuning.specs.declared.State.{State}
 use Rattle.tables.specs.declared.Row.{Row as TableRow}
-use Rattle.tables.specs.declared.Row.the-variants.{Unused, Interval, Tone, System, Retuning, Logic, Harmony}
+use Rattle.tables.specs.declared.Row.the-variants.{Unused, Interval, Tone, System, Retuning, Logic, Harmony, Pattern}
 use Rattle.integers.specs.Parts.{up}
 use Rattle.tables.specs.declared.Numbers.{Numbers}
-use Rattle.tables.specs.Layout.{Tables, logicForm, rowCount, readAt, rowOf, rowAt, full, AsLogic, no-logic, a-logic, asLogic, AsHarmony, no-harmony, a-harmony, asHarmony, harmonyBase}
+use Rattle.tables.specs.Layout.{Tables, logicForm, mostRows, rowCount, readAt, rowOf, rowAt, full, AsLogic, no-logic, a-logic, asLogic, AsHarmony, no-harmony, a-harmony, asHarmony, harmonyBase}
 use Rattle.tables.specs.Values.{FieldsFit}
 use Rattle.validity.specs.Valid.{validTables}
 use Rattle.validity.specs.Inner.{ValidSystem, ValidRetuning}
@@ -68,9 +68,9 @@ abbrev pub decoded : ℕ → Option ℕ
 decoded zero = none
 decoded (suc k) = some k
 
--- what is no trigger
+-- letters and harmonies have codes below this, which is no trigger
 abbrev pub triggerCodes : ℕ
-triggerCodes = 1024
+triggerCodes = harmonyBase + mostRows
 
 -- the trigger of a row that is a logic; what is no trigger, of any other row
 abbrev pub logicTrigger : Numbers → ℕ
@@ -87,7 +87,7 @@ isHarmonic code = leb harmonyBase code
 -- an index of the logics: of each letter the first logic with it; and from 256 on, of each row and of the place behind the last, the first row from it on
 -- that is a logic whose trigger is a harmony
 abbrev pub indexSize : ℕ
-indexSize = 1025
+indexSize = harmonyBase + mostRows + 1
 
 pub record Lettered (rows : List ℤ) (count : ℕ) (index : List ℕ) : Type 0 where
   pub size : length index ≡ indexSize
@@ -114,6 +114,7 @@ kindOf (System a P from to) = kind.System
 kindOf (Retuning r from to) = kind.Retuning
 kindOf (Logic c s from to) = kind.Logic
 kindOf (Harmony needed named) = kind.Nothing
+kindOf Pattern = kind.Nothing
 
 abbrev pub kindAt : List ℤ → ℕ → Kind
 kindAt rows k = kindOf (rowOf (readAt rows k))
@@ -209,6 +210,7 @@ OrdersThere t (System a P from to) = Unit
 OrdersThere t (Retuning r from to) = Unit
 OrdersThere t (Logic c s from to) = OrderPart (t .triggers) (t .calls) from to
 OrdersThere t (Harmony needed named) = Unit
+OrdersThere t Pattern = Unit
 
 -- the active logic's row can be read, and its orders
 abbrev pub ActiveReadable : Tables → Active → Type 0
@@ -224,6 +226,7 @@ CallableRow t (System a P from to) = ValidSystem t (a .0) (P .0) from to
 CallableRow t (Retuning r from to) = ValidRetuning t from to
 CallableRow t (Logic c s from to) = Unit
 CallableRow t (Harmony needed named) = Unit
+CallableRow t Pattern = Unit
 
 pub record Callable (t : Tables) (k : ℕ) : Type 0 where
   pub fields : FieldsFit (readAt (t .rows) k)

@@ -13,7 +13,7 @@ use Rattle.tuning.specs.Tuning.{Action, system}
 use Rattle.tuning.specs.Desk.{cents}
 use Rattle.tuning.specs.State.{meant}
 use Rattle.tables.specs.declared.Row.{Row}
-use Rattle.tables.specs.declared.Row.the-variants.{Unused, Interval, Tone, System, Retuning, Logic, Harmony}
+use Rattle.tables.specs.declared.Row.the-variants.{Unused, Interval, Tone, System, Retuning, Logic, Harmony, Pattern}
 use Rattle.tables.specs.Layout.{Tables, rowCount, rowOf, readAt, rowAt, AsLogic, no-logic, a-logic, asLogic, AsHarmony, no-harmony, a-harmony, asHarmony, harmonyBase, tonesFrom, changesFrom}
 use Rattle.tables.specs.Values as values
 use Rattle.tables.specs.Values.{listed}
@@ -49,6 +49,7 @@ actionBy t (System a P from to) = some (system (values.system (a .0) (tonesFrom 
 actionBy t (Retuning r from to) = some (meant r (listed (changesFrom t from to)))
 actionBy t (Logic c s from to) = none
 actionBy t (Harmony needed named) = none
+actionBy t Pattern = none
 
 abbrev pub actionAt : Tables → ℕ → Option (Action cents)
 actionAt t k = actionBy t (rowAt t k)

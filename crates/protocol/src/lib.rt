@@ -13,7 +13,9 @@ use status::KEY_SILENT;
 use status::KEY_UNPLAYABLE;
 use status::TABLE_DAMAGED;
 use tables::Counts;
+use tables::HARMONY_BASE;
 use tables::LOGIC_FORM;
+use tables::ROWS;
 use tables::SOUNDING_AT;
 use tables::TONES_AT;
 use tables::decode;
@@ -36,8 +38,8 @@ ghost use Rattle.protocol.specs.Steps.{withTuning, withActive, withKeys}
 ghost use Rattle.protocol.specs.Answers.{startDesk, keyNumber, frameOutcome, activeRight, validDesk, answerOf, Gives};
 ghost use Rattle.protocol.specs.Inner.{found, decoded, IndexOf, Ready, FrameInside, mayChange, headOf, stepOf, changeOutcome, Finds, toldOutcome, Tells};
 
-// The places of the index: 256 for letters, one for each declaration that a text can have, and one behind the last.
-pub const INDEX_SIZE: usize = 1025;
+// The places of the index: 256 for letters, one for each row that a program can have, and one behind the last.
+pub const INDEX_SIZE: usize = HARMONY_BASE as usize + ROWS + 1;
 
 // The active logic, by the number of its declaration.
 pub enum Active {

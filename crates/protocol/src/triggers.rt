@@ -22,6 +22,7 @@ use tables::Numbers;
 use tables::ORDER_WIDTH;
 use tables::ORDERS_AT;
 use tables::PERIOD_FORM;
+use tables::ROWS;
 use tables::Row;
 use tables::SOUNDING_AT;
 use tables::SYSTEM_FORM;
@@ -44,8 +45,8 @@ ghost use Rattle.protocol.specs.Steps.{letterStep};
 ghost use Rattle.protocol.specs.Answers.{validDesk};
 ghost use Rattle.protocol.specs.Inner.{isTrigger, isHarmonic, logicFor, logicTrigger, Lettered, Indexed, IndexOf, Finds, kindAt, calledIn, calledBy, partSize, gathered, callsOf, struckBy, tunedBy, foundTuned, callsLeave, OrderPart, ActiveReadable, Callable, CallableFound, struckAs, struckIn, struckLeaves, Within};
 
-// What is no trigger.
-const NO_TRIGGER: u32 = 1024;
+// What is no trigger: letters and harmonies have codes below it.
+const NO_TRIGGER: u32 = HARMONY_BASE as u32 + ROWS as u32;
 
 // What is found: nothing, a logic, or a declaration that is called itself.
 pub enum Called {
