@@ -64,4 +64,5 @@ capped-same value s v i (text.freshPeriod ts) e = same-call (fresh-alike s v (su
 capped-same value s v i (text.onwardPeriod ts) e = same-call (onward-alike s v (sum-alike value ts))
 capped-same value s v i (text.tones l) e = same-call (list-alike s v (positions-alike value l))
 capped-same value s v i (text.logic c st os) e = no-call
+capped-same value s v i text.pattern e = no-call
 capped-same value s v i (text.harmony ks) e = no-call

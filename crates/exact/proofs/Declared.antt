@@ -107,6 +107,7 @@ module _ (p : Program) (allowed : Allowed p) (done : valued p ≡ Done) where
   one-entered of i l (text.onwardPeriod ts) e w h = tt
   one-entered of i l (text.tones ps) e w h = tt
   one-entered of i l (text.logic c s os) e w h = tt
+  one-entered of i l text.pattern e w h = tt
   one-entered of i l (text.harmony ks) e w h = tt
 
   -- along the references, no chain of which is as long as there are declarations
@@ -146,6 +147,7 @@ number-in-range p (text.freshPeriod ts) w l h = passing h
 number-in-range p (text.onwardPeriod ts) w l h = passing h
 number-in-range p (text.tones ps) w l h = passing h
 number-in-range p (text.logic c s os) w l h = passing h
+number-in-range p text.pattern w l h = passing h
 number-in-range p (text.harmony ks) w l h = passing h
 
 numbers-in-range : (p l : Program) → Each (λ (d : Placed). Fits p (d .is)) l → AllInRange (declaredIn l)

@@ -43,6 +43,7 @@ module _ (value : ℕ → ℤ) where
   cappedOf i (text.onwardPeriod ts) = some (periodTo (onward (sum value ts)))
   cappedOf i (text.tones l) = some (tonesTo (map cappedPosition l))
   cappedOf i (text.logic c s os) = none
+  cappedOf i text.pattern = none
   cappedOf i (text.harmony ks) = none
 
   -- what is heard of the tones, and what the changes say
@@ -88,4 +89,5 @@ action-decoded p k h = ap (actionBy (tablesOf p)) (row-decoded p k h) ∙ by-for
         ap (λ (ys : List (PositionTo cents)). some (tonesTo ys))
         (listed-meant cs ∙ ap (map toneMeant) (retuning-changes p k h l e) ∙ changes-said (valueOf p) l)
     by-form (text.logic c s os) e = refl
+    by-form text.pattern e = refl
     by-form (text.harmony ks) e = refl

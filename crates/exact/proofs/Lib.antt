@@ -27,3 +27,4 @@ pub mod Chords
 pub mod FarTone
 pub mod FirstMuted
 pub mod Unplayable
+pub mod Placeholders

@@ -76,6 +76,7 @@ module _ (p : Program) (allowed : Allowed p) (done : valued p ≡ Done) where
   safe i h (text.onwardPeriod ts) e w = tt
   safe i h (text.tones l) e w = tt
   safe i h (text.logic c s os) e w = tt
+  safe i h text.pattern e w = tt
   safe i h (text.harmony ks) e w = tt
 
   module _ (k : ℕ) (h : k < length p) where

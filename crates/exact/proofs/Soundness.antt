@@ -1,8 +1,9 @@
 -- 23 is never answered: an accepted text's tables are valid, and a right desk stays right along any stream.
 use mathlib.Core.Path.{_≡_}
+use mathlib.Core.Logic.{_≢_}
 use mathlib.Core.Bool.{true}
 use mathlib.Core.List.{List}
-use Prim.Native.Nat.{ℕ, _<_}
+use Prim.Native.Nat.{ℕ}
 use native.Mathlib.Omega.{arith}
 use Rattle.status.specs.Status.{tableDamaged}
 use Rattle.values.proofs.Cases.{clash}
@@ -21,31 +22,32 @@ use Rattle.protocol.proofs.Numbers.{OfFrames, asked-number, frame-number}
 use Rattle.protocol.proofs.Stays.{right-valid, start-right, stream-right}
 use Rattle.exact.specs.Soundness.{StreamSound, NeverDamaged}
 
--- ---- the numbers of answers: of a desk that is right they are below 23
+-- ---- the numbers of answers: of a desk that is right none is 23
 
-abbrev Below : ℕ → Type 0
-Below n = n < tableDamaged
+abbrev Undamaged : ℕ → Type 0
+Undamaged n = n ≢ tableDamaged
 
-frames-below : OfFrames Below
-frames-below = record {
+frames-undamaged : OfFrames Undamaged
+frames-undamaged = record {
   call = record {
-    taken = omega arith;
-    anchor = omega arith;
-    width = omega arith;
-    period = omega arith;
-    ends = omega arith;
-    tone = omega arith;
+    taken = λ e. omega arith;
+    divided = λ e. omega arith;
+    anchor = λ e. omega arith;
+    width = λ e. omega arith;
+    period = λ e. omega arith;
+    ends = λ e. omega arith;
+    tone = λ e. omega arith;
   };
-  held = omega arith;
-  unheld = omega arith;
-  unbound = omega arith;
-  bad = omega arith;
+  held = λ e. omega arith;
+  unheld = λ e. omega arith;
+  unbound = λ e. omega arith;
+  bad = λ e. omega arith;
 }
 
-answer-below : (t : Tables) (d : Desk) → validDesk t d ≡ true → (frame : List ℕ) (room : ℕ) → Below (answerOf t d frame room .number)
-answer-below t d h frame room =
-    by-outcome t d frame room (λ (o : Outcome). Below (o .number)) (omega arith) (λ e. absurd (clash h e))
-    (λ e. frame-number Below frames-below t d (frameOf frame) (λ house k f. asked-number Below (omega arith) (omega arith) (omega arith) (soundAt d k)))
+answer-undamaged : (t : Tables) (d : Desk) → validDesk t d ≡ true → (frame : List ℕ) (room : ℕ) → Undamaged (answerOf t d frame room .number)
+answer-undamaged t d h frame room =
+    by-outcome t d frame room (λ (o : Outcome). Undamaged (o .number)) (λ e. omega arith) (λ e. absurd (clash h e))
+    (λ e. frame-number Undamaged frames-undamaged t d (frameOf frame) (λ house k f. asked-number Undamaged (λ e. omega arith) (λ e. omega arith) (λ e. omega arith) (soundAt d k)))
 
 -- ---- the theorems
 
@@ -58,5 +60,4 @@ stream-sound text p e stream =
 pub never-damaged : (text : List ℕ) (p : Program) → readText text ≡ accepted p → (stream : List Lent) (next : Lent) → NeverDamaged p stream next
 never-damaged text p e stream next same =
     let sound = stream-sound text p e stream in
-    let below = answer-below (tablesOf p) (deskAfter (tablesOf p) startDesk stream) sound (next .frame) (next .room) in
-    omega arith
+    answer-undamaged (tablesOf p) (deskAfter (tablesOf p) startDesk stream) sound (next .frame) (next .room) same

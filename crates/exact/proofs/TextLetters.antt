@@ -12,7 +12,7 @@ use lib.Seq.{drop-cons}
 use Rattle.tables.specs.declared.Row.{Row}
 use Rattle.tables.specs.Layout as tables
 use Rattle.tables.specs.Layout.{rowCount, rowAt, harmonyBase}
-use Rattle.program.specs.Program.{Declaration, ratio, root, sequence, frequency, from, system, anchor, width, freshPeriod, onwardPeriod, tones, logic, harmony}
+use Rattle.program.specs.Program.{Declaration, ratio, root, sequence, frequency, from, system, anchor, width, freshPeriod, onwardPeriod, tones, pattern, logic, harmony}
 use Rattle.program.specs.Program.{Trigger, byLetter, byHarmony, Order, asLogic, asHarmony, Placed, Program}
 use Rattle.program.specs.Meaning.{nothing, declarationAt, valueOf}
 use Rattle.program.specs.Allowed.{Each, FitTrigger, FitOrder, Fits, Allowed}
@@ -59,6 +59,7 @@ module _ (p : Program) where
   matches-of x k t c o (onwardPeriod ts) = refl
   matches-of x k t c o (tones l) = refl
   matches-of x k t c o (logic y s os) = refl
+  matches-of x k t c o pattern = refl
   matches-of x k t c o (harmony ks) = refl
 
   matched-by : (x : Chord) (k : ℕ) → matchedRow x (rowAt (tablesOf p) k) ≡ harmonyMatches x (asHarmony (declarationAt p k))
@@ -93,6 +94,7 @@ module _ (p : Program) (allowed : Allowed p) (r : ℕ → Bool) (q : Trigger →
   is-logic k t c o (onwardPeriod ts) w = refl
   is-logic k t c o (tones l) w = refl
   is-logic k t c o (logic x s os) w = same x (w .trigger)
+  is-logic k t c o pattern w = refl
   is-logic k t c o (harmony ks) w = refl
 
   logics : (i n : ℕ) → i + n ≡ length p → firstLogic (tablesOf p .rows) r i n ≡ logicIn q i (drop i p)
@@ -129,6 +131,7 @@ module _ (p : Program) (allowed : Allowed p) (r : ℕ → Bool) (q : Trigger →
   orders-of k h (onwardPeriod ts) e w = refl
   orders-of k h (tones l) e w = refl
   orders-of k h (logic c s os) e w = rw (logic-triggers p k h c s os e, logic-calls p k h c s os e) (first-order os (w .orders))
+  orders-of k h pattern e w = refl
   orders-of k h (harmony ks) e w = refl
 
   order-of : (a : Active) → orderOf (tablesOf p) r a ≡ activeOrder p q a
@@ -166,6 +169,7 @@ module _ (p : Program) where
   calls-of a k t c o (tones l) = refl
   calls-of a k t c o (logic x none os) = refl
   calls-of a k t c o (logic x (some j) os) = refl
+  calls-of a k t c o pattern = refl
   calls-of a k t c o (harmony ks) = refl
 
   called-by : (a : Active) (k : ℕ) → callsRow a k (rowAt (tablesOf p) k) ≡ callsIn a k (asLogic (declarationAt p k))

@@ -67,4 +67,5 @@ module _ {A B : Scale} (F : Follows A B) (stepA : ℕ → A .Step) (toneA : ℕ 
     action-follows (text.onwardPeriod ts) w = both-call (both-period (both-onward (terms-follow ts w)))
     action-follows (text.tones l) w = both-call (both-tones (positions-follow l (w .each)))
     action-follows (text.logic c s os) w = no-call
+    action-follows text.pattern w = no-call
     action-follows (text.harmony ks) w = no-call

@@ -45,6 +45,7 @@ module _ (S : Scale) (step : ℕ → S .Step) (tone : ℕ → S .Tone) where
   actionOf (text.onwardPeriod ts) = some (periodTo (onward (total ts)))
   actionOf (text.tones l) = some (tonesTo (map positionOf l))
   actionOf (text.logic c s os) = none
+  actionOf text.pattern = none
   actionOf (text.harmony ks) = none
 
 -- ---- the book's: with the entries of the declarations
@@ -63,6 +64,7 @@ declaredBy (text.freshPeriod ts) = none
 declaredBy (text.onwardPeriod ts) = none
 declaredBy (text.tones l) = none
 declaredBy (text.logic c s os) = none
+declaredBy text.pattern = none
 declaredBy (text.harmony ks) = none
 
 abbrev pub declaredIn : Program → List (Option Declared)
@@ -82,6 +84,7 @@ entryBy of i (text.freshPeriod ts) = entries .none
 entryBy of i (text.onwardPeriod ts) = entries .none
 entryBy of i (text.tones l) = entries .none
 entryBy of i (text.logic c s os) = entries .none
+entryBy of i text.pattern = entries .none
 entryBy of i (text.harmony ks) = entries .none
 
 -- references are followed as long as there are declarations that the chain has not visited
