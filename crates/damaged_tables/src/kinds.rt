@@ -1,4 +1,4 @@
-// As many declarations of a kind as "Numbers allowed" has, and one more; and lists whose parts do not follow one another.
+// As many rows of a kind as are allowed, and one more; and lists whose parts do not follow one another.
 use crate::lent::LOGIC;
 use crate::lent::LONG_SYSTEM;
 use crate::lent::LONG_TONES;
@@ -17,16 +17,17 @@ use tables::Row;
 use tables::encode;
 use tuning::Amount;
 use tuning::Retuning;
-ghost use Prim.Native.Nat.{_≤_};
+ghost use Prim.Native.Nat.{_≤_, _<_};
+ghost use Rattle.tables.specs.Layout.{mostRows, mostChanges};
 
-// How many of each the sample has, and how many are allowed.
+// How many of each the sample has, and how many are allowed: those of "Numbers allowed", and of retunings one more for each of 512 orders and 32 starts.
 const INTERVALS: usize = 1;
 
 const TONES: usize = 1;
 
 const SYSTEMS: usize = 2;
 
-const RETUNINGS: usize = 5;
+const RETUNINGS: usize = 6;
 
 const LOGICS: usize = 1;
 
@@ -38,7 +39,7 @@ const MOST_TONES: usize = 256;
 
 const MOST_SYSTEMS: usize = 32;
 
-const MOST_RETUNINGS: usize = 128;
+const MOST_RETUNINGS: usize = 128 + 512 + 32;
 
 const MOST_LOGICS: usize = 32;
 
@@ -65,7 +66,7 @@ enum Kind {
 
 // The n-th tone system that is added has a muted position of its own.
 fn store_system(rows: &mut [i32], at: usize, n: usize)
-    requires { ⌜ n ≤ 256 ⌝ }
+    requires { ⌜ n ≤ mostRows ⌝ }
 {
     let from = (POSITIONS + n) as u32;
     let system = Row::System {
@@ -79,7 +80,7 @@ fn store_system(rows: &mut [i32], at: usize, n: usize)
 
 // Stores the n-th row that is added: a logic has no orders, a harmony only number 0.
 fn store_added(rows: &mut [i32], kind: Kind, n: usize)
-    requires { ⌜ n ≤ 256 ⌝ }
+    requires { ⌜ n ≤ mostRows ⌝ }
 {
     let at = USED_ROWS + n;
     match kind {
@@ -114,7 +115,7 @@ fn store_added(rows: &mut [i32], kind: Kind, n: usize)
 }
 
 fn store_more(rows: &mut [i32], kind: Kind, more: usize)
-    requires { ⌜ more ≤ 256 ⌝ }
+    requires { ⌜ more ≤ mostRows ⌝ }
 {
     let mut n: usize = 0;
     while n < more {
@@ -135,7 +136,7 @@ fn added_tones(kind: Kind, more: usize) -> usize
 
 // The sample with so many rows more of a kind.
 fn with_rows(kind: Kind, more: usize) -> Lent
-    requires { ⌜ more ≤ 256 ⌝ }
+    requires { ⌜ more ≤ mostRows ⌝ }
 {
     let t = Lent::sample();
     let mut numbers = t.numbers;
@@ -155,7 +156,7 @@ fn with_rows(kind: Kind, more: usize) -> Lent
 
 // So many more are right, and one more than that is damage.
 fn report_kind(name: &[u8], kind: Kind, more: usize)
-    requires { ⌜ more ≤ 255 ⌝ }
+    requires { ⌜ more < mostRows ⌝ }
 {
     let tally = Tally::new()
         .try_right(with_rows(kind, more))
@@ -176,7 +177,7 @@ pub fn report_kinds() {
         MOST_SYSTEMS - SYSTEMS,
     );
     report_kind(
-        b"retunings, 128 and 129",
+        b"retunings, 672 and 673",
         Kind::Retuning,
         MOST_RETUNINGS - RETUNINGS,
     );
@@ -190,7 +191,7 @@ pub fn report_kinds() {
 
 // A row whose part stands elsewhere.
 fn with_part(row: usize, from: usize, to: usize) -> Lent
-    requires { ⌜ (row ≤ 768) × (from ≤ 768) × (to ≤ 768) ⌝ }
+    requires { ⌜ (row ≤ mostRows) × (from ≤ mostChanges) × (to ≤ mostChanges) ⌝ }
 {
     Lent::sample()
         .with_number(Table::Rows, ROW_WIDTH * row + FROM, from as i32)
@@ -199,7 +200,7 @@ fn with_part(row: usize, from: usize, to: usize) -> Lent
 
 // Positions that two rows share, positions between two rows that belong to none, and a last one that does.
 fn try_parts(row: usize) -> Tally
-    requires { ⌜ row ≤ 768 ⌝ }
+    requires { ⌜ row ≤ mostRows ⌝ }
 {
     Tally::new()
         .try_damaged(with_part(row, 1, POSITIONS - 1))

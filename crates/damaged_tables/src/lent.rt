@@ -54,9 +54,11 @@ pub const LONG_TONES: usize = 8;
 
 pub const HARMONY: usize = 9;
 
-pub const LOGIC: usize = 10;
+pub const PATTERN: usize = 10;
 
-pub const USED_ROWS: usize = 11;
+pub const LOGIC: usize = 11;
+
+pub const USED_ROWS: usize = 12;
 
 // How many positions the short list has, and how many both lists have, in tones as in changes. The last one is muted.
 pub const SHORT: usize = 2;
@@ -150,7 +152,7 @@ fn store_retunings(rows: &mut [i32]) {
     encode::store_row(rows, PERIOD, period);
 }
 
-// The two tones retunings, a harmony { 0, *4, 59 }, and a logic with a start and three orders.
+// The two tones retunings, a harmony { 0, *4, 59 }, a retuning whose n is a placeholder, which nothing calls, and a logic with a start and three orders.
 fn store_lists(rows: &mut [i32]) {
     let short = Row::Retuning {
         retuning: Retuning::Tones,
@@ -175,6 +177,7 @@ fn store_lists(rows: &mut [i32]) {
     encode::store_row(rows, SHORT_TONES, short);
     encode::store_row(rows, LONG_TONES, long);
     encode::store_row(rows, HARMONY, harmony);
+    encode::store_row(rows, PATTERN, Row::Pattern);
     encode::store_row(rows, LOGIC, logic);
 }
 
@@ -215,14 +218,14 @@ fn store_used(counts: &mut [u16])
 
 // Each lends its tables' sections.
 fn lend_tones(numbers: &mut [i32], codes: &mut [u16])
-    requires { ⌜ (length (now numbers) ≡ 13_441) × (length (now codes) ≡ 10_629) ⌝ }
+    requires { ⌜ (length (now numbers) ≡ 16_161) × (length (now codes) ≡ 10_629) ⌝ }
 {
     let sounding = &mut codes[SOUNDING_AT..KINDS_AT];
     store_tones(sounding, &mut numbers[TONES_AT..CHANGES_AT]);
 }
 
 fn lend_changes(numbers: &mut [i32], codes: &mut [u16])
-    requires { ⌜ (length (now numbers) ≡ 13_441) × (length (now codes) ≡ 10_629) ⌝ }
+    requires { ⌜ (length (now numbers) ≡ 16_161) × (length (now codes) ≡ 10_629) ⌝ }
 {
     let kinds = &mut codes[KINDS_AT..ORDERS_AT];
     store_changes(kinds, &mut numbers[CHANGES_AT..NUMBERS]);

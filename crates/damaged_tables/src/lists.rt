@@ -2,6 +2,7 @@
 use crate::lent::HARMONY;
 use crate::lent::INTERVAL;
 use crate::lent::MUTED;
+use crate::lent::PATTERN;
 use crate::lent::POSITIONS;
 use crate::lent::TONE;
 use crate::lent::Table;
@@ -79,6 +80,7 @@ pub fn report_orders() {
         .try_places(Table::Calls, 0, USED_ORDERS, INTERVAL as i32)
         .try_places(Table::Calls, 0, USED_ORDERS, TONE as i32)
         .try_places(Table::Calls, 0, USED_ORDERS, HARMONY as i32)
+        .try_places(Table::Calls, 0, USED_ORDERS, PATTERN as i32)
         .try_places(Table::Calls, 0, USED_ORDERS, USED_ROWS as i32)
         .try_places(Table::Calls, 0, USED_ORDERS, -1);
     let unused = Tally::new()
@@ -87,7 +89,7 @@ pub fn report_orders() {
     report(b"orders, letter out of range", letters);
     report(b"orders, trigger of no letter and no harmony", triggers);
     report(
-        b"orders, call of nothing, of an interval, a tone or a harmony",
+        b"orders, call of nothing, of an interval, a tone, a harmony or a retuning with a placeholder",
         calls,
     );
     report(b"orders, unused places", unused);

@@ -2,6 +2,7 @@
 use crate::tally::Tally;
 use libc::STDOUT_FILENO;
 ghost use Prim.Native.Nat.{_≤_};
+ghost use Rattle.tables.specs.Layout.{mostRows};
 
 pub fn report(name: &[u8], tally: Tally) {
     io::write_all(STDOUT_FILENO, name);
@@ -14,7 +15,7 @@ pub fn report(name: &[u8], tally: Tally) {
 
 // `wrong` has one number below and one above the range of the row's first, its second, `from` and `to`.
 pub fn report_row(name: &[u8], row: usize, wrong: [i32; 8])
-    requires { ⌜ row ≤ 768 ⌝ }
+    requires { ⌜ row ≤ mostRows ⌝ }
 {
     report(name, Tally::new().try_row(row, wrong));
 }

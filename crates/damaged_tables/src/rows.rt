@@ -5,6 +5,7 @@ use crate::lent::INTERVAL;
 use crate::lent::LOGIC;
 use crate::lent::LONG_SYSTEM;
 use crate::lent::LONG_TONES;
+use crate::lent::PATTERN;
 use crate::lent::PERIOD;
 use crate::lent::ROW_NUMBERS;
 use crate::lent::SHORT_SYSTEM;
@@ -78,7 +79,7 @@ pub fn report_systems() {
 
 pub fn report_retunings() {
     let anchor = [-1, ABOVE_ANCHORS, -1, ABOVE_AMOUNTS, -1, 1, -1, 1];
-    let width = [-1, ABOVE_WIDTHS, 0, ABOVE_AMOUNTS, -1, 1, -1, 1];
+    let width = [-1, ABOVE_WIDTHS, -1, ABOVE_AMOUNTS, -1, 1, -1, 1];
     let period = [-1, ABOVE_CHANGES, BELOW_SUMS, ABOVE_SUMS, -1, 1, -1, 1];
     let short = [-1, 1, -1, 1, -1, SHORT_END, 0, SIXTY_ONE];
     let long = [
@@ -96,6 +97,15 @@ pub fn report_retunings() {
     report_row(b"period retuning", PERIOD, period);
     report_row(b"tones retuning of 2 positions", SHORT_TONES, short);
     report_row(b"tones retuning of 60 positions", LONG_TONES, long);
+}
+
+// A retuning whose n is a placeholder has no numbers. Where a call hands 0 to `/`, the width's row has it, and the call gets 25.
+pub fn report_placeholders() {
+    let wrong = [-1, 1, -1, 1, -1, 1, -1, 1];
+    let n = ROW_WIDTH * WIDTH + SECOND;
+    let divided = Tally::new().try_right_places(Table::Rows, n, n + 1, 0);
+    report_row(b"retuning with a placeholder", PATTERN, wrong);
+    report(b"width divided by 0", divided);
 }
 
 // A harmony's four numbers are its needed key numbers, and all that it names, each in two halves: one with a number past the half's last.
@@ -143,13 +153,14 @@ fn try_turned() -> Tally {
         .try_number(Table::Rows, ROW_WIDTH * LONG_TONES + TO, SHORT_END - 1)
 }
 
-// A start that is an interval, a tone, a harmony, or the logic itself.
+// A start that is an interval, a tone, a harmony, a retuning with a placeholder, or the logic itself.
 fn try_starts() -> Tally {
     let at = ROW_WIDTH * LOGIC + SECOND;
     Tally::new()
         .try_number(Table::Rows, at, INTERVAL as i32 + 1)
         .try_number(Table::Rows, at, TONE as i32 + 1)
         .try_number(Table::Rows, at, HARMONY as i32 + 1)
+        .try_number(Table::Rows, at, PATTERN as i32 + 1)
         .try_number(Table::Rows, at, LOGIC as i32 + 1)
 }
 
@@ -173,7 +184,7 @@ pub fn report_rows() {
     let unused = Tally::new().try_places(Table::Rows, used, ROW_NUMBERS, 1);
     report(b"rows, least and greatest number", extremes);
     report(b"rows, bounds turned round", try_turned());
-    report(b"rows, start at no tone system or retuning", try_starts());
+    report(b"rows, start at what no start may call", try_starts());
     report(
         b"rows, trigger of no letter and no harmony",
         try_logic_triggers(),

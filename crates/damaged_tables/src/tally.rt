@@ -16,7 +16,7 @@ use status::KEY_UNPLAYABLE;
 use status::TABLE_DAMAGED;
 use std::num::wrapping_add_u64;
 use tables::HARMONY_BASE;
-use tables::HARMONY_FORM;
+use tables::PATTERN_FORM;
 use tables::ROW_WIDTH;
 use tables::ROWS;
 use tables::UNUSED_FORM;
@@ -25,11 +25,12 @@ use tuning::Position;
 use tuning::State;
 use tuning::Tone;
 ghost use Prim.Native.Nat.{_≤_};
+ghost use Rattle.tables.specs.Layout.{mostRows};
 
-// The forms go from 1 to 9.
+// The forms go from 1 to 10.
 const BELOW_FORMS: i32 = UNUSED_FORM as i32;
 
-const ABOVE_FORMS: i32 = HARMONY_FORM as i32 + 1;
+const ABOVE_FORMS: i32 = PATTERN_FORM as i32 + 1;
 
 // How many wrong numbers a row is given besides those of its form: two for each of its other four numbers.
 const WRONG: usize = 8;
@@ -147,7 +148,7 @@ impl Tally {
 
     // Two wrong numbers for each number of a row: its form's, then those given for the first, the second, `from` and `to`.
     pub fn try_row(self, row: usize, wrong: [i32; WRONG]) -> Tally
-        requires { ⌜ row ≤ 768 ⌝ }
+        requires { ⌜ row ≤ mostRows ⌝ }
     {
         let form = ROW_WIDTH * row;
         let mut tally = self.try_number(Table::Rows, form, BELOW_FORMS)

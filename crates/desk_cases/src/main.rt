@@ -7,11 +7,13 @@ mod chords;
 mod first_muted;
 mod run;
 mod unplayable;
+mod with_placeholders;
 
 use chords::run_chords;
 use first_muted::run_first_muted;
 use run::run_case;
 use unplayable::run_unplayable;
+use with_placeholders::run_with_placeholders;
 
 // "text: 0 to 32,768 bytes"
 const LONGEST_TEXT: usize = 32_768;
@@ -133,4 +135,5 @@ fn main() {
     run_chords();
     run_first_muted();
     run_unplayable();
+    run_with_placeholders();
 }

@@ -3,7 +3,7 @@
 // tones of kind (1) and pitch (4), changes of kind (1) and sum (4), orders of trigger (2) and called declaration (2). High byte first, negative
 // numbers in two's complement.
 //
-// `stdin` has three texts, and `stdout` what they leave, worked out by hand.
+// `stdin` has five texts, and `stdout` what they leave, worked out by hand.
 // HARMONY C = { 0, 4, *7 } RETUNING Up = @ + 7 [ ] LOGIC L C = Up [ ]
 //   00 00000000, 3 rows and no more. C needs 0 and 4, bits 1 and 10, and names 7 as well, bit 80. Up adds 7. L waits for the harmony of row 0, which is
 //   100 and 0, and its start is row 1, which is 2.
@@ -15,6 +15,13 @@
 //   09 00000000 00000003 00000001 20000003, 09 00000000 00000000 00000020 00000000, 0102 0000, 0103 0001, 0055 0000
 // HARMONY C = { 0, *0 }
 //   03 00000012: 0 is named twice, at byte 18; the tables are zero again.
+// RETUNING Over ( a, b ) = [ << @ / b >> ] Down ( a ) = @ - 1 [ ] LOGIC L KEY L = Over ( 7, 0 ) [ KEY A -> Down ( 9 ) KEY B -> Over ( 0, 2 ) ]
+//   00 00000000, 5 rows and 2 orders. The n of Over is a placeholder, so its row is 0A and zeros, and each of its calls has a row behind the three
+//   declarations: L's start row 3, which is 4, with 0 for b, and B's row 4, with 2. Down has an n of its own, and A calls its row, which is 1.
+//   0A and zeros, 04 00000003 00000001 00000000 00000000, 08 0000004C 00000004 00000000 00000002,
+//   05 00000005 00000000 00000000 00000000, 05 00000005 00000002 00000000 00000000, 0041 0001, 0042 0004
+// RETUNING a = x [ ]
+//   18 0000000D: x is not named, at byte 13; the tables are zero again.
 use hexadecimal::bits_of;
 use hexadecimal::put;
 use libc::STDIN_FILENO;
@@ -42,7 +49,7 @@ ghost use Rattle.text_tables.specs.Within.{Within};
 const LENGTH_BYTES: usize = 4;
 
 // The room for an answer.
-const ROOM: usize = 65_536;
+const ROOM: usize = 73_728;
 
 // Where the parts of an answer begin, and how many bytes a number, a row, a tone or a change, and an order have.
 const PLACE_AT: usize = 1;
@@ -95,14 +102,14 @@ fn low(n: u16) -> u8 {
 }
 
 fn put_two(out: &mut [u8], at: usize, n: u16)
-    requires { ⌜ at ≤ 65_536 ⌝ }
+    requires { ⌜ at ≤ 73_728 ⌝ }
 {
     put(out, at, (n / 0x100) as u8);
     put(out, at + 1, (n % 0x100) as u8);
 }
 
 fn put_four(out: &mut [u8], at: usize, n: u32)
-    requires { ⌜ at ≤ 65_536 ⌝ }
+    requires { ⌜ at ≤ 73_728 ⌝ }
 {
     put(out, at, (n / 0x100_0000 % 0x100) as u8);
     put(out, at + 1, (n / 0x1_0000 % 0x100) as u8);
@@ -119,7 +126,7 @@ fn put_counts(out: &mut [u8], counts: Counts) {
 
 // The row that begins at `from`: its form as one byte, then its other numbers.
 fn put_row(out: &mut [u8], at: usize, rows: &[i32], from: usize)
-    requires { ⌜ (at ≤ 20_000) × (from + 5 ≤ length (now rows)) ⌝ }
+    requires { ⌜ (at ≤ 22_308) × (from + 5 ≤ length (now rows)) ⌝ }
 {
     put(out, at, (bits_of(rows[from]) % 0x100) as u8);
     let mut k: usize = 1;
@@ -135,7 +142,7 @@ fn put_row(out: &mut [u8], at: usize, rows: &[i32], from: usize)
 
 // Each of the next four tells where what it has put ends.
 fn put_rows(out: &mut [u8], at: usize, rows: &[i32], count: usize) -> usize
-    requires { ⌜ (at ≤ 21) × (count ≤ 768) × (length (now rows) ≡ 3_840) ⌝ }
+    requires { ⌜ (at ≤ 21) × (count ≤ 1_312) × (length (now rows) ≡ 6_560) ⌝ }
     ensures { λ r. ⌜ r ≡ at + 17 * count ⌝ }
 {
     let mut i: usize = 0;
@@ -148,7 +155,7 @@ fn put_rows(out: &mut [u8], at: usize, rows: &[i32], count: usize) -> usize
 
 // Tones or changes: each a byte and a number.
 fn put_pairs(out: &mut [u8], at: usize, kinds: &[u16], numbers: &[i32], count: usize) -> usize
-    requires { ⌜ (at + 5 * count ≤ 65_536) × (count ≤ length (now kinds)) × (length (now kinds) ≡ length (now numbers)) ⌝ }
+    requires { ⌜ (at + 5 * count ≤ 73_728) × (count ≤ length (now kinds)) × (length (now kinds) ≡ length (now numbers)) ⌝ }
     ensures { λ r. ⌜ r ≡ at + 5 * count ⌝ }
 {
     let mut i: usize = 0;
@@ -161,7 +168,7 @@ fn put_pairs(out: &mut [u8], at: usize, kinds: &[u16], numbers: &[i32], count: u
 }
 
 fn put_orders(out: &mut [u8], at: usize, orders: &[u16], count: usize) -> usize
-    requires { ⌜ (at + 4 * count ≤ 65_536) × (2 * count ≤ length (now orders)) ⌝ }
+    requires { ⌜ (at + 4 * count ≤ 73_728) × (2 * count ≤ length (now orders)) ⌝ }
     ensures { λ r. ⌜ r ≡ at + 4 * count ⌝ }
 {
     let mut i: usize = 0;
@@ -175,8 +182,8 @@ fn put_orders(out: &mut [u8], at: usize, orders: &[u16], count: usize) -> usize
 }
 
 fn put_tables(out: &mut [u8], numbers: &[i32], codes: &[u16]) -> usize
-    requires { ⌜ (length (now numbers) ≡ 13_440) × (length (now codes) ≡ 10_628) ⌝ }
-    ensures { λ r. ⌜ r ≤ 63_125 ⌝ }
+    requires { ⌜ (length (now numbers) ≡ 16_160) × (length (now codes) ≡ 10_628) ⌝ }
+    ensures { λ r. ⌜ r ≤ 72_373 ⌝ }
 {
     let used = Counts::read(&codes[0..SOUNDING_AT]);
     put_counts(out, used);
@@ -239,7 +246,7 @@ fn answer_text(
 // The tables are never cleared here: that is the reader's part.
 fn main() {
     let mut text = io::large_buffer();
-    let mut out = io::large_buffer();
+    let mut out = [0u8; ROOM];
     let mut numbers = [0i32; NUMBERS];
     let mut codes = [0u16; CODES];
     let mut left = u64::MAX;
