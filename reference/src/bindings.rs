@@ -1,7 +1,7 @@
 //! What the triggers of a text are bound to, in logics and in orders.
 
 use crate::harmony::{Chord, Harmony};
-use crate::text::tree::{Declared, Letter, Target, Trigger};
+use crate::text::tree::{Called, Declared, Letter, Target, Trigger};
 use crate::text::Program;
 
 const LETTERS: usize = 26;
@@ -14,10 +14,17 @@ pub enum Sought {
     Chord(Chord),
 }
 
+/// What is found: a logic by its own trigger, or the call of an order.
+#[derive(Clone, Copy, Debug, PartialEq, Eq)]
+pub enum Found {
+    Logic(usize),
+    Order(Called<Target>),
+}
+
 pub struct Bindings {
     logics: Bound<usize>,
     /// For each logic, what its orders call.
-    orders: Vec<Bound<Target>>,
+    orders: Vec<Bound<Called<Target>>>,
 }
 
 impl Bindings {
@@ -33,11 +40,11 @@ impl Bindings {
     }
 
     /// "Triggers are tried in declared order, logics first."
-    pub fn find(&self, sought: Sought, active: Option<usize>) -> Option<Target> {
+    pub fn find(&self, sought: Sought, active: Option<usize>) -> Option<Found> {
         if let Some(logic) = self.logics.first(sought) {
-            return Some(Target::Logic(logic));
+            return Some(Found::Logic(logic));
         }
-        active.and_then(|logic| self.orders.get(logic)?.first(sought))
+        active.and_then(|logic| self.orders.get(logic)?.first(sought)).map(Found::Order)
     }
 }
 

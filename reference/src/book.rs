@@ -5,7 +5,8 @@ use crate::frames::Made;
 use crate::numbers;
 use crate::state::Change;
 use crate::text::tree::{
-    IntervalForm, PositionForm, Resolved, RetuningForm, Sum, SystemForm, Target, ToneForm,
+    Amount, IntervalForm, Numbers, PositionForm, Resolved, Retuning, RetuningForm, Sum, SystemForm,
+    Target, ToneForm,
 };
 
 /// What can keep the book from going on.
@@ -13,8 +14,8 @@ use crate::text::tree::{
 pub enum Halt {
     /// A power beyond 127 bits.
     TooLarge,
-    /// A call with number 0 that meets a muted end or a name of no
-    /// declaration; the rules exclude both.
+    /// A call with number 0 that meets a muted end, a division by zero or a
+    /// name of no declaration; the rules exclude all three.
     Impossible,
 }
 
@@ -137,23 +138,26 @@ impl Book {
         if made.number != numbers::DONE {
             return Ok(());
         }
-        match made.target {
+        match made.called.target {
             Target::System(i) => {
                 let system = self.tree.systems.get(i).ok_or(Halt::Impossible)?;
                 self.set_system(&system.form.clone())
             }
             Target::Retuning(i) => {
                 let retuning = self.tree.retunings.get(i).ok_or(Halt::Impossible)?;
-                self.retune(&retuning.form.clone())
+                self.retune(&retuning.form.clone(), &made.called.numbers)
             }
             Target::Logic(_) => Err(Halt::Impossible),
         }
     }
 
-    fn retune(&mut self, form: &RetuningForm<usize>) -> Result<(), Halt> {
-        match form {
-            RetuningForm::Anchor(change) => self.set_anchor(*change),
-            RetuningForm::Width(change) => self.set_width(*change),
+    /// "Demands 2 and 3 read the retuning so filled in."
+    fn retune(&mut self, retuning: &Retuning<usize>, handed: &Numbers) -> Result<(), Halt> {
+        let number = |n: &Amount| n.number(&retuning.placeholders, handed);
+        let filled = |change: &Change<Amount>| change.filled(number).ok_or(Halt::Impossible);
+        match &retuning.form {
+            RetuningForm::Anchor(change) => self.set_anchor(filled(change)?),
+            RetuningForm::Width(change) => self.set_width(filled(change)?),
             RetuningForm::PeriodTo(sum) => {
                 self.period = self.sum(sum)?;
                 Ok(())
@@ -188,7 +192,7 @@ impl Book {
 
     /// "Anchor to b: every sounding tone shifts by pitch(b) - t(0)."
     fn set_anchor(&mut self, change: Change) -> Result<(), Halt> {
-        let anchor = change.of(self.anchor);
+        let anchor = change.of(self.anchor).map_err(|_| Halt::Impossible)?;
         let shift = self.distance_to(anchor)?;
         for tone in self.tones.iter_mut().flatten() {
             *tone = tone.plus(1, &shift)?;
@@ -200,7 +204,7 @@ impl Book {
     /// "Width to v: new t(i) is the old pitch of key a+i; the new period is
     /// pitch(a+v) - t(0)."
     fn set_width(&mut self, change: Change) -> Result<(), Halt> {
-        let width = change.of(self.width);
+        let width = change.of(self.width).map_err(|_| Halt::Impossible)?;
         let period = self.distance_to(self.anchor + width)?;
         let tones = (0..width).map(|i| self.entry(self.anchor + i));
         self.tones = tones.collect::<Result<_, _>>()?;
@@ -326,6 +330,7 @@ fn users_last(count: usize, uses: impl Fn(usize) -> Vec<usize>) -> Vec<usize> {
 #[cfg(test)]
 mod tests {
     use super::*;
+    use crate::frames::tests::made;
     use crate::text::{self, tests::CASE_S};
 
     fn book() -> Book {
@@ -333,7 +338,7 @@ mod tests {
     }
 
     fn call(book: &mut Book, target: Target) {
-        book.take(Made { target, number: 0 }).unwrap();
+        book.take(made(target, &[], 0)).unwrap();
     }
 
     #[test]
@@ -354,11 +359,26 @@ mod tests {
         assert_eq!(book.numbers, [Declaration::Interval(0), Declaration::Interval(1), tone]);
         call(&mut book, Target::System(0));
         assert_eq!(book.entry(71).unwrap().unwrap().declared, [1, 0, 1]);
-        book.take(Made { target: Target::Retuning(0), number: 10 }).unwrap();
+        book.take(made(Target::Retuning(0), &[], 10)).unwrap();
         assert_eq!(book.entry(71).unwrap().unwrap().declared, [1, 0, 1]);
         call(&mut book, Target::Retuning(0));
         assert_eq!(book.entry(71).unwrap().unwrap().declared, [0, 2, 1]);
         assert_eq!(book.entry(71).unwrap().unwrap().weight(), Ok(3));
+    }
+
+    /// Request 1/13: the number handed over is that of the placeholder's name;
+    /// a call with 25 changes nothing.
+    #[test]
+    fn numbers_handed_over() {
+        let text = b"RETUNING A ( x, y ) = @ - y [ ] W ( x ) = [ << @ / x >> ]";
+        let mut book = Book::new(&text::read(text).unwrap().declared).unwrap();
+        book.take(made(Target::Retuning(0), &[3, 7], 0)).unwrap();
+        book.take(made(Target::Retuning(1), &[0], 25)).unwrap();
+        assert_eq!((book.anchor, book.width), (53, 12));
+        book.take(made(Target::Retuning(1), &[5], 0)).unwrap();
+        assert_eq!((book.width, book.period.root_of_two), (2, 2));
+        let zero = book.take(made(Target::Retuning(1), &[0], 0));
+        assert_eq!(zero, Err(Halt::Impossible));
     }
 
     /// Powers of 999 to the tenth fit, to the fourteenth they don't.

@@ -3,9 +3,9 @@
 use crate::harmony::{Harmony, Wish};
 use crate::measure::Pitch;
 use crate::state::{Call, Change, PeriodChange, Position};
-use crate::text::tree::{Declared, LogicForm, Target, Trigger};
+use crate::text::tree::{Called, Declared, LogicForm, Target, Trigger};
 use crate::text::Program;
-use std::fmt::Write;
+use std::fmt::{Display, Write};
 
 /// One line for each declaration and each order.
 pub fn readable(program: &Program) -> String {
@@ -25,7 +25,9 @@ pub fn readable(program: &Program) -> String {
         line("tone system", &declared.name.text, readable_call(call));
     }
     for (declared, call) in tree.retunings.iter().zip(&program.retunings) {
-        line("retuning", &declared.name.text, readable_call(call));
+        let placeholders = declared.form.placeholders.iter().map(|name| &name.text);
+        let name = declared.name.text.clone() + &in_brackets(placeholders);
+        line("retuning", &name, readable_call(call));
     }
     for harmony in &tree.harmonies {
         line("harmony", &harmony.name.text, readable_harmony(&harmony.form));
@@ -36,10 +38,19 @@ pub fn readable(program: &Program) -> String {
     lines
 }
 
-fn readable_call(call: &Call) -> String {
+/// Nothing where there is none of these.
+fn in_brackets(items: impl Iterator<Item = impl ToString>) -> String {
+    let items: Vec<_> = items.map(|item| item.to_string()).collect();
+    if items.is_empty() {
+        return String::new();
+    }
+    format!(" ({})", items.join(", "))
+}
+
+fn readable_call<N: Display>(call: &Call<N>) -> String {
     match call {
-        Call::Anchor(change) => format!("anchor {}", readable_change(*change)),
-        Call::Width(change) => format!("width {}", readable_change(*change)),
+        Call::Anchor(change) => format!("anchor {}", readable_change(change)),
+        Call::Width(change) => format!("width {}", readable_change(change)),
         Call::Period(PeriodChange::To(period)) => format!("period {}", period.0),
         Call::Period(PeriodChange::By(by)) => format!("period @{:+}", by.0),
         Call::Tones(positions) => {
@@ -54,7 +65,7 @@ fn readable_call(call: &Call) -> String {
     }
 }
 
-fn readable_change(change: Change) -> String {
+fn readable_change<N: Display>(change: &Change<N>) -> String {
     match change {
         Change::To(n) => n.to_string(),
         Change::Kept => "@".to_string(),
@@ -88,10 +99,11 @@ fn readable_harmony(harmony: &Harmony) -> String {
 
 fn readable_logic(program: &Program, logic: &Declared<LogicForm<usize, Target>>) -> String {
     let form = &logic.form;
-    let start = form.start.map_or("nothing".to_string(), |start| readable_target(program, start));
+    let start = form.start.as_ref();
+    let start = start.map_or("nothing".to_string(), |start| readable_called(program, start));
     let mut text = format!("{}, start {start}", readable_trigger(program, &form.trigger));
     for order in &form.orders {
-        let called = readable_target(program, order.called);
+        let called = readable_called(program, &order.called);
         let trigger = readable_trigger(program, &order.trigger);
         let _ = write!(text, "\n  order {trigger} -> {called}");
     }
@@ -103,6 +115,11 @@ fn readable_trigger(program: &Program, trigger: &Trigger<usize>) -> String {
         Trigger::Letter(letter) => format!("letter {}", char::from(letter.0)),
         Trigger::Harmony(i) => named("harmony", program.declared.harmonies.get(*i)),
     }
+}
+
+fn readable_called(program: &Program, called: &Called<Target>) -> String {
+    let numbers = called.numbers.as_slice().iter();
+    readable_target(program, called.target) + &in_brackets(numbers)
 }
 
 fn readable_target(program: &Program, target: Target) -> String {

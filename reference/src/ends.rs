@@ -43,8 +43,8 @@ impl Ends {
 
     /// The same of a call that a frame has made.
     pub fn note_made(&mut self, state: &State, desk: &Desk, made: Made) {
-        if let Some(call) = desk.call_of(made.target) {
-            self.note(state, call, made.number);
+        if let Some(call) = desk.call_of(made) {
+            self.note(state, &call, made.number);
         }
     }
 
@@ -64,11 +64,11 @@ impl Ends {
 pub fn other_end(state: &State, call: &Call) -> Option<Key> {
     match call {
         Call::Anchor(change) => {
-            let anchor = change.of(state.anchor.0);
+            let anchor = change.of(state.anchor.0).ok()?;
             ANCHORS.contains(&anchor).then_some(Key(anchor))
         }
         Call::Width(change) => {
-            let width = change.of(state.width as i64);
+            let width = change.of(state.width as i64).ok()?;
             WIDTHS.contains(&width).then_some(Key(state.anchor.0 + width))
         }
         Call::Period(_) | Call::Tones(_) | Call::System(_) => None,

@@ -1,13 +1,14 @@
-//! Section "Frames" of document 01, with the keys of request 5/13 and the
-//! unplayable ones of 6/13: frames, what they call, and the answers.
+//! Section "Frames" of document 01, with the keys of request 5/13, the unplayable
+//! ones of 6/13 and the numbers handed over of 1/13: frames, what they call, and
+//! the answers.
 
-use crate::bindings::{Bindings, Sought};
+use crate::bindings::{Bindings, Found, Sought};
 use crate::harmony::{HeldKeys, House, HouseKey};
 use crate::measure::Pitch;
 use crate::numbers::{self, Number};
 use crate::playable::key_answer;
 use crate::state::{Call, Key, State};
-use crate::text::tree::{Letter, Target};
+use crate::text::tree::{Called, Letter, Target};
 use crate::text::{Program, Refusal};
 
 /// "Muted is 80000000."
@@ -110,8 +111,16 @@ pub fn refused_line(refusal: Refusal, out: &mut Vec<u8>) {
 /// A call of a tone system or retuning that a frame has made, and its number.
 #[derive(Clone, Copy, Debug, PartialEq, Eq)]
 pub struct Made {
-    pub target: Target,
+    pub called: Called<Target>,
+    pub caller: Caller,
     pub number: Number,
+}
+
+/// Where a call stands: "calls from orders and logic starts".
+#[derive(Clone, Copy, Debug, PartialEq, Eq)]
+pub enum Caller {
+    Start,
+    Order,
 }
 
 /// What a frame did: its number, whether a trigger was found, and the call if
@@ -158,9 +167,9 @@ impl Desk {
         self.active
     }
 
-    /// What a call of this name does.
-    pub fn call_of(&self, target: Target) -> Option<&Call> {
-        called(&self.program, target)
+    /// What a call that was made did, its numbers filled in.
+    pub fn call_of(&self, made: Made) -> Option<Call> {
+        self.program.call(&made.called)
     }
 
     pub fn held(&self) -> &HeldKeys {
@@ -230,8 +239,11 @@ impl Desk {
     /// called". If there is none, the number is `otherwise`.
     fn seek(&mut self, sought: Sought, otherwise: Number) -> Effect {
         match self.bindings.find(sought, self.active) {
-            Some(Target::Logic(logic)) => self.activate(logic),
-            Some(target) => self.call(target),
+            Some(Found::Logic(logic)) => self.activate(logic),
+            Some(Found::Order(called)) => match called.target {
+                Target::Logic(logic) => self.activate(logic),
+                _ => self.call(called, Caller::Order),
+            },
             None => Effect::nothing(otherwise),
         }
     }
@@ -242,39 +254,38 @@ impl Desk {
         self.active = Some(logic);
         let declared = self.program.declared.logics.get(logic);
         match declared.and_then(|logic| logic.form.start) {
-            Some(start) => self.call(start),
+            Some(start) => self.call(start, Caller::Start),
             None => Effect { number: numbers::DONE, triggered: true, made: None },
         }
     }
 
-    /// Calls a tone system or retuning; a refused call leaves the state.
-    fn call(&mut self, target: Target) -> Effect {
-        let Some(call) = called(&self.program, target) else {
+    /// Calls a tone system or retuning, with the numbers handed over filled in
+    /// now; a refused call leaves the state.
+    fn call(&mut self, called: Called<Target>, caller: Caller) -> Effect {
+        let Some(call) = self.program.call(&called) else {
             return Effect::nothing(numbers::DONE);
         };
-        let number = match self.state.called(call) {
+        let number = match self.state.called(&call) {
             Ok(state) => {
                 self.state = state;
                 numbers::DONE
             }
             Err(number) => number,
         };
-        Effect { number, triggered: true, made: Some(Made { target, number }) }
-    }
-}
-
-fn called(program: &Program, target: Target) -> Option<&Call> {
-    match target {
-        Target::Retuning(i) => program.retunings.get(i),
-        Target::System(i) => program.systems.get(i),
-        Target::Logic(_) => None,
+        Effect { number, triggered: true, made: Some(Made { called, caller, number }) }
     }
 }
 
 #[cfg(test)]
-mod tests {
+pub mod tests {
     use super::*;
     use crate::text::{self, tests::CASE_S};
+
+    /// A call that an order made, with the numbers that it handed over.
+    pub fn made(target: Target, handed: &[u16], number: Number) -> Made {
+        let numbers = handed.iter().copied().collect();
+        Made { called: Called { target, place: 0, numbers }, caller: Caller::Order, number }
+    }
 
     fn desk(text: &str) -> Desk {
         Desk::new(text::read(text.as_bytes()).unwrap())
@@ -424,6 +435,80 @@ mod tests {
                 ("01023D", "01023D00005D1420"),
                 ("01023C", "01023C0F80000000"),
                 ("010157", "01015700490D00A65220"),
+            ],
+        );
+    }
+
+    /// Request 1/13, case 1a: the handbook's form.
+    #[test]
+    fn anchors_by_placeholders() {
+        answers(
+            "RETUNING Anker_neu ( x ) = x [ ] Up ( n ) = @ + n [ ] \
+             LOGIC L KEY L = Anker_neu ( 62 ) [ KEY A -> Up ( 3 ) KEY B -> Up ( 9999 ) \
+             KEY C -> Anker_neu ( 60 ) ]",
+            &[
+                ("01014C", "01014C003E0C00124F80"),
+                ("010141", "01014100410C00124F80"),
+                ("010142", "0101420A410C00124F80"),
+                ("010143", "010143003C0C00124F80"),
+            ],
+        );
+    }
+
+    /// Case 1b: the logic is active though its start divides by zero.
+    #[test]
+    fn widths_by_placeholders_and_division_by_zero() {
+        answers(
+            "RETUNING W ( a, b ) = [ << @ / b >> ] T ( a ) = [ << @ * a >> ] S ( a ) = [ << a >> ] \
+             LOGIC L KEY L = W ( 7, 0 ) [ KEY A -> W ( 0, 2 ) KEY B -> T ( 3 ) KEY C -> S ( 0 ) \
+             KEY D -> W ( 5, 0 ) ]",
+            &[
+                ("01014C", "01014C193C0C00124F80"),
+                ("010141", "010141003C06000927C0"),
+                ("010142", "010142003C12001B7740"),
+                ("010143", "0101430B3C12001B7740"),
+                ("010144", "010144193C12001B7740"),
+            ],
+        );
+    }
+
+    /// Cases 1c and 1d: placeholders of no use, and one of the retuning's name.
+    #[test]
+    fn placeholders_of_no_use_and_of_one_name() {
+        answers(
+            "INTERVAL O = 2 : 1 RETUNING P ( a ) = [ ] O + O T ( a, b, c, d ) = [ , @ + O ] \
+             LOGIC L KEY L = P ( 0 ) [ KEY A -> T ( 1, 2, 3, 4 ) ]",
+            &[
+                ("01014C", "01014C003C0C00249F00"),
+                ("010141", "010141003C0C00249F00"),
+                ("01023D", "01023D00006F63A0"),
+                ("01023C", "01023C1480000000"),
+            ],
+        );
+        answers(
+            "TONE x = 440 RETUNING x ( X ) = @ - x [ ] LOGIC L KEY L = x ( #A ) [ ]",
+            &[("01014C", "01014C00320C00124F80")],
+        );
+    }
+
+    /// 25 comes before 11 and 13, leaves the four parts and the held keys, and
+    /// `* 0` and `<< 0 >>` stay 11; an order may start another logic so.
+    #[test]
+    fn division_by_zero_of_a_chord_and_of_a_called_logic() {
+        answers(
+            "HARMONY C = { 0 } RETUNING D ( n ) = [ << @ / n >> ] T ( n ) = [ << @ * n >> ] \
+             Mute = [ , ] Up ( n ) = @ + n [ ] LOGIC L C = D ( 0 ) [ KEY A -> Up ( 0 ) KEY B -> M ] \
+             M KEY M = D ( 0 ) [ KEY A -> T ( 0 ) KEY C -> Mute KEY D -> D ( 0 ) KEY E -> D ( 5 ) ]",
+            &[
+                ("010141", "010141153C0C00124F80"),
+                ("01053C", "01053C193C0C00124F80"),
+                ("01053C", "01053C113C0C00124F80"),
+                ("010141", "010141003C0C00124F80"),
+                ("010142", "010142193C0C00124F80"),
+                ("010141", "0101410B3C0C00124F80"),
+                ("010143", "010143003C0C00124F80"),
+                ("010144", "010144193C0C00124F80"),
+                ("010145", "0101450D3C0C00124F80"),
             ],
         );
     }

@@ -12,6 +12,7 @@ mod desk;
 mod dump;
 mod ends;
 mod frames;
+mod handed;
 mod harmony;
 mod logarithm;
 mod measure;
@@ -38,6 +39,7 @@ const USAGE: &str = "usage: reference SUBCOMMAND
   read FILE...                 prints what each text declares
   text-cases SEED COUNT DIR|-  writes texts, into a folder or as a stream
   texts                        answers a stream of texts
+  text-counts SEED COUNT       counts the causes of 24 among these texts
   stream-cases SEED INDEX TEXTFILE FRAMESFILE
                                writes one text and its frames
   stream-pairs SEED COUNT DIR  writes texts and frames, each pair in a folder
@@ -85,6 +87,7 @@ fn run(words: &[&str]) -> Option<Outcome> {
         ["text-cases", seed, count, folder] => {
             texts::write_cases(seed.parse().ok()?, count.parse().ok()?, folder)
         }
+        ["text-counts", seed, count] => texts::count(seed.parse().ok()?, count.parse().ok()?),
         ["stream-cases", seed, index, text, frames] => {
             streams::write_case(seed.parse().ok()?, index.parse().ok()?, text, frames)
         }

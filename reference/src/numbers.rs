@@ -1,5 +1,5 @@
-//! The table "Numbers returned" of document 01, and what requests 5/13 and 6/13
-//! add.
+//! The table "Numbers returned" of document 01, and what requests 1/13, 5/13 and
+//! 6/13 add.
 
 pub type Number = u8;
 
@@ -24,6 +24,8 @@ pub const KEY_NOT_HELD: Number = 18;
 pub const SILENT_KEY: Number = 20;
 pub const UNBOUND_LETTER: Number = 21;
 pub const BAD_FRAME: Number = 22;
+pub const BAD_PLACEHOLDER: Number = 24;
+pub const DIVISION_BY_ZERO: Number = 25;
 
 /// How often each number was given, for people to read.
 #[derive(Default)]

@@ -61,7 +61,7 @@ impl Limits {
     /// Counts a call that a frame has made on this state: "Anchor and width
     /// retunings keep using the unlimited pitch."
     pub fn note_made(&mut self, state: &State, desk: &Desk, made: Made) {
-        let Some(key) = desk.call_of(made.target).and_then(|call| other_end(state, call)) else {
+        let Some(key) = desk.call_of(made).and_then(|call| other_end(state, &call)) else {
             return;
         };
         let by_a_pitch = state.place_of(key).1 != 0 && made.number == numbers::DONE;

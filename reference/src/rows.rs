@@ -1,11 +1,12 @@
-//! What a text declares as rows in the order of the text, with the tones,
-//! changes and orders that the rows refer to: the desk's tables, without their
-//! unused places. The README has the format.
+//! What a text declares as rows in the order of the text, behind them a row for
+//! each call that hands over an n, and the tones, changes and orders that the
+//! rows refer to: the desk's tables, without their unused places. The README has
+//! the format.
 
 use crate::harmony::{Harmony, Positions};
 use crate::measure::Pitch;
 use crate::state::{Call, Change, PeriodChange, Position};
-use crate::text::tree::{self, Target, Trigger};
+use crate::text::tree::{Amount, Called, Target, Trigger};
 use crate::text::Program;
 
 /// A sum beyond this, which leads no tone and no period back into its range,
@@ -21,6 +22,8 @@ pub const PERIOD: u8 = 6;
 pub const TONES: u8 = 7;
 pub const LOGIC: u8 = 8;
 pub const HARMONY: u8 = 9;
+/// A retuning whose n is a placeholder; calls name rows of their own for it.
+pub const PATTERN: u8 = 10;
 
 /// How many key numbers stand in one number of a harmony's row.
 pub const KEYS_IN_NUMBER: usize = 30;
@@ -61,9 +64,17 @@ pub struct Lists {
 
 impl Lists {
     pub fn of(program: &Program) -> Self {
-        let mut writer = Writer { program, order: in_order(program), lists: Lists::default() };
+        let mut writer = Writer {
+            program,
+            order: in_order(program),
+            filled: Vec::new(),
+            lists: Lists::default(),
+        };
         for declaration in writer.order.clone() {
             writer.put(declaration);
+        }
+        for call in std::mem::take(&mut writer.filled) {
+            writer.put_call(&call);
         }
         writer.lists
     }
@@ -127,6 +138,8 @@ fn in_order(program: &Program) -> Vec<Declaration> {
 struct Writer<'a> {
     program: &'a Program,
     order: Vec<Declaration>,
+    /// What the calls so far that hand over an n do.
+    filled: Vec<Call>,
     lists: Lists,
 }
 
@@ -153,7 +166,12 @@ impl Writer<'_> {
             Declaration::Tone(i) => self.row(TONE, program.tones[i].0 as i32, 0, (0, 0)),
             Declaration::Harmony(i) => self.put_harmony(&program.declared.harmonies[i].form),
             Declaration::Called(Target::System(i)) => self.put_call(&program.systems[i]),
-            Declaration::Called(Target::Retuning(i)) => self.put_call(&program.retunings[i]),
+            Declaration::Called(Target::Retuning(i)) => {
+                match program.retunings[i].filled(Amount::written) {
+                    Some(call) => self.put_call(&call),
+                    None => self.row(PATTERN, 0, 0, (0, 0)),
+                }
+            }
             Declaration::Called(Target::Logic(i)) => self.put_logic(i),
         }
     }
@@ -194,21 +212,32 @@ impl Writer<'_> {
             Change::Plus(n) => (2, n),
             Change::Minus(n) => (3, n),
             Change::Times(n) => (4, n),
-            Change::Over(n) => (5, n.get()),
+            Change::Over(n) => (5, n),
         };
         self.row(form, code, n.into(), (0, 0));
     }
 
     fn put_logic(&mut self, i: usize) {
         let form = &self.program.declared.logics[i].form;
-        let number = |target: Target| self.number(Declaration::Called(target));
-        let start = form.start.map_or(0, |start| 1 + i32::from(number(start)));
-        let order = |order: &tree::Order<_, _>| (self.code(&order.trigger), number(order.called));
-        let orders: Vec<Order> = form.orders.iter().map(order).collect();
         let trigger = self.code(&form.trigger);
+        let start = form.start.map_or(0, |start| 1 + i32::from(self.called_row(&start)));
         let from = self.lists.orders.len();
-        self.row(LOGIC, trigger.into(), start, (from, from + orders.len()));
-        self.lists.orders.extend(orders);
+        for order in &form.orders {
+            let order = (self.code(&order.trigger), self.called_row(&order.called));
+            self.lists.orders.push(order);
+        }
+        self.row(LOGIC, trigger.into(), start, (from, from + form.orders.len()));
+    }
+
+    /// The number of the row that a call names: the declaration's, or, where a
+    /// placeholder is n, one of its own behind all declarations.
+    fn called_row(&mut self, called: &Called<Target>) -> u16 {
+        if !self.program.hands_over_n(called) {
+            return self.number(Declaration::Called(called.target));
+        }
+        let row = self.order.len() + self.filled.len();
+        self.filled.extend(self.program.call(called));
+        row as u16
     }
 
     /// The needed and then all named key numbers, each in two sums.
@@ -245,6 +274,30 @@ mod tests {
         // the order U -> Up, which is declaration 5
         assert_eq!(bytes[bytes.len() - 4..], [0, b'U', 0, 5]);
         assert_eq!(bytes.len(), 16 + 7 * 17 + 2 * 5 + 4);
+    }
+
+    /// Request 1/13: a row of its own for each call of a retuning whose n is a
+    /// placeholder, behind the declarations, a start's before its orders'.
+    #[test]
+    fn placeholders() {
+        let text = "LOGIC l KEY a = p ( 7, 0 ) [ KEY b -> q ( 9 ) KEY c -> p ( 1, 2 ) ] \
+            RETUNING q ( x ) = @ - 3 [ ] p ( x, y ) = [ << @ / y >> ] r ( x ) = x [ ] \
+            LOGIC m KEY m = r ( 62 ) [ KEY z -> p ( 7, 0 ) KEY y -> l ]";
+        let lists = Lists::of(&text::read(text.as_bytes()).unwrap());
+        let rows = [
+            [8, 65, 1 + 5, 0, 2],
+            [4, 3, 3, 0, 0],
+            [10, 0, 0, 0, 0],
+            [10, 0, 0, 0, 0],
+            [8, 77, 1 + 7, 2, 4],
+            [5, 5, 0, 0, 0],
+            [5, 5, 2, 0, 0],
+            [4, 1, 62, 0, 0],
+            [5, 5, 0, 0, 0],
+        ];
+        assert_eq!(lists.rows, rows);
+        assert_eq!(lists.orders, [(66, 1), (67, 6), (90, 8), (89, 0)]);
+        assert_eq!(lists.counts(), [9, 0, 0, 4]);
     }
 
     #[test]

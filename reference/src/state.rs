@@ -1,10 +1,9 @@
-//! Section "State and retunings" of document 01, as request 2/13 of document
-//! 02 mends it: the four parts of a tuning, the pitch of a key, and what each
-//! call makes of them.
+//! Section "State and retunings" of document 01, as requests 1/13 and 2/13 of
+//! document 02 mend it: the four parts of a tuning, the pitch of a key, and what
+//! each call makes of them.
 
 use crate::measure::{Interval, Pitch};
 use crate::numbers::{self, Number};
-use std::num::NonZeroU16;
 use std::ops::RangeInclusive;
 
 /// "positions in one list | 60", which is the greatest width too.
@@ -38,29 +37,57 @@ pub struct State {
     pub period: Interval,
 }
 
-/// A new number, absolute or from the old one. Anchors are changed by the
-/// first four only.
+/// A new number, absolute or from the old one, by an n that is a number or will
+/// be one. Anchors are changed by the first four only.
 #[derive(Clone, Copy, Debug, PartialEq, Eq)]
-pub enum Change {
-    To(u16),
+pub enum Change<N = u16> {
+    To(N),
     Kept,
-    Plus(u16),
-    Minus(u16),
-    Times(u16),
-    Over(NonZeroU16),
+    Plus(N),
+    Minus(N),
+    Times(N),
+    Over(N),
 }
 
 impl Change {
-    /// "`/` takes the whole part"; the old number is from zero upward.
-    pub fn of(self, old: i64) -> i64 {
-        match self {
+    /// "`/` takes the whole part"; the old number is from zero upward. "At the
+    /// call 25, before 10 to 14, for division by zero".
+    pub fn of(self, old: i64) -> Result<i64, Number> {
+        Ok(match self {
             Change::To(n) => n.into(),
             Change::Kept => old,
             Change::Plus(n) => old + i64::from(n),
             Change::Minus(n) => old - i64::from(n),
             Change::Times(n) => old * i64::from(n),
-            Change::Over(n) => old / i64::from(n.get()),
+            Change::Over(0) => return Err(numbers::DIVISION_BY_ZERO),
+            Change::Over(n) => old / i64::from(n),
+        })
+    }
+}
+
+impl<N> Change<N> {
+    /// What stands for n, if there is one.
+    pub fn amount(&self) -> Option<&N> {
+        match self {
+            Change::Kept => None,
+            Change::To(n)
+            | Change::Plus(n)
+            | Change::Minus(n)
+            | Change::Times(n)
+            | Change::Over(n) => Some(n),
         }
+    }
+
+    /// The same with a number for n, if there is one for it.
+    pub fn filled(&self, number: impl Fn(&N) -> Option<u16>) -> Option<Change> {
+        Some(match self {
+            Change::Kept => Change::Kept,
+            Change::To(n) => Change::To(number(n)?),
+            Change::Plus(n) => Change::Plus(number(n)?),
+            Change::Minus(n) => Change::Minus(number(n)?),
+            Change::Times(n) => Change::Times(number(n)?),
+            Change::Over(n) => Change::Over(number(n)?),
+        })
     }
 }
 
@@ -88,12 +115,25 @@ pub struct ToneSystem {
 
 /// A call of a retuning of one of the four kinds, or of a tone system.
 #[derive(Clone, Debug, PartialEq, Eq)]
-pub enum Call {
-    Anchor(Change),
-    Width(Change),
+pub enum Call<N = u16> {
+    Anchor(Change<N>),
+    Width(Change<N>),
     Period(PeriodChange),
     Tones(Vec<Position>),
     System(ToneSystem),
+}
+
+impl<N> Call<N> {
+    /// The same with a number for n, if there is one for it.
+    pub fn filled(&self, number: impl Fn(&N) -> Option<u16>) -> Option<Call> {
+        Some(match self {
+            Call::Anchor(change) => Call::Anchor(change.filled(number)?),
+            Call::Width(change) => Call::Width(change.filled(number)?),
+            Call::Period(change) => Call::Period(*change),
+            Call::Tones(positions) => Call::Tones(positions.clone()),
+            Call::System(system) => Call::System(system.clone()),
+        })
+    }
 }
 
 impl State {
@@ -127,8 +167,8 @@ impl State {
     /// The state after a call that is taken, or the number of its refusal.
     pub fn called(&self, call: &Call) -> Result<State, Number> {
         match call {
-            Call::Anchor(change) => self.with_anchor(change.of(self.anchor.0)),
-            Call::Width(change) => self.with_width(change.of(self.width as i64)),
+            Call::Anchor(change) => self.with_anchor(change.of(self.anchor.0)?),
+            Call::Width(change) => self.with_width(change.of(self.width as i64)?),
             Call::Period(PeriodChange::To(period)) => self.with_period(*period),
             Call::Period(PeriodChange::By(by)) => self.with_period(self.period + *by),
             Call::Tones(positions) => self.with_tones(positions),
@@ -263,8 +303,19 @@ mod tests {
         assert_eq!(pitch(&wide, 127), pitch(&start, 127));
         assert_eq!(refusal(&start, Call::Width(Change::To(61))), 11);
         let one = start.called(&Call::Width(Change::To(1))).unwrap();
-        let half = Change::Over(NonZeroU16::new(2).unwrap());
-        assert_eq!(refusal(&one, Call::Width(half)), 11);
+        assert_eq!(refusal(&one, Call::Width(Change::Over(2))), 11);
+    }
+
+    /// Request 1/13: 25 comes before 11 and 13, and of `/` alone.
+    #[test]
+    fn a_zero_as_number() {
+        let silent = two().called(&Call::Tones(vec![Position::Muted])).unwrap();
+        for state in [State::start(), two(), silent] {
+            assert_eq!(refusal(&state, Call::Width(Change::Over(0))), 25);
+            assert_eq!(refusal(&state, Call::Width(Change::Times(0))), 11);
+            assert_eq!(refusal(&state, Call::Width(Change::To(0))), 11);
+            assert_eq!(state.called(&Call::Width(Change::Plus(0))).unwrap(), state);
+        }
     }
 
     #[test]

@@ -10,8 +10,9 @@ use crate::text::Program;
 
 /// "intervals, tones | 256 each", "tone systems, logics | 32 each", "retunings |
 /// 128", "positions in one list | 60", "orders in all logics together | 512";
-/// "at most 64 harmonies".
-const MOST: [usize; 6] = [256, 256, 32, 128, 32, 64];
+/// "at most 64 harmonies". Beside the declared retunings stands one more for
+/// each start and each order, which may hand over an n.
+const MOST: [usize; 6] = [256, 256, 32, 128 + 32 + ORDERS, 32, 64];
 const ROWS: usize = MOST[0] + MOST[1] + MOST[2] + MOST[3] + MOST[4] + MOST[5];
 const TONES: usize = 32 * POSITIONS;
 const CHANGES_IN_ALL: usize = 128 * POSITIONS;
@@ -113,6 +114,7 @@ impl Tables {
                     && has(0, ORDERS, orders)
             }
             Ok(rows::HARMONY) => [first, second, from, to].into_iter().all(is_set),
+            Ok(rows::PATTERN) => first == 0 && second == 0 && has_none,
             _ => false,
         }
     }
@@ -147,7 +149,6 @@ fn is_amount(last: i32, code: i32, n: i32) -> bool {
     (0..=last).contains(&code)
         && u16::try_from(n).is_ok_and(|n| CHANGES.contains(&n))
         && (code != 0 || n == 0)
-        && (code != 5 || n >= 1)
 }
 
 fn is_sum(number: i32) -> bool {
@@ -227,6 +228,67 @@ mod tests {
         assert!(!tables.is_valid());
         tables.lists.rows[64] = UNUSED;
         tables.used[0] = 64;
+        assert!(tables.is_valid());
+    }
+
+    #[test]
+    fn patterns_are_valid_until_damaged() {
+        let text =
+            "RETUNING a ( x ) = [ << @ / x >> ] LOGIC l KEY l = a ( 0 ) [ KEY m -> a ( 9999 ) ]";
+        let sound = || Tables::of(&text::read(text.as_bytes()).unwrap());
+        assert!(sound().is_valid());
+        let damages: [fn(&mut Tables); 9] = [
+            |tables| tables.lists.rows[0][1] = 1,
+            |tables| tables.lists.rows[0][2] = 1,
+            |tables| tables.lists.rows[0][3] = 1,
+            |tables| tables.lists.rows[0][4] = 1,
+            |tables| tables.lists.rows[0][0] = 11,
+            |tables| tables.lists.rows[1][2] = 1,
+            |tables| tables.lists.orders[0].1 = 0,
+            |tables| tables.lists.rows[2][2] = -1,
+            |tables| tables.lists.rows[3][2] = 10_000,
+        ];
+        for (i, damage) in damages.into_iter().enumerate() {
+            let mut tables = sound();
+            damage(&mut tables);
+            assert!(!tables.is_valid(), "damage {i}");
+        }
+    }
+
+    /// 128 declared retunings and 544 filled in, patterns among them.
+    #[test]
+    fn a_retuning_too_many_is_damage() {
+        for row in [[10, 0, 0, 0, 0], [5, 5, 0, 0, 0], [6, 1, 0, 0, 0]] {
+            let mut tables = Tables::of(&text::read(b"").unwrap());
+            tables.lists.rows[..672].fill(row);
+            tables.used[0] = 672;
+            assert!(tables.is_valid());
+            tables.lists.rows[672] = row;
+            tables.used[0] = 673;
+            assert!(!tables.is_valid());
+        }
+    }
+
+    /// All that a text can declare, and each start and order with a row of its
+    /// own.
+    #[test]
+    fn tables_without_an_unused_row_are_valid() {
+        let declared = |count: usize, form: &str| -> String {
+            (0..count).map(|i| format!("n{i}{form} ")).collect()
+        };
+        let orders = "KEY b->n1(2)".repeat(16);
+        let text = format!(
+            "INTERVAL {}TONE {}TONESYSTEM {}RETUNING {}HARMONY {}LOGIC {}",
+            declared(256, "=1:1"),
+            declared(256, "=440"),
+            declared(32, "=0[,]n0"),
+            declared(128, "(x)=@+x[]"),
+            declared(64, "={0}"),
+            declared(32, &format!(" KEY a=n0(1)[{orders}]")),
+        );
+        let tables = Tables::of(&text::read(text.as_bytes()).unwrap());
+        assert_eq!((tables.used[0], tables.used[3]), (1_312, 512));
+        assert_eq!(tables.lists.rows[1_311], [4, 2, 2, 0, 0]);
         assert!(tables.is_valid());
     }
 

@@ -7,7 +7,6 @@ use crate::random::Random;
 use crate::state::{
     Call, Change, PeriodChange, Position, State, ToneSystem, PERIODS, POSITIONS, SUMS, VALUES,
 };
-use std::num::NonZeroU16;
 
 /// The longest sequence of calls.
 const LONGEST: usize = 20;
@@ -74,7 +73,7 @@ fn whole_widths(random: &mut Random, state: &State, left: i64) -> i64 {
 
 fn width_change(random: &mut Random, state: &State) -> Change {
     let old = state.width as i64;
-    match random.below(14) {
+    match random.below(15) {
         0 => Change::Kept,
         1 | 2 => Change::To(n(random.between(0, 61))),
         3 => Change::To(random.one_of([0, 1, 60, 61, 9_999])),
@@ -84,19 +83,16 @@ fn width_change(random: &mut Random, state: &State) -> Change {
         7 => Change::Minus(n(old + random.between(-2, 1))),
         8 => Change::Times(n(random.between(0, 61 / old.max(1) + 1))),
         9 => Change::Times(random.one_of([0, 1, 2, 5, 60, 61, 9_999])),
-        10 => Change::Over(above_zero(random.between(1, old + 1))),
+        10 => Change::Over(n(random.between(1, old + 1))),
         11 | 12 => Change::To(n(whole_widths(random, state, 60))),
-        _ => Change::Over(above_zero(random.one_of([1, 2, 3, 12, 61, 9_999]))),
+        13 => Change::Over(random.one_of([1, 2, 3, 12, 61, 9_999])),
+        _ => Change::Over(0),
     }
 }
 
 /// A number for an anchor or width retuning.
 fn n(value: i64) -> u16 {
     value.clamp(0, 9_999) as u16
-}
-
-fn above_zero(value: i64) -> NonZeroU16 {
-    NonZeroU16::new(n(value)).unwrap_or(NonZeroU16::MIN)
 }
 
 fn period_change(random: &mut Random, state: &State) -> PeriodChange {
@@ -198,7 +194,7 @@ mod tests {
 
     #[test]
     fn each_number_is_frequent() {
-        let mut counts = [0; 15];
+        let mut counts = [0; 26];
         let mut state = State::start();
         for step in steps(11, 500) {
             let new = match step {
@@ -208,7 +204,7 @@ mod tests {
             counts[new.as_ref().err().map_or(0, |&number| usize::from(number))] += 1;
             state = new.unwrap_or(state);
         }
-        for number in [0, 10, 11, 12, 13, 14] {
+        for number in [0, 10, 11, 12, 13, 14, 25] {
             assert!(counts[number] >= 100, "{counts:?}");
         }
     }

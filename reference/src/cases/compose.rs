@@ -7,7 +7,9 @@ use super::sketch::{kind_word, Kind, Part, Quantity, Token, KINDS};
 use crate::measure::{self, Degree, Interval, Pitch, TenThousandths};
 use crate::random::Random;
 use crate::state::{PERIODS, VALUES};
+use std::collections::HashMap;
 use std::num::NonZeroU32;
+use std::ops::Range;
 
 /// Numbers whose measure is more than half a thousandth of a cent from the
 /// truth: in hertz, above it, and as a ratio, above it or below it.
@@ -41,6 +43,8 @@ pub struct Plan {
     /// Whether first positions are often muted, and anchors moved by whole
     /// widths.
     pub first_muted: bool,
+    /// How many in a hundred retunings have placeholders.
+    pub placeholders: u32,
 }
 
 /// The symbols of a text by this plan.
@@ -91,6 +95,13 @@ struct Known<V> {
     value: V,
 }
 
+/// A placeholder, and the numbers that its retuning is made for.
+#[derive(Clone, Debug)]
+struct Placeholder {
+    name: String,
+    fits: Range<u64>,
+}
+
 struct Composer<'a> {
     random: &'a mut Random,
     plan: Plan,
@@ -100,6 +111,9 @@ struct Composer<'a> {
     /// The start's width and those of the tone systems.
     widths: Vec<usize>,
     retunings: Vec<String>,
+    /// The placeholders of the retuning under way, and those of earlier ones.
+    brackets: Vec<Placeholder>,
+    earlier_brackets: HashMap<String, Vec<Placeholder>>,
     harmonies: Vec<String>,
     logics: Vec<String>,
 }
@@ -178,6 +192,8 @@ impl<'a> Composer<'a> {
             systems: Vec::new(),
             widths: vec![START_WIDTH],
             retunings: Vec::new(),
+            brackets: Vec::new(),
+            earlier_brackets: HashMap::new(),
             harmonies: Vec::new(),
             logics: Vec::new(),
         }
@@ -379,16 +395,56 @@ impl Composer<'_> {
         let names = fresh_names(self.random, self.plan.retunings);
         let mut declarations = Vec::new();
         for name in names {
-            let form = match self.random.below(10) {
+            self.brackets = self.any_brackets();
+            // Placeholders are of use in anchor and width retunings.
+            let open = !self.brackets.is_empty() && self.random.percent(60);
+            let form = match self.random.below(if open { 5 } else { 10 }) {
                 0..=2 => self.anchor_form(),
                 3..=4 => self.width_form(),
                 5..=6 => self.period_form(),
                 _ => self.tones_form(),
             };
-            declarations.push(declaration(Kind::Retuning, &name, form));
+            let mut tokens = declaration(Kind::Retuning, &name, form);
+            tokens.splice(1..1, self.bracket_tokens());
+            declarations.push(tokens);
+            self.earlier_brackets.insert(name.clone(), std::mem::take(&mut self.brackets));
             self.retunings.push(name);
         }
         declarations
+    }
+
+    /// None to four placeholders; their names are often those of other things.
+    fn any_brackets(&mut self) -> Vec<Placeholder> {
+        if !self.random.percent(self.plan.placeholders) {
+            return Vec::new();
+        }
+        let count = self.random.one_of([1, 1, 1, 2, 2, 3, 4]);
+        let names = fresh_names(self.random, count);
+        names.into_iter().map(|name| Placeholder { name, fits: ANY_N }).collect()
+    }
+
+    fn bracket_tokens(&self) -> Vec<Token> {
+        let name = |placeholder: &Placeholder| Token::new(Part::Placeholder, &placeholder.name);
+        in_brackets(self.brackets.iter().map(name).collect())
+    }
+
+    /// n, one of these numbers or a placeholder for one of them; for a divisor 0
+    /// may be handed over, too.
+    fn n(&mut self, quantity: Quantity, fits: Range<u64>) -> Token {
+        let place = self.random.below(self.brackets.len());
+        if let Some(placeholder) = self.brackets.get_mut(place) {
+            if self.random.percent(PLACEHOLDERS_FOR_N) {
+                let least = if quantity == Quantity::Divisor { 0 } else { fits.start };
+                placeholder.fits = least..fits.end;
+                return Token::new(Part::Amount, &placeholder.name);
+            }
+        }
+        let n = self.one_in(&fits);
+        self.whole(quantity, n)
+    }
+
+    fn one_in(&mut self, numbers: &Range<u64>) -> u64 {
+        numbers.start + self.random.below((numbers.end - numbers.start) as usize) as u64
     }
 
     fn anchor_form(&mut self) -> Vec<Token> {
@@ -409,14 +465,13 @@ impl Composer<'_> {
 
     fn by_whole_widths(&mut self) -> Vec<Token> {
         let width = self.random.pick(&self.widths, START_WIDTH);
-        let steps = width * (1 + self.random.below(3));
+        let steps = (width * (1 + self.random.below(3))) as u64;
         let sign = self.random.one_of(["+", "-"]);
-        vec![Token::mark("@"), Token::mark(sign), self.whole(Quantity::Change, steps as u64)]
+        vec![Token::mark("@"), Token::mark(sign), self.n(Quantity::Change, steps..steps + 1)]
     }
 
-    fn change(&mut self, below: usize) -> Token {
-        let n = self.random.below(below) as u64;
-        self.whole(Quantity::Change, n)
+    fn change(&mut self, below: u64) -> Token {
+        self.n(Quantity::Change, 0..below)
     }
 
     fn width_form(&mut self) -> Vec<Token> {
@@ -437,10 +492,7 @@ impl Composer<'_> {
         let operator = self.random.one_of(["", "+", "-", "*", "/"]);
         let n = match operator {
             "" => return Vec::new(),
-            "/" => {
-                let n = 1 + self.random.below(if rare { 9_999 } else { 4 }) as u64;
-                self.whole(Quantity::Divisor, n)
-            }
+            "/" => self.n(Quantity::Divisor, 1..if rare { 10_000 } else { 5 }),
             "*" => self.change(if rare { 10_000 } else { 4 }),
             _ => self.change(if rare { 10_000 } else { 8 }),
         };
@@ -533,7 +585,7 @@ impl Composer<'_> {
             let mut tokens = vec![Token::declared(Kind::Logic, name)];
             tokens.extend(self.trigger(letter, LOGICS_BY_HARMONIES));
             tokens.push(Token::mark("="));
-            tokens.extend(self.called(false));
+            tokens.extend(self.called(false).unwrap_or_default());
             tokens.push(Token::mark("["));
             for _ in 0..self.random.below(self.plan.orders + 1) {
                 tokens.extend(self.order(front));
@@ -551,7 +603,8 @@ impl Composer<'_> {
         let behind = front + self.random.below(26 - front);
         let letter = if self.random.percent(90) { behind } else { self.random.below(26) };
         let mut tokens = self.trigger(letter, ORDERS_BY_HARMONIES);
-        tokens.extend([Token::mark("->"), called]);
+        tokens.push(Token::mark("->"));
+        tokens.extend(called);
         tokens
     }
 
@@ -570,8 +623,9 @@ impl Composer<'_> {
         vec![Token::word(word), Token { part: Part::Letter, bytes: vec![letter] }]
     }
 
-    /// A name to call: a retuning, a tone system or, in orders, a logic.
-    fn called(&mut self, in_order: bool) -> Option<Token> {
+    /// A name to call, with what it is handed: a retuning, a tone system or, in
+    /// orders, a logic.
+    fn called(&mut self, in_order: bool) -> Option<Vec<Token>> {
         let list = match self.random.below(20) {
             0..=1 if in_order => &self.logics,
             0..=1 => return None,
@@ -579,15 +633,50 @@ impl Composer<'_> {
             _ => &self.retunings,
         };
         let name = self.random.pick(list, String::new());
-        (!name.is_empty()).then(|| Token::new(Part::Called, &name))
+        (!name.is_empty()).then(|| self.call_of(&name))
+    }
+
+    /// If a retuning has this name too, that is what is called.
+    fn call_of(&mut self, name: &str) -> Vec<Token> {
+        let brackets = self.earlier_brackets.get(name).cloned().unwrap_or_default();
+        let numbers = brackets.iter().map(|placeholder| self.handed(&placeholder.fits)).collect();
+        let mut tokens = vec![Token::new(Part::Called, name)];
+        tokens.extend(in_brackets(numbers));
+        tokens
+    }
+
+    /// A number for a placeholder, now and then one at a limit or past it.
+    fn handed(&mut self, fits: &Range<u64>) -> Token {
+        let n = if self.random.percent(AT_LIMITS) {
+            self.random.one_of([0, 0, 0, 1, 60, 61, 127, 128, 9_999])
+        } else {
+            self.one_in(fits)
+        };
+        self.whole(Quantity::Handed, n)
     }
 }
+
+/// How often in a hundred a placeholder stands for n where there are some, and a
+/// call hands over a number at a limit.
+const PLACEHOLDERS_FOR_N: u32 = 85;
+const AT_LIMITS: u32 = 18;
+
+/// "n in anchor and width retunings".
+const ANY_N: Range<u64> = 0..10_000;
 
 /// How many in a hundred triggers are harmonies, if there are any.
 const LOGICS_BY_HARMONIES: u32 = 25;
 const ORDERS_BY_HARMONIES: u32 = 50;
 
 const NO_TONE: Known<Pitch> = Known { name: String::new(), value: measure::CONCERT_PITCH };
+
+/// Nothing where there is no item.
+fn in_brackets(items: Vec<Token>) -> Vec<Token> {
+    if items.is_empty() {
+        return items;
+    }
+    listed("(", items.into_iter().map(|item| vec![item]).collect(), ")")
+}
 
 fn bracketed(positions: Vec<Vec<Token>>) -> Vec<Token> {
     listed("[", positions, "]")

@@ -1,7 +1,7 @@
 //! Texts from the documents: case S of document 01, and examples of the
 //! handbook (000) and of its page on relative retunings (003), right ones and
-//! ones that use what is left out for now. The handbook's harmonies stand in
-//! whole texts here, with what they call.
+//! ones that use what is left out for now. The handbook's harmonies and its
+//! `Anker_neu` stand in whole texts here, with what they call.
 
 /// The scale of the handbook's chapter 7, on which its harmonies play.
 macro_rules! c_dur_rein {
@@ -15,7 +15,7 @@ macro_rules! c_dur_rein {
     };
 }
 
-pub const EXAMPLES: [&str; 19] = [
+pub const EXAMPLES: [&str; 25] = [
     "INTERVAL Octave = 2 : 1 Fifth = 3 : 2 TONE a = 440 e = a + Fifth \
      TONESYSTEM Two = 69 [ a, e ] Octave RETUNING Up = @ + 1 [ ] LOGIC L KEY M = Two [ KEY U -> Up ]",
     "INTERVALL\n  Drittelton = 18 Wurzel 2\nTON\n  a = 440\nTONSYSTEM\n  Drittel = 69 [a] Drittelton\n\
@@ -61,7 +61,40 @@ pub const EXAMPLES: [&str; 19] = [
      LOGIK\n\nBraun Taste b = Zwoelf_Stufig [ D_Dur -> Gelb ]\n",
     "HARMONIE Moll = {0,3,7}\nUMSTIMMUNG Meier = 34 []\nLOGIK Nie Taste n = [2 ~ Moll -> Meier]\n",
     "HARMONIE\ndur = {0, 4, 7}\nLOGIK mutiere_dur_2 Taste M = [\n    FORM dur  -> u1\n]\n",
+    "RETUNING Anker_neu ( x ) = x [ ] Up ( n ) = @ + n [ ] LOGIC L KEY L = Anker_neu ( 62 ) [ \
+     KEY A -> Up ( 3 ) KEY B -> Up ( 9999 ) KEY C -> Anker_neu ( 60 ) ]",
+    "RETUNING W ( a, b ) = [ << @ / b >> ] T ( a ) = [ << @ * a >> ] S ( a ) = [ << a >> ] \
+     LOGIC L KEY L = W ( 7, 0 ) [ KEY A -> W ( 0, 2 ) KEY B -> T ( 3 ) KEY C -> S ( 0 ) \
+     KEY D -> W ( 5, 0 ) ]",
+    "INTERVAL O = 2 : 1 RETUNING P ( a ) = [ ] O + O T ( a, b, c, d ) = [ , @ + O ] \
+     LOGIC L KEY L = P ( 0 ) [ KEY A -> T ( 1, 2, 3, 4 ) ]",
+    "TONE x = 440 RETUNING x ( X ) = @ - x [ ] LOGIC L KEY L = x ( #A ) [ ]",
+    "RETUNING a = x [ ] INTERVAL b = b",
+    "LOGIC L KEY L = [ KEY A -> L ( 1 ) ]",
 ];
+
+/// Request 1/13: a placeholder in each of the eight forms and in the others, with
+/// names that other things have; numbers at the limits of each form and one past
+/// them; divisions by zero in starts and orders, of letters and harmonies.
+pub const PLACEHOLDERS: &str =
+    "INTERVAL O = 2 : 1 x = 3 : 2 TONE a = 440 x = a + x TONESYSTEM Two = 69 [ a, x, , x ] O \
+     HARMONY C = { 0 } D = { 1, *2 } RETUNING To ( x ) = x [ ] Up ( n, x ) = @ + n [ ] \
+     Down ( x, n ) = @ - n [ ] Wide ( Two ) = [ << two >> ] More ( a ) = [ << @ + A >> ] \
+     Less ( a, b, c, d ) = [ << @ - d >> ] x ( x ) = [ << @ * x >> ] Part ( O, C ) = [ << @ / c >> ] \
+     Same ( x ) = @ [ ] Five ( x, y ) = [ << 5 >> ] Long ( x ) = [ ] 10 O \
+     Mute ( a, b, c, d ) = [ , @ + x ] \
+     LOGIC L KEY L = Part ( 9999, 0 ) [ KEY A -> To ( 0 ) KEY B -> To ( 127 ) KEY C -> To ( 128 ) \
+     KEY D -> To ( 60 ) KEY E -> Up ( 1, 0 ) KEY F -> Up ( 0, 9999 ) KEY G -> Down ( 0, 1 ) \
+     KEY H -> Down ( 1, 9999 ) KEY I -> Wide ( 12 ) KEY J -> Wide ( 60 ) KEY K -> M D -> Part ( 1, 0 ) ] \
+     M KEY M = Part ( 1, 0 ) [ KEY A -> Wide ( 61 ) KEY B -> Wide ( 0 ) KEY C -> More ( 1 ) \
+     KEY D -> More ( 9999 ) KEY E -> Less ( 9, 9, 9, 1 ) KEY F -> Less ( 1, 1, 1, 60 ) \
+     KEY G -> x ( 2 ) KEY H -> x ( 0 ) KEY I -> Part ( 0, 2 ) KEY J -> Part ( 9999, 0 ) KEY K -> N \
+     D -> Up ( 12, 0 ) ] N KEY N = Mute ( 0, 0, 0, 0 ) [ KEY A -> Part ( 7, 0 ) KEY B -> Part ( 0, 9999 ) \
+     KEY C -> Same ( 9999 ) KEY D -> Five ( 0, 1 ) KEY E -> Long ( 127 ) \
+     KEY F -> Mute ( 0, 1, 127, 9999 ) KEY G -> Two KEY H -> x ( #2 ) KEY I -> Part ( 2, 1 ) \
+     KEY J -> Wide ( 12 ) KEY K -> L ] P C = Part ( 0, 0 ) [ KEY A -> Down ( 0, 2 ) KEY B -> L ] \
+     Q KEY Q = Up ( 2, 9 ) [ KEY A -> Mute ( 4, 3, 2, 1 ) KEY B -> Long ( 0 ) KEY C -> x ( 2 ) \
+     KEY D -> x ( 3 ) KEY E -> N ]";
 
 /// Request 6/13: tones at the ends of what an instrument has and one past each,
 /// under every key, and letters that move them by one; periods that send most
@@ -96,7 +129,10 @@ mod tests {
     fn each_is_right_or_uses_what_is_left_out() {
         let number = |text: &&str| text::read(text.as_bytes()).err().map_or(0, |r| r.number);
         let numbers: Vec<_> = EXAMPLES.iter().map(number).collect();
-        assert_eq!(numbers, [0, 0, 0, 0, 0, 0, 0, 0, 0, 3, 3, 3, 0, 0, 0, 0, 0, 3, 3]);
+        assert_eq!(
+            numbers,
+            [0, 0, 0, 0, 0, 0, 0, 0, 0, 3, 3, 3, 0, 0, 0, 0, 0, 3, 3, 0, 0, 0, 0, 24, 24,]
+        );
     }
 
     /// The handbook's steps: f-b is pure, with a c the b becomes a natural

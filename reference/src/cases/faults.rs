@@ -1,33 +1,50 @@
 //! Faults for texts that are right, at least one way to each of the numbers 1
-//! to 9; some only go up to a limit, and leave the text right.
+//! to 9 and to 24; some only go up to a limit, and leave the text right.
 
+use super::misuses;
 use super::sketch::{kind_word, put_comment, tokens, Kind, Part, Quantity, Token, KINDS};
 use crate::random::Random;
 use crate::text::LONGEST_TEXT;
 
 /// Puts one fault into the symbols of a text.
 pub fn put_in(random: &mut Random, text: &mut Vec<Token>) {
-    match random.below(21) {
+    match random.below(30) {
         0 | 1 => put_unreadable(random, text),
         2..=4 => disorder(random, text),
         5..=7 => unfit_number(random, text),
         8 | 9 => declare_twice(random, text),
-        10 | 11 => use_undeclared(random, text),
-        12 | 13 => put_cycle(random, text),
-        14 | 15 => put_great_value(random, text),
-        16 => name_number_twice(random, text),
-        17 | 18 => put_harmony(random, text),
+        10..=12 => use_undeclared(random, text),
+        13 | 14 => put_cycle(random, text),
+        15 | 16 => put_great_value(random, text),
+        17 => name_number_twice(random, text),
+        18 | 19 => put_harmony(random, text),
+        20..=25 => misuses::put_in(random, text),
+        26 => put_several(random, text),
         _ => put_too_many(random, text),
     }
 }
 
+/// Two or three of the faults that are looked for once all symbols are read, so
+/// that their order shows: 5, 6, 24, 7, 8.
+fn put_several(random: &mut Random, text: &mut Vec<Token>) {
+    for _ in 0..2 + random.below(2) {
+        match random.below(5) {
+            0 => declare_twice(random, text),
+            1 => use_undeclared(random, text),
+            2 => misuses::misuse(random, text),
+            3 => put_cycle(random, text),
+            _ => put_great_value(random, text),
+        }
+    }
+}
+
 /// Bytes that no symbol begins with, and numbers lacking digits.
-const UNREADABLE: &str = "( ) ~ ! ; < > . .5 3. 3..5 # #.5 \" \u{0} \u{1a} \u{7f} \u{f6}";
+const UNREADABLE: &str = "~ ! ; $ < > . .5 3. 3..5 # #.5 \" \u{0} \u{1a} \u{7f} \u{f6}";
 
 /// 2: something where no symbol begins, or a number lacking digits.
 fn put_unreadable(random: &mut Random, text: &mut Vec<Token>) {
     let unreadable: Vec<_> = UNREADABLE.split(' ').collect();
-    let token = Token::mark(random.pick(&unreadable, "("));
+    let token = Token::mark(random.pick(&unreadable, "~"));
     put_at_random(random, text, token);
 }
 
@@ -57,7 +74,7 @@ fn disorder(random: &mut Random, text: &mut Vec<Token>) {
 
 /// Symbols to put in where they may not belong, reserved words among them.
 const SYMBOLS: &str =
-    "= : + - * / [ ] { } , @ << >> -> x 12 0.5 #7F KEY ROOT TONE LOGIK ELSE SHIFTED \
+    "= : + - * / [ ] { } ( ) , @ << >> -> x 12 0.5 #7F KEY ROOT TONE LOGIK ELSE SHIFTED \
     PATTERN MIDIIN MIDICHANNEL MIDIOUT ANSONSTEN FORM HARMONIE MIDIKANAL HARMONY";
 
 fn any_token(random: &mut Random) -> Token {
@@ -90,11 +107,12 @@ fn unfit(random: &mut Random, quantity: Quantity) -> &'static str {
         Quantity::Anchor => random.one_of(["128", "60.0", "#80", "0128"]),
         Quantity::Change => random.one_of(["10000", "7.5", "#2710", "1.0"]),
         Quantity::Divisor => random.one_of(["0", "10000", "2.0", "#0"]),
+        Quantity::Handed => random.one_of(["10000", "7.5", "#2710", "0.0", "9999.0", "010000"]),
         Quantity::KeyNumber => random.one_of(["60", "0.0", "#3C", "4.0", "0060", "59.5", "127"]),
     }
 }
 
-fn random_place(
+pub fn random_place(
     random: &mut Random,
     text: &[Token],
     wanted: impl Fn(&Token) -> bool,
@@ -121,9 +139,11 @@ fn declare_twice(random: &mut Random, text: &mut [Token]) {
 
 /// 6: a name that is not declared, or not in the kind that is wanted.
 fn use_undeclared(random: &mut Random, text: &mut [Token]) {
+    let is_trigger = |token: &Token| token.part == Part::Used(Kind::Harmony);
     let is_use = |token: &Token| matches!(token.part, Part::Used(_) | Part::Called);
     let is_declared = |token: &Token| matches!(token.part, Part::Declared(_));
-    let Some(place) = random_place(random, text, is_use) else {
+    let trigger = random_place(random, text, is_trigger).filter(|_| random.percent(25));
+    let Some(place) = trigger.or_else(|| random_place(random, text, is_use)) else {
         return;
     };
     let another = random_place(random, text, is_declared);
@@ -155,7 +175,7 @@ fn put_cycle(random: &mut Random, text: &mut Vec<Token>) {
 }
 
 /// Puts a whole block in front of the text or behind it.
-fn put_block(random: &mut Random, text: &mut Vec<Token>, kind: Kind, declarations: &str) {
+pub fn put_block(random: &mut Random, text: &mut Vec<Token>, kind: Kind, declarations: &str) {
     let mut block = vec![kind_word(random, kind)];
     block.extend(tokens(declarations, kind));
     if random.percent(50) {
@@ -257,37 +277,58 @@ fn full_braces(random: &mut Random) -> String {
 /// 9: one more item than allowed, or just as many.
 fn put_too_many(random: &mut Random, text: &mut Vec<Token>) {
     let over = usize::from(random.percent(70));
-    match random.below(8) {
+    match random.below(10) {
         0..=4 => fill_kind(random, text, over),
         5 => fill_orders(random, text, over),
+        8 => fill_all(random, text),
         6 => put_positions(random, text, over),
         _ => put_terms(random, text, over),
     }
 }
 
 fn fill_kind(random: &mut Random, text: &mut Vec<Token>, over: usize) {
-    let (kind, most, form) = random.one_of([
+    let kinds = [
         (Kind::Interval, 256, "= 1 : 1"),
         (Kind::Tone, 256, "= 440"),
         (Kind::System, 32, "= 0 [ , ] qo"),
-        (Kind::Retuning, 128, "= @ [ ]"),
+        (Kind::Retuning, 128, random.one_of(["= @ [ ]", "( qx ) = qx [ ]"])),
         (Kind::Harmony, 64, "= { 0 , * 7 }"),
         (Kind::Logic, 32, "KEY Q = [ ]"),
-    ]);
+    ];
+    let (kind, most, form) = random.one_of(kinds);
     if kind == Kind::System {
         put_block(random, text, Kind::Interval, "qo = 2 : 1");
     }
     let missing = (most + over).saturating_sub(count(text, kind));
-    let fill: String = (0..missing).map(|i| format!("q{i} {form} ")).collect();
     if missing > 0 {
-        put_block(random, text, kind, &fill);
+        put_block(random, text, kind, &numbered(missing, form));
     }
+}
+
+/// So many declarations of one form, each with a name of its own.
+fn numbered(count: usize, form: &str) -> String {
+    (0..count).map(|i| format!("q{i} {form} ")).collect()
+}
+
+/// Instead of the text one that has just as many of all as allowed, and hands
+/// over an n in each start and order: no row of the tables is left unused.
+fn fill_all(random: &mut Random, text: &mut Vec<Token>) {
+    text.clear();
+    let orders = "KEY Z -> q127 ( 9999 ) KEY Y -> q0 ( 0 ) ".repeat(8);
+    put_block(random, text, Kind::Interval, &numbered(256, "= 1 : 1"));
+    put_block(random, text, Kind::Tone, &numbered(256, "= 440"));
+    put_block(random, text, Kind::System, &numbered(32, "= 0 [ q0 ] q0"));
+    put_block(random, text, Kind::Retuning, &numbered(128, "( x ) = [ << @ / x >> ]"));
+    put_block(random, text, Kind::Harmony, &numbered(64, "= { 0 }"));
+    put_block(random, text, Kind::Logic, &numbered(32, &format!("KEY Q = q1 ( 1 ) [ {orders} ]")));
 }
 
 fn fill_orders(random: &mut Random, text: &mut Vec<Token>, over: usize) {
     let arrows = text.iter().filter(|token| token.bytes == b"->").count();
     let trigger = random.one_of(["TASTE Z", "qk"]);
-    let orders = format!("{trigger} -> ql ").repeat((512 + over).saturating_sub(arrows));
+    let called = random.one_of(["ql", "qn ( 7 )"]);
+    let orders = format!("{trigger} -> {called} ").repeat((512 + over).saturating_sub(arrows));
+    put_block(random, text, Kind::Retuning, "qn ( qx ) = @ + qx [ ]");
     put_block(random, text, Kind::Harmony, "qk = { 0 }");
     put_block(random, text, Kind::Logic, &format!("ql KEY Q = [ {orders} ]"));
 }
@@ -342,7 +383,7 @@ fn any_byte(random: &mut Random) -> u8 {
     if random.percent(20) {
         return random.next() as u8;
     }
-    random.one_of(*b"=:+-*/[]{},@<>->\"#.0123456789abefxzAZ_' \n\t\r")
+    random.one_of(*b"=:+-*/[]{}(),@<>->\"#.0123456789abefxzAZ_' \n\t\r")
 }
 
 /// Fills a text up to a length right at the limit, or beyond it.

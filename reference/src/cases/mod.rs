@@ -7,9 +7,12 @@ mod faults;
 mod fingers;
 mod harmonies;
 pub mod measures;
+mod misuses;
 mod sketch;
 pub mod streams;
 pub mod texts;
+#[cfg(test)]
+mod written_in;
 
 use crate::random::Random;
 

@@ -29,6 +29,8 @@ pub enum Quantity {
     Divisor,
     /// A number that a harmony names.
     KeyNumber,
+    /// A number that a call hands over.
+    Handed,
 }
 
 /// The part that a symbol plays.
@@ -42,6 +44,9 @@ pub enum Part {
     Used(Kind),
     /// A name in a logic, which may be of several kinds.
     Called,
+    /// A placeholder as a retuning's brackets name it, and where n stands.
+    Placeholder,
+    Amount,
 }
 
 #[derive(Clone, Debug, PartialEq, Eq)]
@@ -77,9 +82,14 @@ impl Token {
 }
 
 /// Plain symbols parted by blanks, for blocks that are put in as a whole.
-/// Numbers are factors or those of harmonies, and names are uses of this kind.
+/// Numbers are those of harmonies, of calls, or factors, and names are uses of
+/// this kind.
 pub fn tokens(text: &str, kind: Kind) -> Vec<Token> {
-    let number = if kind == Kind::Harmony { Quantity::KeyNumber } else { Quantity::Factor };
+    let number = match kind {
+        Kind::Harmony => Quantity::KeyNumber,
+        Kind::Logic => Quantity::Handed,
+        _ => Quantity::Factor,
+    };
     let part = |symbol: &str| match symbol.bytes().next() {
         Some(b'0'..=b'9' | b'#') => Part::Number(number),
         Some(byte) if byte.is_ascii_lowercase() => Part::Used(kind),

@@ -2,7 +2,7 @@
 //! their letters and harmonies really move the state.
 
 use super::compose::{compose, Plan};
-use super::examples::{EXAMPLES, LIMITS};
+use super::examples::{EXAMPLES, LIMITS, PLACEHOLDERS};
 use super::faults;
 use super::fingers::Fingers;
 use super::sketch::render;
@@ -26,10 +26,16 @@ pub fn pair(seed: u64, index: u64) -> Pair {
         0..=3 => damaged_text(random),
         4..=7 => random.one_of(EXAMPLES).as_bytes().to_vec(),
         8..=10 => LIMITS.as_bytes().to_vec(),
+        11..=13 => PLACEHOLDERS.as_bytes().to_vec(),
         _ => right_text(random),
     };
-    let frames = Player::new(random, &text).frames(random);
+    let frames = frames(random, &text);
     Pair { text, frames }
+}
+
+/// A stream of frames that plays on this text.
+pub fn frames(random: &mut Random, text: &[u8]) -> Vec<u8> {
+    Player::new(random, text).frames(random)
 }
 
 fn damaged_text(random: &mut Random) -> Vec<u8> {
@@ -67,6 +73,7 @@ fn plan(random: &mut Random) -> Plan {
             musical: true,
             far: true,
             first_muted: true,
+            placeholders: 50 * between(0, 1) as u32,
         };
     }
     Plan {
@@ -82,6 +89,7 @@ fn plan(random: &mut Random) -> Plan {
         musical: between(0, 4) > 0,
         far: true,
         first_muted: true,
+        placeholders: 50 * between(0, 1) as u32,
     }
 }
 

@@ -54,6 +54,7 @@ fn plan(random: &mut Random) -> Plan {
         musical: upto(1) == 0,
         far: false,
         first_muted: false,
+        placeholders: if upto(1) == 0 { 60 } else { 0 },
     }
 }
 
@@ -65,42 +66,64 @@ mod tests {
 
     #[test]
     fn each_number_is_frequent() {
-        let mut counts = [0; 10];
+        let mut counts = [0; 25];
         for index in 0..1_500 {
             let number = read(&text(11, index)).err().map_or(0, |refusal| refusal.number);
             counts[usize::from(number)] += 1;
         }
-        assert!(counts.iter().all(|&count| count >= 15), "{counts:?}");
+        let given = counts[..10].iter().chain(&counts[24..]);
+        assert!(given.into_iter().all(|&count| count >= 15), "{counts:?}");
     }
 
-    /// The refusals that harmonies bring, each by what stands at its place.
+    /// The refusals that harmonies and placeholders bring, each by what stands at
+    /// its place.
     #[test]
-    fn each_refusal_of_harmonies_is_frequent() {
+    fn each_refusal_of_harmonies_and_placeholders_is_frequent() {
         let mut counts = BTreeMap::new();
-        for index in 0..6_000 {
+        for index in 0..8_000 {
             let text = text(11, index);
             if let Err(refusal) = read(&text) {
                 let (before, after) = text.split_at(refusal.place);
                 *counts.entry((refusal.number, kind_at(before), what(after))).or_insert(0) += 1;
             }
         }
-        for (number, kind, what) in [
-            (3, "harmon", "}"),
-            (3, "harmon", ","),
-            (3, "harmon", "0"),
-            (4, "harmon", "0"),
-            (9, "harmon", "*"),
-            (9, "harmon", "name ="),
-            (5, "harmon", "name ="),
-            (6, "logi", "name ="),
-            (6, "order", "name -"),
-            (9, "order", "name -"),
-            (9, "order", "KEY"),
-        ] {
+        for (number, kind, what) in REFUSALS {
             let count = counts.get(&(number, kind, what.to_string())).copied().unwrap_or(0);
             assert!(count >= 10, "{number} {kind} {what}: {count} of {counts:?}");
         }
     }
+
+    const REFUSALS: [(u8, &str, &str); 27] = [
+        (3, "harmon", "}"),
+        (3, "harmon", ","),
+        (3, "harmon", "0"),
+        (4, "harmon", "0"),
+        (9, "harmon", "*"),
+        (9, "harmon", "name ="),
+        (5, "harmon", "name ="),
+        (6, "logi", "name ="),
+        (6, "order", "name -"),
+        (9, "order", "name -"),
+        (9, "order", "KEY"),
+        // brackets of placeholders
+        (3, "retuning", ")"),
+        (3, "retuning", "("),
+        (3, "retuning", "+"),
+        (9, "retuning", "name )"),
+        (9, "retuning", "name ("),
+        (24, "retuning", "name )"),
+        (24, "retuning", "name ["),
+        (24, "retuning", "name >"),
+        // brackets of calls
+        (3, "logi", ")"),
+        (3, "order", ")"),
+        (4, "logi", "0"),
+        (4, "order", "0"),
+        (9, "logi", "0"),
+        (9, "order", "0"),
+        (24, "logi", "name ("),
+        (24, "order", "name ("),
+    ];
 
     /// The first letters of the word that begins the last block of this text;
     /// inside a logic's bracket it is an order.
@@ -109,11 +132,10 @@ mod tests {
         let outside: String = before.split('"').step_by(2).collect();
         let kinds = ["interval", "ton", "retuning", "umstimmung", "harmon", "logi"];
         let kind = kinds.into_iter().max_by_key(|kind| outside.rfind(kind)).unwrap_or_default();
-        let is_order = kind == "logi" && outside.rfind('[') > outside.rfind(']');
-        if is_order {
-            "order"
-        } else {
-            kind
+        match kind {
+            "logi" if outside.rfind('[') > outside.rfind(']') => "order",
+            "umstimmung" => "retuning",
+            _ => kind,
         }
     }
 

@@ -7,6 +7,7 @@ use crate::cases::streams;
 use crate::comparison::{Comparison, Distance, Logarithms, Page, Sizes};
 use crate::ends::Ends;
 use crate::frames::{frame_bytes, Desk, Made};
+use crate::handed::Handed;
 use crate::measure::{Pitch, CONCERT_PITCH};
 use crate::numbers::{self, Number};
 use crate::playable::PLAYABLE;
@@ -42,7 +43,11 @@ pub fn check(seed: u64, count: u64) -> Outcome {
     if tally.unplayable == 0 {
         note(format_args!("no key is unplayable"));
     }
-    let met = [tally.past_half, tally.ends.taken(), tally.unplayable];
+    if tally.handed.taken() == 0 || tally.handed.zeros() == 0 {
+        note(format_args!("no call that hands over an n is taken, or none divides by zero"));
+    }
+    let handed = tally.handed.taken().min(tally.handed.zeros());
+    let met = [tally.past_half, tally.ends.taken(), tally.unplayable, handed];
     Ok(verdict(tally.failed == 0 && !met.contains(&0)))
 }
 
@@ -64,7 +69,9 @@ fn follow(
     let lines = frames.strip_suffix(b"\n").unwrap_or(frames);
     for line in lines.split(|&byte| byte == b'\n') {
         let before = desk.state().clone();
-        if let Some(made) = desk.answer(line, &mut Vec::new()).made {
+        let effect = desk.answer(line, &mut Vec::new());
+        tally.handed.note(desk.program(), effect);
+        if let Some(made) = effect.made {
             tally.note_call(line, made);
             tally.ends.note_made(&before, &desk, made);
             book.take(made)?;
@@ -128,6 +135,7 @@ struct Tally {
     /// Those of the calls that a harmony made.
     by_harmonies: u64,
     ends: Ends,
+    handed: Handed,
     silent: u64,
     /// Those that sound, but not where an instrument does.
     unplayable: u64,
@@ -186,12 +194,14 @@ impl std::fmt::Display for Tally {
         )?;
         writeln!(
             f,
-            "{} frames, {} calls taken, {} of these by harmonies, \
-             {} by whole periods from a muted first position",
+            "{} frames, {} calls taken, {} of these by harmonies, {} with an n handed over, \
+             {} by whole periods from a muted first position; {} divisions by zero",
             self.frames,
             self.calls,
             self.by_harmonies,
-            self.ends.taken()
+            self.handed.taken(),
+            self.ends.taken(),
+            self.handed.zeros()
         )?;
         writeln!(
             f,

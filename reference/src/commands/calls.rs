@@ -34,29 +34,44 @@ pub fn answer() -> Outcome {
     Ok(Verdict::Passed)
 }
 
-/// In so many sequences each way to end a distance shall come once.
-const SEQUENCES_TO_EACH_END: u64 = 40;
+/// In so many sequences each way to end a distance shall come once, and a
+/// division by zero.
+const SEQUENCES_TO_EACH_WAY: u64 = 40;
 
-/// Follows the sequences of a seed and counts the ends of their distances;
-/// fails if one of the ways is rare.
+/// Follows the sequences of a seed and counts the ends of their distances and
+/// the divisions by zero; fails if one of these is rare.
 pub fn count(seed: u64, count: usize) -> Outcome {
-    let ends = ends(seed, count);
+    let tally = Tally::of(seed, count);
     let mut output = output();
-    writeln!(output, "calls {ends}")?;
+    writeln!(output, "calls {}; divisions by zero: {}", tally.ends, tally.zeros)?;
     output.flush()?;
-    Ok(verdict(SEQUENCES_TO_EACH_END * ends.rarest() >= count as u64))
+    Ok(verdict(tally.has_each_way(count)))
 }
 
-fn ends(seed: u64, count: usize) -> Ends {
-    let (mut state, mut ends) = (State::start(), Ends::default());
-    for step in calls::steps(seed, count) {
-        let before = state.clone();
-        let number = take(&step, &mut state);
-        if let Step::Call(call) = &step {
-            ends.note(&before, call, number);
+#[derive(Default)]
+struct Tally {
+    ends: Ends,
+    zeros: u64,
+}
+
+impl Tally {
+    fn of(seed: u64, count: usize) -> Self {
+        let (mut state, mut tally) = (State::start(), Tally::default());
+        for step in calls::steps(seed, count) {
+            let before = state.clone();
+            let number = take(&step, &mut state);
+            tally.zeros += u64::from(number == numbers::DIVISION_BY_ZERO);
+            if let Step::Call(call) = &step {
+                tally.ends.note(&before, call, number);
+            }
         }
+        tally
     }
-    ends
+
+    fn has_each_way(&self, sequences: usize) -> bool {
+        let rarest = self.ends.rarest().min(self.zeros);
+        SEQUENCES_TO_EACH_WAY * rarest >= sequences as u64
+    }
 }
 
 /// Makes one step; a refused call leaves the state unchanged.
@@ -79,8 +94,8 @@ mod tests {
     use super::*;
 
     #[test]
-    fn each_end_is_frequent() {
-        let ends = ends(11, 500);
-        assert!(SEQUENCES_TO_EACH_END * ends.rarest() >= 500, "{ends}");
+    fn each_way_is_frequent() {
+        let tally = Tally::of(11, 500);
+        assert!(tally.has_each_way(500), "{}, {} by zero", tally.ends, tally.zeros);
     }
 }

@@ -1,11 +1,12 @@
 //! `stream-counts`: how often the streams of a seed play keys, and how often a
-//! harmony then matches; the ends of their anchor and width calls; and the keys
-//! asked at the ends of what an instrument has.
+//! harmony then matches; the ends of their anchor and width calls; the keys asked
+//! at the ends of what an instrument has; and the calls that hand over an n.
 
 use super::{output, verdict, Outcome};
 use crate::cases::streams::{self, Pair};
 use crate::ends::Ends;
 use crate::frames::{frame_bytes, Desk, Effect};
+use crate::handed::Handed;
 use crate::numbers;
 use crate::playable::Limits;
 use crate::state::Key;
@@ -15,12 +16,13 @@ use std::io::Write;
 /// One in so many streams with key frames shall contain a match.
 const STREAMS_TO_A_MATCH: u64 = 3;
 
-/// In so many streams each way to end a distance shall come once, and each place
-/// at the ends of what an instrument has.
-const STREAMS_TO_EACH_END: u64 = 200;
+/// In so many streams each way to end a distance shall come once, each place at
+/// the ends of what an instrument has, and each way to hand over an n.
+const STREAMS_TO_EACH_WAY: u64 = 200;
 
 /// Answers the streams of a seed and counts; fails if too few have a match, or
-/// if a way to end a distance or a place at those ends is rare.
+/// if a way to end a distance, a place at those ends or a way to hand over an n
+/// is rare.
 pub fn count(seed: u64, count: u64) -> Outcome {
     let mut tally = Tally::default();
     for index in 0..count {
@@ -29,7 +31,7 @@ pub fn count(seed: u64, count: u64) -> Outcome {
     let mut output = output();
     writeln!(output, "{tally}")?;
     output.flush()?;
-    Ok(verdict(tally.has_enough_matches() && tally.has_each_end()))
+    Ok(verdict(tally.has_enough_matches() && tally.has_each_way()))
 }
 
 #[derive(Default)]
@@ -45,12 +47,14 @@ struct Tally {
     above: u64,
     ends: Ends,
     limits: Limits,
+    handed: Handed,
 }
 
 impl Tally {
     /// Key frames for a refused text match nothing, and count all the same.
     fn follow(&mut self, pair: &Pair) {
         let (frames, matches) = (self.frames, self.matches);
+        self.handed.begin_stream();
         let mut desk = text::read(&pair.text).ok().map(Desk::new);
         let lines = pair.frames.strip_suffix(b"\n").unwrap_or(&pair.frames);
         for line in lines.split(|&byte| byte == b'\n') {
@@ -82,7 +86,8 @@ impl Tally {
         }
     }
 
-    /// Answers a line and counts the ends of its call, or the key that it asks.
+    /// Answers a line and counts the ends of its call and what it hands over, or
+    /// the key that it asks.
     fn answer(&mut self, desk: &mut Desk, line: &[u8]) -> Effect {
         let before = desk.state().clone();
         let effect = desk.answer(line, &mut Vec::new());
@@ -90,15 +95,16 @@ impl Tally {
             self.ends.note_made(&before, desk, made);
             self.limits.note_made(&before, desk, made);
         }
+        self.handed.note(desk.program(), effect);
         if let Some([1 | 2, 2, key @ 0..=127]) = frame_bytes(line) {
             self.limits.note_key(before.pitch(Key(key.into())));
         }
         effect
     }
 
-    fn has_each_end(&self) -> bool {
-        let rarest = self.ends.rarest().min(self.limits.rarest());
-        STREAMS_TO_EACH_END * rarest >= self.streams
+    fn has_each_way(&self) -> bool {
+        let rarest = self.ends.rarest().min(self.limits.rarest()).min(self.handed.rarest());
+        STREAMS_TO_EACH_WAY * rarest >= self.streams
     }
 
     fn has_enough_matches(&self) -> bool {
@@ -119,7 +125,8 @@ impl std::fmt::Display for Tally {
             self.frames, self.matches, self.refused_calls, self.held, self.not_held, self.above
         )?;
         writeln!(f, "{}", self.ends)?;
-        write!(f, "{}", self.limits)
+        writeln!(f, "{}", self.limits)?;
+        write!(f, "{}", self.handed)
     }
 }
 
@@ -130,8 +137,8 @@ mod tests {
     #[test]
     fn keys_often_match_and_are_often_refused() {
         let mut tally = Tally::default();
-        (0..150).for_each(|index| tally.follow(&streams::pair(11, index)));
-        assert!(tally.has_enough_matches() && tally.has_each_end(), "{tally}");
+        (0..500).for_each(|index| tally.follow(&streams::pair(11, index)));
+        assert!(tally.has_enough_matches() && tally.has_each_way(), "{tally}");
         let refused = [tally.refused_calls, tally.held, tally.not_held, tally.above];
         assert!(refused.into_iter().all(|count| count >= 30), "{tally}");
     }

@@ -1,12 +1,12 @@
-//! `read`, `texts` and `text-cases`.
+//! `read`, `texts`, `text-cases` and `text-counts`.
 
-use super::{input, note, output, Outcome, Verdict};
+use super::{input, note, output, verdict, Outcome, Verdict};
 use crate::cases::texts;
 use crate::dump;
 use crate::numbers::{self, Counts};
 use crate::records::{bad_record, next_record};
 use crate::rows;
-use crate::text::{self, Refusal};
+use crate::text::{self, Cause, Refusal};
 use std::fs;
 use std::io::{self, Read, Write};
 use std::path::Path;
@@ -80,4 +80,68 @@ pub fn write_cases(seed: u64, count: u64, folder: &str) -> Outcome {
         fs::write(folder.join(format!("{index:05}.mut")), texts::text(seed, index))?;
     }
     Ok(Verdict::Passed)
+}
+
+/// In so many texts each cause of 24 shall come once.
+const TEXTS_TO_EACH_CAUSE: u64 = 200;
+
+/// Reads the texts of a seed and counts the causes of 24; fails if one is rare.
+pub fn count(seed: u64, count: u64) -> Outcome {
+    let mut causes = Causes::default();
+    for index in 0..count {
+        causes.note(&texts::text(seed, index));
+    }
+    let mut output = output();
+    writeln!(output, "{causes}")?;
+    output.flush()?;
+    Ok(verdict(TEXTS_TO_EACH_CAUSE * causes.rarest() >= count))
+}
+
+/// How often 24 was given, by its cause.
+#[derive(Default)]
+struct Causes {
+    not_named: u64,
+    named_twice: u64,
+    wrong_count: u64,
+}
+
+impl Causes {
+    fn note(&mut self, text: &[u8]) {
+        let number = text::read(text).err().map(|refusal| refusal.number);
+        if number != Some(numbers::BAD_PLACEHOLDER) {
+            return;
+        }
+        match text::cause_of_24(text) {
+            Some(Cause::NotNamed) => self.not_named += 1,
+            Some(Cause::NamedTwice) => self.named_twice += 1,
+            Some(Cause::WrongCount) => self.wrong_count += 1,
+            None => {}
+        }
+    }
+
+    fn rarest(&self) -> u64 {
+        self.not_named.min(self.named_twice).min(self.wrong_count)
+    }
+}
+
+impl std::fmt::Display for Causes {
+    fn fmt(&self, f: &mut std::fmt::Formatter) -> std::fmt::Result {
+        write!(
+            f,
+            "24 for a placeholder not named: {}, named twice: {}, for a wrong count in a call: {}",
+            self.not_named, self.named_twice, self.wrong_count
+        )
+    }
+}
+
+#[cfg(test)]
+mod tests {
+    use super::*;
+
+    #[test]
+    fn each_cause_of_24_is_frequent() {
+        let mut causes = Causes::default();
+        (0..1_000).for_each(|index| causes.note(&texts::text(11, index)));
+        assert!(TEXTS_TO_EACH_CAUSE * causes.rarest() >= 1_000, "{causes}");
+    }
 }

@@ -1,5 +1,5 @@
 //! Section "Declarations" of document 01, the harmonies and triggers of request
-//! 5/13, and the numbers 2, 3, 4 and 9:
+//! 5/13, the placeholders of 1/13, and the numbers 2, 3, 4 and 9:
 //! "Reading goes symbol by symbol, so among 2, 3, 4 and 9 the first place
 //! wins". No symbol is looked at before all before it is judged, but for "an
 //! interval's first number", which "is judged once `:`, ROOT or a name
@@ -7,15 +7,14 @@
 
 use super::symbols::{next_symbol, Mark, Number, Placed, Symbol, Word};
 use super::tree::{
-    Declared, Draft, IntervalForm, Letter, LogicForm, Name, Order, PositionForm, RetuningForm, Sum,
-    SystemForm, Term, ToneForm, Trigger,
+    Amount, Called, Declared, Draft, IntervalForm, Letter, LogicForm, Name, Order, PositionForm,
+    Retuning, RetuningForm, Sum, SystemForm, Term, ToneForm, Trigger, PLACEHOLDERS,
 };
 use super::Refusal;
 use crate::harmony::{Harmony, Wish};
 use crate::measure::{Degree, TenThousandths};
 use crate::numbers;
 use crate::state::{Change, CHANGES, POSITIONS};
-use std::num::NonZeroU16;
 use std::ops::RangeInclusive;
 
 const INTERVALS: usize = 256;
@@ -143,6 +142,15 @@ impl Parser<'_> {
         number.whole(range).ok_or(out_of_range(place))
     }
 
+    /// n of an anchor or width retuning: a number in this range, or the name of
+    /// a placeholder.
+    fn amount(&mut self, range: RangeInclusive<u16>) -> Parsed<Amount> {
+        match self.peek()?.symbol {
+            Symbol::Name(_) => Ok(Amount::Placeholder(self.name()?)),
+            _ => Ok(Amount::Written(self.whole(range)?)),
+        }
+    }
+
     fn decimal(&mut self) -> Parsed<TenThousandths> {
         let (number, place) = self.number()?;
         number.ten_thousandths().ok_or(out_of_range(place))
@@ -238,13 +246,20 @@ impl Parser<'_> {
         Ok(SystemForm { anchor, tones, period })
     }
 
+    /// "With one to four placeholder names in brackets after any retuning's
+    /// name, parted by commas".
+    fn retuning(&mut self) -> Parsed<Retuning<Name>> {
+        let placeholders = self.in_brackets(Self::placeholder)?;
+        self.mark(Mark::Equals)?;
+        Ok(Retuning { placeholders, form: self.retuning_form()? })
+    }
+
     /// "Anchor: `n [ ]`, `@ [ ]`, `@ + n [ ]`, `@ - n [ ]`", or one of the forms
     /// that begin with a bracket.
-    fn retuning(&mut self) -> Parsed<RetuningForm<Name>> {
-        self.mark(Mark::Equals)?;
+    fn retuning_form(&mut self) -> Parsed<RetuningForm<Name>> {
         let next = self.peek()?;
         let change = match next.symbol {
-            Symbol::Number(_) => Change::To(self.whole(CHANGES)?),
+            Symbol::Number(_) | Symbol::Name(_) => Change::To(self.amount(CHANGES)?),
             Symbol::Mark(Mark::At) => self.relative_anchor()?,
             Symbol::Mark(Mark::Open) => return self.bracketed_retuning(),
             _ => return Err(not_allowed(next)),
@@ -254,7 +269,7 @@ impl Parser<'_> {
         Ok(RetuningForm::Anchor(change))
     }
 
-    fn relative_anchor(&mut self) -> Parsed<Change> {
+    fn relative_anchor(&mut self) -> Parsed<Change<Amount>> {
         self.mark(Mark::At)?;
         let change = match self.peek()?.symbol {
             Symbol::Mark(Mark::Plus) => Change::Plus,
@@ -262,7 +277,7 @@ impl Parser<'_> {
             _ => return Ok(Change::Kept),
         };
         self.take()?;
-        Ok(change(self.whole(CHANGES)?))
+        Ok(change(self.amount(CHANGES)?))
     }
 
     /// Width, period or tones; "a bare `[ ]` is refused", for a sequence or `@`
@@ -285,34 +300,28 @@ impl Parser<'_> {
         self.mark(Mark::OpenWidth)?;
         let change = match self.peek()?.symbol {
             Symbol::Mark(Mark::At) => self.relative_width()?,
-            _ => Change::To(self.whole(CHANGES)?),
+            _ => Change::To(self.amount(CHANGES)?),
         };
         self.mark(Mark::CloseWidth)?;
         self.mark(Mark::Close)?;
         Ok(RetuningForm::Width(change))
     }
 
-    fn relative_width(&mut self) -> Parsed<Change> {
+    /// "n .. after `/` from 1", where it is written.
+    fn relative_width(&mut self) -> Parsed<Change<Amount>> {
         self.mark(Mark::At)?;
         let Symbol::Mark(mark) = self.peek()?.symbol else {
             return Ok(Change::Kept);
         };
-        let change = match mark {
-            Mark::Plus => Change::Plus,
-            Mark::Minus => Change::Minus,
-            Mark::Times => Change::Times,
-            Mark::Over => return self.divided_width(),
+        let (change, range): (fn(Amount) -> Change<Amount>, _) = match mark {
+            Mark::Plus => (Change::Plus, CHANGES),
+            Mark::Minus => (Change::Minus, CHANGES),
+            Mark::Times => (Change::Times, CHANGES),
+            Mark::Over => (Change::Over, DIVISORS),
             _ => return Ok(Change::Kept),
         };
         self.take()?;
-        Ok(change(self.whole(CHANGES)?))
-    }
-
-    fn divided_width(&mut self) -> Parsed<Change> {
-        self.mark(Mark::Over)?;
-        let (number, place) = self.number()?;
-        let divisor = number.whole(DIVISORS).and_then(NonZeroU16::new);
-        Ok(Change::Over(divisor.ok_or(out_of_range(place))?))
+        Ok(change(self.amount(range)?))
     }
 
     /// "Period: `[ ]` then a sequence, or `@` with any signed terms."
@@ -379,7 +388,7 @@ impl Parser<'_> {
         let trigger = self.trigger()?;
         self.mark(Mark::Equals)?;
         let start = match self.peek()?.symbol {
-            Symbol::Name(_) => Some(self.name()?),
+            Symbol::Name(_) => Some(self.called()?),
             _ => None,
         };
         self.mark(Mark::Open)?;
@@ -402,7 +411,14 @@ impl Parser<'_> {
         self.orders += 1;
         let trigger = self.trigger()?;
         self.mark(Mark::Arrow)?;
-        Ok(Order { trigger, called: self.name()? })
+        Ok(Order { trigger, called: self.called()? })
+    }
+
+    /// A called name, "giving as many whole numbers from 0 to 9,999".
+    fn called(&mut self) -> Parsed<Called<Name>> {
+        let target = self.name()?;
+        let numbers = self.in_brackets(Self::handed)?.into_iter().collect();
+        Ok(Called { place: target.place, target, numbers })
     }
 
     /// "Its bare name is a trigger beside `KEY letter`, in logics and orders."
@@ -413,6 +429,48 @@ impl Parser<'_> {
             Symbol::Name(text) => Ok(Trigger::Harmony(Name { text, place: next.place })),
             _ => Err(not_allowed(&next)),
         }
+    }
+}
+
+/// Brackets of placeholders and of the numbers handed to them.
+impl Parser<'_> {
+    /// One or more items in brackets, parted by commas; none without brackets.
+    /// An item is told whether it is one too many.
+    fn in_brackets<T>(&mut self, item: fn(&mut Self, bool) -> Parsed<T>) -> Parsed<Vec<T>> {
+        let mut items = Vec::new();
+        if self.peek()?.symbol != Symbol::Mark(Mark::OpenBracket) {
+            return Ok(items);
+        }
+        self.take()?;
+        loop {
+            items.push(item(self, items.len() == PLACEHOLDERS)?);
+            let next = self.take()?;
+            match next.symbol {
+                Symbol::Mark(Mark::Comma) => {}
+                Symbol::Mark(Mark::CloseBracket) => return Ok(items),
+                _ => return Err(not_allowed(&next)),
+            }
+        }
+    }
+
+    /// "9 for a fifth name".
+    fn placeholder(&mut self, full: bool) -> Parsed<Name> {
+        let name = self.name()?;
+        if full {
+            return Err(Refusal::new(numbers::ONE_TOO_MANY, name.place));
+        }
+        Ok(name)
+    }
+
+    /// "9 for a fifth .. number"; out of range it is 4, "at one place the lower
+    /// number".
+    fn handed(&mut self, full: bool) -> Parsed<u16> {
+        let (number, place) = self.number()?;
+        let n = number.whole(CHANGES).ok_or(out_of_range(place))?;
+        if full {
+            return Err(Refusal::new(numbers::ONE_TOO_MANY, place));
+        }
+        Ok(n)
     }
 }
 

@@ -1,8 +1,8 @@
 //! Names: the numbers 5 and 6, and what each use stands for.
 
 use super::tree::{
-    Declared, Draft, IntervalForm, LogicForm, Name, Order, PositionForm, Resolved, RetuningForm,
-    Sum, SystemForm, Target, Term, ToneForm, Trigger,
+    Called, Declared, Draft, IntervalForm, LogicForm, Name, Order, PositionForm, Resolved,
+    Retuning, RetuningForm, Sum, SystemForm, Target, Term, ToneForm, Trigger,
 };
 use super::{at_earliest, Refusal};
 use crate::numbers;
@@ -30,7 +30,8 @@ fn first_second<F>(declared: &[Declared<F>]) -> Option<usize> {
     seconds.next().map(|name| name.place)
 }
 
-/// Resolves all uses. 6 is "name not declared; the use".
+/// Resolves all uses, but for those of placeholders, which are names of their
+/// own. 6 is "name not declared; the use".
 pub fn resolve(draft: Draft) -> Result<Resolved, Refusal> {
     let kinds = Kinds::of(&draft);
     let mut missing = Vec::new();
@@ -38,7 +39,7 @@ pub fn resolve(draft: Draft) -> Result<Resolved, Refusal> {
         intervals: each(draft.intervals, &mut missing, |form| kinds.interval_form(form)),
         tones: each(draft.tones, &mut missing, |form| kinds.tone_form(form)),
         systems: each(draft.systems, &mut missing, |form| kinds.system_form(form)),
-        retunings: each(draft.retunings, &mut missing, |form| kinds.retuning_form(form)),
+        retunings: each(draft.retunings, &mut missing, |form| kinds.retuning(form)),
         harmonies: draft.harmonies,
         logics: each(draft.logics, &mut missing, |form| kinds.logic_form(form)),
     };
@@ -127,6 +128,11 @@ impl Kinds {
         })
     }
 
+    fn retuning(&self, retuning: Retuning<Name>) -> Found<Retuning<usize>> {
+        let form = self.retuning_form(retuning.form)?;
+        Ok(Retuning { placeholders: retuning.placeholders, form })
+    }
+
     fn retuning_form(&self, form: RetuningForm<Name>) -> Found<RetuningForm<usize>> {
         Ok(match form {
             RetuningForm::Anchor(change) => RetuningForm::Anchor(change),
@@ -154,10 +160,10 @@ impl Kinds {
     /// that is missing is the earliest.
     fn logic_form(&self, form: LogicForm<Name, Name>) -> Found<LogicForm<usize, Target>> {
         let trigger = self.trigger(form.trigger)?;
-        let start = form.start.map(|name| self.start(&name)).transpose()?;
+        let start = form.start.map(|called| self.call(called, Self::start)).transpose()?;
         let order = |order: Order<Name, Name>| {
             let trigger = self.trigger(order.trigger)?;
-            Ok(Order { trigger, called: self.called(&order.called)? })
+            Ok(Order { trigger, called: self.call(order.called, Self::ordered)? })
         };
         let orders = form.orders.into_iter().map(order).collect::<Found<_>>()?;
         Ok(LogicForm { trigger, start, orders })
@@ -170,6 +176,14 @@ impl Kinds {
         })
     }
 
+    fn call(
+        &self,
+        Called { target, place, numbers }: Called<Name>,
+        meaning: fn(&Self, &Name) -> Found<Target>,
+    ) -> Found<Called<Target>> {
+        Ok(Called { target: meaning(self, &target)?, place, numbers })
+    }
+
     /// "A called name means the retuning of that name, else the tone system".
     fn start(&self, name: &Name) -> Found<Target> {
         find(&self.retunings, name)
@@ -178,7 +192,7 @@ impl Kinds {
     }
 
     /// "else (orders only) the logic (house)".
-    fn called(&self, name: &Name) -> Found<Target> {
+    fn ordered(&self, name: &Name) -> Found<Target> {
         self.start(name).or_else(|_| find(&self.logics, name).map(Target::Logic))
     }
 }

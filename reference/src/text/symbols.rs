@@ -1,5 +1,5 @@
 //! Section "Symbols of the text" of document 01, with the braces of request
-//! 5/13.
+//! 5/13 and the brackets of 1/13.
 
 use super::Refusal;
 use crate::measure::TenThousandths;
@@ -17,7 +17,8 @@ pub enum Symbol {
     End,
 }
 
-/// "Marks: `= : + - * / [ ] , @ << >> ->`", and the braces of harmonies.
+/// "Marks: `= : + - * / [ ] , @ << >> ->`", the braces of harmonies, and the
+/// brackets of placeholders and of the numbers handed to them.
 #[derive(Clone, Copy, Debug, PartialEq, Eq)]
 pub enum Mark {
     Equals,
@@ -30,6 +31,8 @@ pub enum Mark {
     Close,
     OpenBrace,
     CloseBrace,
+    OpenBracket,
+    CloseBracket,
     Comma,
     At,
     OpenWidth,
@@ -38,7 +41,7 @@ pub enum Mark {
 }
 
 /// Marks of two bytes stand before those of one, so the longest is found.
-const MARKS: [(&[u8], Mark); 15] = [
+const MARKS: [(&[u8], Mark); 17] = [
     (b"<<", Mark::OpenWidth),
     (b">>", Mark::CloseWidth),
     (b"->", Mark::Arrow),
@@ -52,6 +55,8 @@ const MARKS: [(&[u8], Mark); 15] = [
     (b"]", Mark::Close),
     (b"{", Mark::OpenBrace),
     (b"}", Mark::CloseBrace),
+    (b"(", Mark::OpenBracket),
+    (b")", Mark::CloseBracket),
     (b",", Mark::Comma),
     (b"@", Mark::At),
 ];

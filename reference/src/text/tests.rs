@@ -6,12 +6,12 @@ use crate::measure::{Interval, Pitch};
 pub const CASE_S: &str = "INTERVAL Octave = 2 : 1 Fifth = 3 : 2 TONE a = 440 e = a + Fifth \
     TONESYSTEM Two = 69 [ a, e ] Octave RETUNING Up = @ + 1 [ ] LOGIC L KEY M = Two [ KEY U -> Up ]";
 
-fn refusal(text: &str) -> (u8, usize) {
+pub fn refusal(text: &str) -> (u8, usize) {
     let refusal = read(text.as_bytes()).unwrap_err();
     (refusal.number, refusal.place)
 }
 
-fn accepted(text: &str) -> Program {
+pub fn accepted(text: &str) -> Program {
     read(text.as_bytes()).unwrap()
 }
 
@@ -20,7 +20,7 @@ fn place_of(text: &str, part: &str) -> usize {
 }
 
 /// The text is refused with this number, at the last place of this part.
-fn refused_at(text: &str, number: u8, part: &str) {
+pub fn refused_at(text: &str, number: u8, part: &str) {
     assert_eq!(refusal(text), (number, text.rfind(part).unwrap()), "{text}");
 }
 
@@ -158,7 +158,8 @@ fn too_many_positions() {
         assert_eq!(refusal(&text), (9, text.rfind(after).unwrap()));
     }
     refused_at(&format!("{commas}, @"), 3, "@");
-    refused_at(&format!("{commas}, ("), 2, "(");
+    refused_at(&format!("{commas}, ("), 3, "(");
+    refused_at(&format!("{commas}, ~"), 2, "~");
     let text = format!("{commas}, ");
     assert_eq!(refusal(&text), (3, text.len()));
     refused_at(&format!("RETUNING x = [{}@", ",".repeat(60)), 9, "@");
@@ -258,7 +259,8 @@ fn harmonies() {
     refused_at("HARMONY C = [ 0 ]", 3, "[");
     refused_at("HARMONY C KEY c = { 0 }", 3, "KEY");
     refused_at("RETUNING r = { u1, u3 }", 3, "{");
-    refused_at("HARMONY (", 2, "(");
+    refused_at("HARMONY (", 3, "(");
+    refused_at("HARMONY C ( x ) = { 0 }", 3, "(");
     let text = "HARMONY C = { 0, 4 ";
     assert_eq!(refusal(text), (3, text.len()));
 }

@@ -5,6 +5,7 @@
 use crate::harmony::Harmony;
 use crate::measure::{Degree, TenThousandths};
 use crate::state::Change;
+use std::fmt::{self, Display, Formatter};
 
 /// A name and its place, declared or used.
 #[derive(Clone, Debug, PartialEq, Eq)]
@@ -55,25 +56,108 @@ pub enum PositionForm<R> {
     By(Sum<R>),
 }
 
+/// A retuning and the placeholders that its brackets name; without brackets
+/// there are none.
+#[derive(Clone, Debug, PartialEq, Eq)]
+pub struct Retuning<R> {
+    pub placeholders: Vec<Name>,
+    pub form: RetuningForm<R>,
+}
+
 #[derive(Clone, Debug, PartialEq, Eq)]
 pub enum RetuningForm<R> {
-    Anchor(Change),
-    Width(Change),
+    Anchor(Change<Amount>),
+    Width(Change<Amount>),
     PeriodTo(Sum<R>),
     PeriodBy(Sum<R>),
     Tones(Vec<PositionForm<R>>),
 }
 
+/// What stands for n in anchor and width retunings.
+#[derive(Clone, Debug, PartialEq, Eq)]
+pub enum Amount {
+    Written(u16),
+    Placeholder(Name),
+}
+
+impl Amount {
+    /// The number that is written there.
+    pub fn written(&self) -> Option<u16> {
+        match self {
+            Amount::Written(n) => Some(*n),
+            Amount::Placeholder(_) => None,
+        }
+    }
+
+    /// The number that it is in a call that hands these over.
+    pub fn number(&self, placeholders: &[Name], handed: &Numbers) -> Option<u16> {
+        match self {
+            Amount::Written(n) => Some(*n),
+            Amount::Placeholder(name) => {
+                let place = placeholders.iter().position(|known| known.text == name.text)?;
+                handed.as_slice().get(place).copied()
+            }
+        }
+    }
+}
+
+impl Display for Amount {
+    fn fmt(&self, f: &mut Formatter) -> fmt::Result {
+        match self {
+            Amount::Written(n) => write!(f, "{n}"),
+            Amount::Placeholder(name) => write!(f, "{}", name.text),
+        }
+    }
+}
+
+/// "One to four placeholder names", and as many numbers.
+pub const PLACEHOLDERS: usize = 4;
+
+/// The numbers that a call hands over, in the order of the placeholders; none
+/// without brackets.
+#[derive(Clone, Copy, Debug, Default, PartialEq, Eq)]
+pub struct Numbers {
+    numbers: [u16; PLACEHOLDERS],
+    count: usize,
+}
+
+impl Numbers {
+    pub fn as_slice(&self) -> &[u16] {
+        self.numbers.get(..self.count).unwrap_or_default()
+    }
+}
+
+impl FromIterator<u16> for Numbers {
+    /// No more than four are kept.
+    fn from_iter<I: IntoIterator<Item = u16>>(all: I) -> Self {
+        let mut numbers = Numbers::default();
+        for (place, number) in numbers.numbers.iter_mut().zip(all) {
+            *place = number;
+            numbers.count += 1;
+        }
+        numbers
+    }
+}
+
+/// A call in a logic: what is called, where its name stands, and what is handed
+/// over.
+#[derive(Clone, Copy, Debug, PartialEq, Eq)]
+pub struct Called<T> {
+    pub target: T,
+    pub place: usize,
+    pub numbers: Numbers,
+}
+
 #[derive(Clone, Debug, PartialEq, Eq)]
 pub struct Order<R, T> {
     pub trigger: Trigger<R>,
-    pub called: T,
+    pub called: Called<T>,
 }
 
 #[derive(Clone, Debug, PartialEq, Eq)]
 pub struct LogicForm<R, T> {
     pub trigger: Trigger<R>,
-    pub start: Option<T>,
+    pub start: Option<Called<T>>,
     pub orders: Vec<Order<R, T>>,
 }
 
@@ -102,7 +186,7 @@ pub struct Tree<R, T> {
     pub intervals: Vec<Declared<IntervalForm<R>>>,
     pub tones: Vec<Declared<ToneForm<R>>>,
     pub systems: Vec<Declared<SystemForm<R>>>,
-    pub retunings: Vec<Declared<RetuningForm<R>>>,
+    pub retunings: Vec<Declared<Retuning<R>>>,
     pub harmonies: Vec<Declared<Harmony>>,
     pub logics: Vec<Declared<LogicForm<R, T>>>,
 }

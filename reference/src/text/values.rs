@@ -1,7 +1,8 @@
 //! Values: the numbers 7 and 8, and the program that a text becomes.
 
 use super::tree::{
-    Declared, IntervalForm, PositionForm, Resolved, RetuningForm, Sum, SystemForm, ToneForm,
+    Amount, Called, Declared, IntervalForm, PositionForm, Resolved, Retuning, RetuningForm, Sum,
+    SystemForm, Target, ToneForm,
 };
 use super::{at_earliest, Refusal};
 use crate::measure::{self, Interval, Pitch};
@@ -15,7 +16,32 @@ pub struct Program {
     pub intervals: Vec<Interval>,
     pub tones: Vec<Pitch>,
     pub systems: Vec<Call>,
-    pub retunings: Vec<Call>,
+    /// The retunings, with placeholders where numbers are handed over.
+    pub retunings: Vec<Call<Amount>>,
+}
+
+impl Program {
+    /// What a call of a tone system or retuning does: "it must act as the same
+    /// retuning with those numbers written in". None of a logic.
+    pub fn call(&self, called: &Called<Target>) -> Option<Call> {
+        match called.target {
+            Target::Retuning(i) => {
+                let placeholders = &self.declared.retunings.get(i)?.form.placeholders;
+                let number = |n: &Amount| n.number(placeholders, &called.numbers);
+                self.retunings.get(i)?.filled(number)
+            }
+            Target::System(i) => self.systems.get(i).cloned(),
+            Target::Logic(_) => None,
+        }
+    }
+
+    /// Whether the n of what is called is a placeholder.
+    pub fn hands_over_n(&self, called: &Called<Target>) -> bool {
+        let Target::Retuning(i) = called.target else {
+            return false;
+        };
+        self.retunings.get(i).is_some_and(|retuning| retuning.filled(Amount::written).is_none())
+    }
 }
 
 /// 7 is "interval or tone that depends on itself; its declared name".
@@ -178,7 +204,7 @@ fn system_calls(tree: &Resolved, tones: &[Pitch], periods: Vec<Option<Interval>>
     tree.systems.iter().zip(periods.into_iter().flatten()).map(system).collect()
 }
 
-fn retuning_calls(tree: &Resolved, intervals: &[Interval], tones: &[Pitch]) -> Vec<Call> {
+fn retuning_calls(tree: &Resolved, intervals: &[Interval], tones: &[Pitch]) -> Vec<Call<Amount>> {
     // In an accepted text every interval and tone has its value.
     let sum = |sum: &Sum<usize>| add_up(sum, |i| intervals.get(i).copied()).unwrap_or_default();
     let position = |form: &PositionForm<usize>| match form {
@@ -189,9 +215,9 @@ fn retuning_calls(tree: &Resolved, intervals: &[Interval], tones: &[Pitch]) -> V
             None => Position::Muted,
         },
     };
-    let call = |declared: &Declared<RetuningForm<usize>>| match &declared.form {
-        RetuningForm::Anchor(change) => Call::Anchor(*change),
-        RetuningForm::Width(change) => Call::Width(*change),
+    let call = |declared: &Declared<Retuning<usize>>| match &declared.form.form {
+        RetuningForm::Anchor(change) => Call::Anchor(change.clone()),
+        RetuningForm::Width(change) => Call::Width(change.clone()),
         RetuningForm::PeriodTo(period) => Call::Period(PeriodChange::To(sum(period))),
         RetuningForm::PeriodBy(by) => Call::Period(PeriodChange::By(sum(by))),
         RetuningForm::Tones(positions) => Call::Tones(positions.iter().map(position).collect()),
