@@ -20,6 +20,7 @@ pub mod Told
 pub mod Fed
 pub mod CaseS
 pub mod TextCalls
+pub mod WrittenCalls
 pub mod TextLetters
 pub mod DemandThree
 pub mod TwoLogics

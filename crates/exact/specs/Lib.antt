@@ -4,6 +4,7 @@ pub mod Book
 pub mod Agreement
 pub mod Actions
 pub mod TextCalls
+pub mod WrittenCalls
 pub mod TextLetters
 pub mod Claim
 pub mod Soundness
