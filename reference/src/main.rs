@@ -39,7 +39,7 @@ const USAGE: &str = "usage: reference SUBCOMMAND
   read FILE...                 prints what each text declares
   text-cases SEED COUNT DIR|-  writes texts, into a folder or as a stream
   texts                        answers a stream of texts
-  text-counts SEED COUNT       counts the causes of 24 among these texts
+  text-counts SEED COUNT       counts what is wrong in and about brackets among these texts
   stream-cases SEED INDEX TEXTFILE FRAMESFILE
                                writes one text and its frames
   stream-pairs SEED COUNT DIR  writes texts and frames, each pair in a folder

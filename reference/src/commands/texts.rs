@@ -82,10 +82,10 @@ pub fn write_cases(seed: u64, count: u64, folder: &str) -> Outcome {
     Ok(Verdict::Passed)
 }
 
-/// In so many texts each cause of 24 shall come once.
+/// In so many texts each cause of 24, and each of 3, 4 and 9 in brackets, shall come once.
 const TEXTS_TO_EACH_CAUSE: u64 = 200;
 
-/// Reads the texts of a seed and counts the causes of 24; fails if one is rare.
+/// Reads the texts of a seed and counts the causes of 24, and 3, 4 and 9 in brackets; fails if one is rare.
 pub fn count(seed: u64, count: u64) -> Outcome {
     let mut causes = Causes::default();
     for index in 0..count {
@@ -97,9 +97,12 @@ pub fn count(seed: u64, count: u64) -> Outcome {
     Ok(verdict(TEXTS_TO_EACH_CAUSE * causes.rarest() >= count))
 }
 
-/// How often 24 was given, by its cause.
+/// How often 24 was given, by its cause, and how often another number in brackets.
 #[derive(Default)]
 struct Causes {
+    bad_brackets: u64,
+    out_of_range: u64,
+    fifth: u64,
     not_named: u64,
     named_twice: u64,
     wrong_count: u64,
@@ -107,10 +110,19 @@ struct Causes {
 
 impl Causes {
     fn note(&mut self, text: &[u8]) {
-        let number = text::read(text).err().map(|refusal| refusal.number);
-        if number != Some(numbers::BAD_PLACEHOLDER) {
+        let Err(Refusal { number, place }) = text::read(text) else {
             return;
+        };
+        match number {
+            numbers::BAD_PLACEHOLDER => self.note_24(text),
+            numbers::NOT_ALLOWED if in_brackets(text, place) => self.bad_brackets += 1,
+            numbers::OUT_OF_RANGE if in_brackets(text, place) => self.out_of_range += 1,
+            numbers::ONE_TOO_MANY if in_brackets(text, place) => self.fifth += 1,
+            _ => {}
         }
+    }
+
+    fn note_24(&mut self, text: &[u8]) {
         match text::cause_of_24(text) {
             Some(Cause::NotNamed) => self.not_named += 1,
             Some(Cause::NamedTwice) => self.named_twice += 1,
@@ -120,16 +132,24 @@ impl Causes {
     }
 
     fn rarest(&self) -> u64 {
-        self.not_named.min(self.named_twice).min(self.wrong_count)
+        let of_24 = self.not_named.min(self.named_twice).min(self.wrong_count);
+        of_24.min(self.bad_brackets).min(self.out_of_range).min(self.fifth)
     }
+}
+
+/// A bracket stands at the place, or the last one before it opens. (Those in comments count too: this is for counts alone.)
+fn in_brackets(text: &[u8], place: usize) -> bool {
+    let is_bracket = |byte: &u8| matches!(byte, b'(' | b')');
+    text.get(place).is_some_and(is_bracket)
+        || text[..place].iter().rfind(|byte| is_bracket(byte)) == Some(&b'(')
 }
 
 impl std::fmt::Display for Causes {
     fn fmt(&self, f: &mut std::fmt::Formatter) -> std::fmt::Result {
         write!(
             f,
-            "24 for a placeholder not named: {}, named twice: {}, for a wrong count in a call: {}",
-            self.not_named, self.named_twice, self.wrong_count
+            "in brackets 3: {}, 4: {}, 9: {}; 24 for a placeholder not named: {}, named twice: {}, for a wrong count in a call: {}",
+            self.bad_brackets, self.out_of_range, self.fifth, self.not_named, self.named_twice, self.wrong_count
         )
     }
 }
@@ -139,7 +159,7 @@ mod tests {
     use super::*;
 
     #[test]
-    fn each_cause_of_24_is_frequent() {
+    fn each_refusal_of_placeholders_is_frequent() {
         let mut causes = Causes::default();
         (0..1_000).for_each(|index| causes.note(&texts::text(11, index)));
         assert!(TEXTS_TO_EACH_CAUSE * causes.rarest() >= 1_000, "{causes}");
