@@ -1,7 +1,7 @@
 //! The program `sitedesk` of document 01: the text from a file, frames line by
 //! line, answers line by line.
 
-use crate::frames::{refused_line, Desk};
+use crate::frames::{refused_line, Desk, LONGEST_FRAME};
 use crate::text::{self, LONGEST_TEXT};
 use crate::validity::{self, Tables};
 use std::fs::File;
@@ -10,8 +10,8 @@ use std::path::Path;
 
 const CHUNK: usize = 1 << 16;
 
-/// A frame's line has six bytes; of a longer one no more than this is kept.
-const LONGEST_LINE: usize = 7;
+/// Of a line that is longer than any frame's, no more than this is kept.
+const LONGEST_LINE: usize = LONGEST_FRAME + 1;
 
 /// The text of a file, "if absent, empty"; of one that is too long, no more
 /// than is needed to see it.
@@ -173,6 +173,21 @@ mod tests {
         let whole = answers(CASE_S, long.as_bytes());
         assert_eq!(whole, "01014D00450200124F80\nFF16\nFF16\n0102450000694920\nFF16\n");
         assert_eq!(answers(CASE_S, Drops(long.as_bytes())), whole);
+    }
+
+    /// The longest frame, and the same with one byte more.
+    #[test]
+    fn pieces_of_the_longest_row() {
+        let row = format!("010420{}", "55".repeat(32));
+        let frames = format!("01014D\n{row}\n{row}5\n{row}\r\n{row}");
+        let answer = |anchor: &str| format!("{row}{}{anchor}0200124F80\n", "00".repeat(32));
+        let expected = ["01014D00450200124F80\n", &answer("65"), "FF16\nFF16\n"].concat();
+        for whole in [answers(CASE_S, frames.as_bytes()), answers(CASE_S, Drops(frames.as_bytes()))]
+        {
+            let (taken, last) = whole.split_at(expected.len());
+            assert_eq!(taken, expected);
+            assert!(last.starts_with(&row) && last.ends_with("0A7F0200124F80\n"), "{last}");
+        }
     }
 
     #[test]

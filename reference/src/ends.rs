@@ -42,9 +42,9 @@ impl Ends {
     }
 
     /// The same of a call that a frame has made.
-    pub fn note_made(&mut self, state: &State, desk: &Desk, made: Made) {
+    pub fn note_made(&mut self, desk: &Desk, made: &Made) {
         if let Some(call) = desk.call_of(made) {
-            self.note(state, &call, made.number);
+            self.note(&made.on, &call, made.number);
         }
     }
 

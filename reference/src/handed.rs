@@ -30,17 +30,17 @@ impl Handed {
         self.divided = false;
     }
 
-    /// Counts what a frame did.
-    pub fn note(&mut self, program: &Program, effect: Effect) {
-        match effect.made {
+    /// Counts what a frame did, or a press of a row.
+    pub fn note(&mut self, program: &Program, effect: &Effect) {
+        match &effect.made {
             Some(made) => self.note_made(program, made),
             // A logic without a start.
-            None if effect.triggered => self.divided = false,
+            None if effect.activated.is_some() => self.divided = false,
             None => {}
         }
     }
 
-    fn note_made(&mut self, program: &Program, made: Made) {
+    fn note_made(&mut self, program: &Program, made: &Made) {
         let (is_taken, is_zero) =
             (made.number == numbers::DONE, made.number == numbers::DIVISION_BY_ZERO);
         if made.caller == Caller::Start {
@@ -130,8 +130,8 @@ mod tests {
         let mut desk = Desk::new(text::read(text.as_bytes()).unwrap());
         let mut handed = Handed::default();
         for letter in "LBCDEFGHIJMBLNB".bytes() {
-            let effect = desk.answer(format!("0101{letter:02X}").as_bytes(), &mut Vec::new());
-            handed.note(desk.program(), effect);
+            let effects = desk.answer(format!("0101{letter:02X}").as_bytes(), &mut Vec::new());
+            handed.note(desk.program(), &effects[0]);
         }
         let expected = Handed {
             taken: [1, 2, 1, 1, 1, 1, 1, 1],

@@ -58,14 +58,14 @@ impl Limits {
         *count += 1;
     }
 
-    /// Counts a call that a frame has made on this state: "Anchor and width
-    /// retunings keep using the unlimited pitch."
-    pub fn note_made(&mut self, state: &State, desk: &Desk, made: Made) {
-        let Some(key) = desk.call_of(made).and_then(|call| other_end(state, &call)) else {
+    /// Counts a call that a frame has made: "Anchor and width retunings keep using
+    /// the unlimited pitch."
+    pub fn note_made(&mut self, desk: &Desk, made: &Made) {
+        let Some(key) = desk.call_of(made).and_then(|call| other_end(&made.on, &call)) else {
             return;
         };
-        let by_a_pitch = state.place_of(key).1 != 0 && made.number == numbers::DONE;
-        self.far_ends += u64::from(by_a_pitch && is_unplayable(state, key));
+        let by_a_pitch = made.on.place_of(key).1 != 0 && made.number == numbers::DONE;
+        self.far_ends += u64::from(by_a_pitch && is_unplayable(&made.on, key));
     }
 
     /// How often the rarest of all came.

@@ -6,7 +6,7 @@ use crate::book::{Book, Halt};
 use crate::cases::streams;
 use crate::comparison::{Comparison, Distance, Logarithms, Page, Sizes};
 use crate::ends::Ends;
-use crate::frames::{frame_bytes, Desk, Made};
+use crate::frames::{calls_made, frame_bytes, Desk, Effect};
 use crate::handed::Handed;
 use crate::measure::{Pitch, CONCERT_PITCH};
 use crate::numbers::{self, Number};
@@ -68,12 +68,9 @@ fn follow(
     compare_keys(&mut desk, &Page::new(&book, &sizes), tally)?;
     let lines = frames.strip_suffix(b"\n").unwrap_or(frames);
     for line in lines.split(|&byte| byte == b'\n') {
-        let before = desk.state().clone();
-        let effect = desk.answer(line, &mut Vec::new());
-        tally.handed.note(desk.program(), effect);
-        if let Some(made) = effect.made {
-            tally.note_call(line, made);
-            tally.ends.note_made(&before, &desk, made);
+        let effects = desk.answer(line, &mut Vec::new());
+        tally.note_calls(line, &desk, &effects);
+        for made in calls_made(&effects) {
             book.take(made)?;
         }
         compare_keys(&mut desk, &Page::new(&book, &sizes), tally)?;
@@ -148,13 +145,15 @@ struct Tally {
 }
 
 impl Tally {
-    /// Counts a call that was taken.
-    fn note_call(&mut self, line: &[u8], made: Made) {
-        if made.number != numbers::DONE {
-            return;
+    /// Counts the calls that a frame has made.
+    fn note_calls(&mut self, line: &[u8], desk: &Desk, effects: &[Effect]) {
+        effects.iter().for_each(|effect| self.handed.note(desk.program(), effect));
+        calls_made(effects).for_each(|made| self.ends.note_made(desk, made));
+        let taken = calls_made(effects).filter(|made| made.number == numbers::DONE).count() as u64;
+        self.calls += taken;
+        if let Some([_, 5 | 6, _]) = frame_bytes(line).as_deref() {
+            self.by_harmonies += taken;
         }
-        self.calls += 1;
-        self.by_harmonies += u64::from(matches!(frame_bytes(line), Some([_, 5 | 6, _])));
     }
 
     fn note(&mut self, key: i64, pitch: Option<Pitch>, comparison: Comparison) {

@@ -5,7 +5,7 @@
 use super::{output, verdict, Outcome};
 use crate::cases::streams::{self, Pair};
 use crate::ends::Ends;
-use crate::frames::{frame_bytes, Desk, Effect};
+use crate::frames::{calls_made, frame_bytes, Desk, Effect};
 use crate::handed::Handed;
 use crate::numbers;
 use crate::playable::Limits;
@@ -66,16 +66,16 @@ impl Tally {
     }
 
     fn take(&mut self, desk: Option<&mut Desk>, line: &[u8]) {
-        let effect = desk.map(|desk| self.answer(desk, line));
-        let Some([1 | 2, 5 | 6, _]) = frame_bytes(line) else {
+        let effects = desk.map(|desk| self.answer(desk, line)).unwrap_or_default();
+        let Some([1 | 2, 5 | 6, _]) = frame_bytes(line).as_deref() else {
             return;
         };
         self.frames += 1;
-        let Some(effect) = effect else {
+        let [effect] = &effects[..] else {
             return;
         };
         match effect.number {
-            _ if effect.triggered => {
+            _ if effect.is_triggered() => {
                 self.matches += 1;
                 self.refused_calls += u64::from(effect.number != numbers::DONE);
             }
@@ -86,20 +86,19 @@ impl Tally {
         }
     }
 
-    /// Answers a line and counts the ends of its call and what it hands over, or
-    /// the key that it asks.
-    fn answer(&mut self, desk: &mut Desk, line: &[u8]) -> Effect {
-        let before = desk.state().clone();
-        let effect = desk.answer(line, &mut Vec::new());
-        if let Some(made) = effect.made {
-            self.ends.note_made(&before, desk, made);
-            self.limits.note_made(&before, desk, made);
+    /// Answers a line and counts the ends of its calls and what they hand over,
+    /// or the key that it asks.
+    fn answer(&mut self, desk: &mut Desk, line: &[u8]) -> Vec<Effect> {
+        let effects = desk.answer(line, &mut Vec::new());
+        for made in calls_made(&effects) {
+            self.ends.note_made(desk, made);
+            self.limits.note_made(desk, made);
         }
-        self.handed.note(desk.program(), effect);
-        if let Some([1 | 2, 2, key @ 0..=127]) = frame_bytes(line) {
-            self.limits.note_key(before.pitch(Key(key.into())));
+        effects.iter().for_each(|effect| self.handed.note(desk.program(), effect));
+        if let Some([1 | 2, 2, key @ 0..=127]) = frame_bytes(line).as_deref() {
+            self.limits.note_key(desk.state().pitch(Key((*key).into())));
         }
-        effect
+        effects
     }
 
     fn has_each_way(&self) -> bool {

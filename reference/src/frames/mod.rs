@@ -1,70 +1,24 @@
-//! Section "Frames" of document 01, with the keys of request 5/13, the unplayable
-//! ones of 6/13 and the numbers handed over of 1/13: frames, what they call, and
-//! the answers.
+//! Section "Frames" of document 01, with the numbers handed over of request 1/13,
+//! the rows of 3/13, the keys of 5/13 and the unplayable ones of 6/13: frames,
+//! what they call, and the answers.
+
+mod effects;
+mod line;
 
 use crate::bindings::{Bindings, Found, Sought};
-use crate::harmony::{HeldKeys, House, HouseKey};
+use crate::harmony::HeldKeys;
 use crate::measure::Pitch;
 use crate::numbers::{self, Number};
 use crate::playable::key_answer;
-use crate::state::{Call, Key, State};
-use crate::text::tree::{Called, Letter, Target};
+use crate::state::{Call, State};
+use crate::text::tree::{Called, Target};
 use crate::text::{Program, Refusal};
+pub use effects::{calls_made, Caller, Effect, Made};
+use line::{frame, Action, Frame};
+pub use line::{frame_bytes, LONGEST_FRAME};
 
 /// "Muted is 80000000."
 const MUTED: [u8; 4] = [0x80, 0, 0, 0];
-
-#[derive(Clone, Copy, Debug, PartialEq, Eq)]
-enum Frame {
-    Play(Action),
-    Pitch(Key),
-    Dump,
-}
-
-/// What may call something.
-#[derive(Clone, Copy, Debug, PartialEq, Eq)]
-enum Action {
-    Letter(Letter),
-    Down(HouseKey),
-    Up(HouseKey),
-}
-
-/// "Byte 1: house, 01 or 02. Byte 2 and 3: 01 and a letter 41 to 5A; 02 and a
-/// key 00 to 7F; 03 and 00." "Frames of kind 05 and 06 say that a key goes down
-/// or up in that house."
-fn frame([house, kind, data]: [u8; 3]) -> Option<Frame> {
-    let house = match house {
-        1 => House::First,
-        2 => House::Second,
-        _ => return None,
-    };
-    let key = HouseKey { house, key: data };
-    match (kind, data) {
-        (1, b'A'..=b'Z') => Some(Frame::Play(Action::Letter(Letter(data)))),
-        (2, 0..=127) => Some(Frame::Pitch(Key(data.into()))),
-        (3, 0) => Some(Frame::Dump),
-        (5, 0..=127) => Some(Frame::Play(Action::Down(key))),
-        (6, 0..=127) => Some(Frame::Play(Action::Up(key))),
-        _ => None,
-    }
-}
-
-/// "Three bytes as six capital hexadecimal digits."
-pub fn frame_bytes(line: &[u8]) -> Option<[u8; 3]> {
-    let &[a, b, c, d, e, f] = line else {
-        return None;
-    };
-    let byte = |high, low| Some(16 * digit(high)? + digit(low)?);
-    Some([byte(a, b)?, byte(c, d)?, byte(e, f)?])
-}
-
-fn digit(byte: u8) -> Option<u8> {
-    match byte {
-        b'0'..=b'9' => Some(byte - b'0'),
-        b'A'..=b'F' => Some(byte - b'A' + 10),
-        _ => None,
-    }
-}
 
 /// An answer's line in the making: each byte becomes two capital hexadecimal
 /// digits.
@@ -108,36 +62,6 @@ pub fn refused_line(refusal: Refusal, out: &mut Vec<u8>) {
     answer.end();
 }
 
-/// A call of a tone system or retuning that a frame has made, and its number.
-#[derive(Clone, Copy, Debug, PartialEq, Eq)]
-pub struct Made {
-    pub called: Called<Target>,
-    pub caller: Caller,
-    pub number: Number,
-}
-
-/// Where a call stands: "calls from orders and logic starts".
-#[derive(Clone, Copy, Debug, PartialEq, Eq)]
-pub enum Caller {
-    Start,
-    Order,
-}
-
-/// What a frame did: its number, whether a trigger was found, and the call if
-/// it made one.
-#[derive(Clone, Copy, Debug, PartialEq, Eq)]
-pub struct Effect {
-    pub number: Number,
-    pub triggered: bool,
-    pub made: Option<Made>,
-}
-
-impl Effect {
-    fn nothing(number: Number) -> Self {
-        Effect { number, triggered: false, made: None }
-    }
-}
-
 /// One state and one active logic for both houses, and the keys that each
 /// holds.
 pub struct Desk {
@@ -168,7 +92,7 @@ impl Desk {
     }
 
     /// What a call that was made did, its numbers filled in.
-    pub fn call_of(&self, made: Made) -> Option<Call> {
+    pub fn call_of(&self, made: &Made) -> Option<Call> {
         self.program.call(&made.called)
     }
 
@@ -177,37 +101,41 @@ impl Desk {
     }
 
     /// Takes one frame, a line without its line feed, and writes the answer's
-    /// line; tells what it did.
-    pub fn answer(&mut self, line: &[u8], out: &mut Vec<u8>) -> Effect {
-        let known = frame_bytes(line).and_then(|bytes| Some((bytes, frame(bytes)?)));
-        let Some((bytes, frame)) = known else {
+    /// line; tells what it did, of a row what each press did.
+    pub fn answer(&mut self, line: &[u8], out: &mut Vec<u8>) -> Vec<Effect> {
+        let known = frame_bytes(line).and_then(|bytes| Some((frame(&bytes)?, bytes)));
+        let Some((frame, bytes)) = known else {
             Answer::new(out, &[0xFF, numbers::BAD_FRAME]).end();
-            return Effect::nothing(numbers::BAD_FRAME);
+            return vec![Effect::nothing(numbers::BAD_FRAME)];
         };
         let mut answer = Answer::new(out, &bytes);
-        let effect = match frame {
-            Frame::Play(action) => {
-                let effect = self.play(action);
-                answer.put(&[effect.number]);
-                answer.put_head(&self.state);
-                effect
-            }
+        let effects = match frame {
+            Frame::Play(actions) => self.play_all(&actions, &mut answer),
             Frame::Pitch(key) => {
                 let (number, pitch) = key_answer(self.state.pitch(key));
                 answer.put(&[number]);
                 answer.put_pitch(pitch);
-                Effect::nothing(number)
+                vec![Effect::nothing(number)]
             }
             Frame::Dump => {
                 answer.put(&[numbers::DONE]);
                 answer.put_head(&self.state);
                 let tones = self.state.tones.iter().take(self.state.width);
                 tones.for_each(|tone| answer.put_pitch(*tone));
-                Effect::nothing(numbers::DONE)
+                vec![Effect::nothing(numbers::DONE)]
             }
         };
         answer.end();
-        effect
+        effects
+    }
+
+    /// "Its answer is the frame, then each press's number, then anchor, width
+    /// and period." A press starts from what the one before it left.
+    fn play_all(&mut self, actions: &[Action], answer: &mut Answer) -> Vec<Effect> {
+        let effects: Vec<_> = actions.iter().map(|action| self.play(*action)).collect();
+        effects.iter().for_each(|effect| answer.put(&[effect.number]));
+        answer.put_head(&self.state);
+        effects
     }
 
     /// "17 for a key already held in that house, 18 for one not held, each
@@ -253,10 +181,11 @@ impl Desk {
     fn activate(&mut self, logic: usize) -> Effect {
         self.active = Some(logic);
         let declared = self.program.declared.logics.get(logic);
-        match declared.and_then(|logic| logic.form.start) {
+        let effect = match declared.and_then(|logic| logic.form.start) {
             Some(start) => self.call(start, Caller::Start),
-            None => Effect { number: numbers::DONE, triggered: true, made: None },
-        }
+            None => Effect::nothing(numbers::DONE),
+        };
+        Effect { activated: Some(logic), ..effect }
     }
 
     /// Calls a tone system or retuning, with the numbers handed over filled in
@@ -265,16 +194,20 @@ impl Desk {
         let Some(call) = self.program.call(&called) else {
             return Effect::nothing(numbers::DONE);
         };
-        let number = match self.state.called(&call) {
+        let on = self.state.clone();
+        let number = match on.called(&call) {
             Ok(state) => {
                 self.state = state;
                 numbers::DONE
             }
             Err(number) => number,
         };
-        Effect { number, triggered: true, made: Some(Made { called, caller, number }) }
+        let made = Made { on, called, caller, number };
+        Effect { made: Some(made), ..Effect::nothing(number) }
     }
 }
 
+#[cfg(test)]
+mod row_tests;
 #[cfg(test)]
 pub mod tests;

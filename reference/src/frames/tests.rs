@@ -6,7 +6,8 @@ use crate::text::{self, tests::CASE_S};
 /// A call that an order made, with the numbers that it handed over.
 pub fn made(target: Target, handed: &[u16], number: Number) -> Made {
     let numbers = handed.iter().copied().collect();
-    Made { called: Called { target, place: 0, numbers }, caller: Caller::Order, number }
+    let called = Called { target, place: 0, numbers };
+    Made { on: State::start(), called, caller: Caller::Order, number }
 }
 
 fn desk(text: &str) -> Desk {
@@ -20,7 +21,7 @@ fn answer(desk: &mut Desk, line: &str) -> String {
 }
 
 /// The frames of a text one after the other, each with its answer.
-fn answers(text: &str, frames: &[(&str, &str)]) {
+pub fn answers(text: &str, frames: &[(&str, &str)]) {
     let mut desk = desk(text);
     for (line, expected) in frames {
         assert_eq!(answer(&mut desk, line), *expected);
