@@ -14,6 +14,7 @@ mod ends;
 mod frames;
 mod handed;
 mod harmony;
+mod letter_rows;
 mod logarithm;
 mod measure;
 mod numbers;

@@ -15,7 +15,7 @@ macro_rules! c_dur_rein {
     };
 }
 
-pub const EXAMPLES: [&str; 25] = [
+pub const EXAMPLES: [&str; 26] = [
     "INTERVAL Octave = 2 : 1 Fifth = 3 : 2 TONE a = 440 e = a + Fifth \
      TONESYSTEM Two = 69 [ a, e ] Octave RETUNING Up = @ + 1 [ ] LOGIC L KEY M = Two [ KEY U -> Up ]",
     "INTERVALL\n  Drittelton = 18 Wurzel 2\nTON\n  a = 440\nTONSYSTEM\n  Drittel = 69 [a] Drittelton\n\
@@ -69,6 +69,7 @@ pub const EXAMPLES: [&str; 25] = [
     "INTERVAL O = 2 : 1 RETUNING P ( a ) = [ ] O + O T ( a, b, c, d ) = [ , @ + O ] \
      LOGIC L KEY L = P ( 0 ) [ KEY A -> T ( 1, 2, 3, 4 ) ]",
     "TONE x = 440 RETUNING x ( X ) = @ - x [ ] LOGIC L KEY L = x ( #A ) [ ]",
+    "RETUNING Far = 200 [ ] Up = @ + 1 [ ] LOGIC L KEY L = Far [ KEY U -> Up ]",
     "RETUNING a = x [ ] INTERVAL b = b",
     "LOGIC L KEY L = [ KEY A -> L ( 1 ) ]",
 ];
@@ -131,7 +132,7 @@ mod tests {
         let numbers: Vec<_> = EXAMPLES.iter().map(number).collect();
         assert_eq!(
             numbers,
-            [0, 0, 0, 0, 0, 0, 0, 0, 0, 3, 3, 3, 0, 0, 0, 0, 0, 3, 3, 0, 0, 0, 0, 24, 24,]
+            [0, 0, 0, 0, 0, 0, 0, 0, 0, 3, 3, 3, 0, 0, 0, 0, 0, 3, 3, 0, 0, 0, 0, 0, 24, 24]
         );
     }
 

@@ -6,8 +6,11 @@ mod examples;
 mod faults;
 mod fingers;
 mod harmonies;
+mod letter_rows;
 pub mod measures;
 mod misuses;
+#[cfg(test)]
+mod sent_singly;
 mod sketch;
 pub mod streams;
 pub mod texts;

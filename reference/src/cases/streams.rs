@@ -5,6 +5,7 @@ use super::compose::{compose, Plan};
 use super::examples::{EXAMPLES, LIMITS, PLACEHOLDERS};
 use super::faults;
 use super::fingers::Fingers;
+use super::letter_rows::{self, digits};
 use super::sketch::render;
 use crate::frames::Desk;
 use crate::playable::is_at_an_end;
@@ -102,6 +103,8 @@ struct Player {
     fingers: Fingers,
     /// How many in a hundred frames are those of keys.
     keys: u32,
+    /// How many in a hundred of the others are rows of letters.
+    rows: u32,
 }
 
 impl Player {
@@ -112,15 +115,15 @@ impl Player {
         } else {
             random.one_of([0, 20, 50, 80])
         };
-        Player { desk, lines: Vec::new(), fingers: Fingers::default(), keys }
+        let rows = random.one_of([0, 5, 10, 40]);
+        Player { desk, lines: Vec::new(), fingers: Fingers::default(), keys, rows }
     }
 
     /// The frames of a stream; the last line may lack its line feed.
     fn frames(mut self, random: &mut Random) -> Vec<u8> {
         let most = random.one_of([5, 30, 60, 120, 240]);
         for _ in 0..=random.below(most) {
-            let line = self.line(random);
-            self.desk.answer(&line, &mut Vec::new());
+            let line = self.played_line(random);
             self.lines.extend(line);
             self.lines.push(b'\n');
         }
@@ -130,18 +133,48 @@ impl Player {
         self.lines
     }
 
-    fn line(&mut self, random: &mut Random) -> Vec<u8> {
-        if random.percent(self.keys) {
-            return frame_line(self.fingers.frame(random, &self.desk));
-        }
+    /// The next line; the desk has taken it.
+    fn played_line(&mut self, random: &mut Random) -> Vec<u8> {
         let house = 1 + random.below(2) as u8;
+        let line = if random.percent(self.keys) {
+            digits(&self.fingers.frame(random, &self.desk))
+        } else if !random.percent(self.rows) {
+            self.line(random, house)
+        } else if random.percent(25) {
+            self.damaged_row(random, house)
+        } else {
+            return self.played_row(random, house);
+        };
+        self.desk.answer(&line, &mut Vec::new());
+        line
+    }
+
+    fn line(&mut self, random: &mut Random, house: u8) -> Vec<u8> {
         match random.below(100) {
-            0..=64 => frame_line([house, 1, self.letter(random)]),
-            65..=83 => frame_line([house, 2, self.key(random)]),
-            84..=89 => frame_line([house, 3, 0]),
-            90..=93 => frame_line(near_frame(random)),
+            0..=64 => digits(&[house, 1, self.letter(random)]),
+            65..=83 => digits(&[house, 2, self.key(random)]),
+            84..=89 => digits(&[house, 3, 0]),
+            90..=93 => digits(&near_frame(random)),
             _ => damaged_line(random),
         }
+    }
+
+    /// A row whose letters are played singly as they are chosen, so that each is
+    /// one for the logic that is active then.
+    fn played_row(&mut self, random: &mut Random, house: u8) -> Vec<u8> {
+        let mut letters = Vec::new();
+        for _ in 0..letter_rows::length(random) {
+            let letter = self.letter(random);
+            self.desk.answer(&digits(&[house, 1, letter]), &mut Vec::new());
+            letters.push(letter);
+        }
+        digits(&letter_rows::row(house, &letters))
+    }
+
+    fn damaged_row(&mut self, random: &mut Random, house: u8) -> Vec<u8> {
+        let length = letter_rows::length(random);
+        let letters: Vec<_> = (0..length).map(|_| self.letter(random)).collect();
+        letter_rows::damaged_line(random, house, &letters)
     }
 
     /// Any key, or one at an end of what an instrument has, or one past it.
@@ -178,11 +211,6 @@ fn letters<'a>(triggers: impl Iterator<Item = &'a Trigger<usize>>) -> Vec<u8> {
         Trigger::Harmony(_) => None,
     };
     triggers.filter_map(letter).collect()
-}
-
-fn frame_line(bytes: [u8; 3]) -> Vec<u8> {
-    let digits: String = bytes.iter().map(|byte| format!("{byte:02X}")).collect();
-    digits.into_bytes()
 }
 
 /// Three bytes right beside those of a frame.

@@ -46,8 +46,11 @@ pub fn check(seed: u64, count: u64) -> Outcome {
     if tally.handed.taken() == 0 || tally.handed.zeros() == 0 {
         note(format_args!("no call that hands over an n is taken, or none divides by zero"));
     }
+    if tally.long_rows == 0 {
+        note(format_args!("no row of letters has more than one call that is taken"));
+    }
     let handed = tally.handed.taken().min(tally.handed.zeros());
-    let met = [tally.past_half, tally.ends.taken(), tally.unplayable, handed];
+    let met = [tally.past_half, tally.ends.taken(), tally.unplayable, handed, tally.long_rows];
     Ok(verdict(tally.failed == 0 && !met.contains(&0)))
 }
 
@@ -131,6 +134,10 @@ struct Tally {
     calls: u64,
     /// Those of the calls that a harmony made.
     by_harmonies: u64,
+    /// Those of the calls that rows of letters made, and the rows in which more
+    /// than one is taken.
+    in_rows: u64,
+    long_rows: u64,
     ends: Ends,
     handed: Handed,
     silent: u64,
@@ -151,8 +158,13 @@ impl Tally {
         calls_made(effects).for_each(|made| self.ends.note_made(desk, made));
         let taken = calls_made(effects).filter(|made| made.number == numbers::DONE).count() as u64;
         self.calls += taken;
-        if let Some([_, 5 | 6, _]) = frame_bytes(line).as_deref() {
-            self.by_harmonies += taken;
+        match frame_bytes(line).as_deref() {
+            Some([_, 5 | 6, _]) => self.by_harmonies += taken,
+            Some([_, 4, ..]) => {
+                self.in_rows += taken;
+                self.long_rows += u64::from(taken > 1);
+            }
+            _ => {}
         }
     }
 
@@ -193,11 +205,14 @@ impl std::fmt::Display for Tally {
         )?;
         writeln!(
             f,
-            "{} frames, {} calls taken, {} of these by harmonies, {} with an n handed over, \
-             {} by whole periods from a muted first position; {} divisions by zero",
+            "{} frames, {} calls taken, {} of these by harmonies, {} in rows of letters ({} rows \
+             with more than one), {} with an n handed over, {} by whole periods from a muted first \
+             position; {} divisions by zero",
             self.frames,
             self.calls,
             self.by_harmonies,
+            self.in_rows,
+            self.long_rows,
             self.handed.taken(),
             self.ends.taken(),
             self.handed.zeros()
@@ -226,6 +241,7 @@ mod tests {
         }
         assert_eq!(tally.failed, 0);
         assert!(tally.exact > 0 && tally.apart > 0 && tally.unplayable > 0);
-        assert!(tally.by_harmonies > 0 && tally.calls > tally.by_harmonies);
+        assert!(tally.by_harmonies > 0 && tally.long_rows > 0);
+        assert!(tally.calls > tally.by_harmonies + tally.in_rows);
     }
 }

@@ -1,12 +1,14 @@
 //! `stream-counts`: how often the streams of a seed play keys, and how often a
 //! harmony then matches; the ends of their anchor and width calls; the keys asked
-//! at the ends of what an instrument has; and the calls that hand over an n.
+//! at the ends of what an instrument has; the calls that hand over an n; and the
+//! rows of letters.
 
-use super::{output, verdict, Outcome};
+use super::{note, output, verdict, Outcome};
 use crate::cases::streams::{self, Pair};
 use crate::ends::Ends;
 use crate::frames::{calls_made, frame_bytes, Desk, Effect};
 use crate::handed::Handed;
+use crate::letter_rows::LetterRows;
 use crate::numbers;
 use crate::playable::Limits;
 use crate::state::Key;
@@ -17,12 +19,13 @@ use std::io::Write;
 const STREAMS_TO_A_MATCH: u64 = 3;
 
 /// In so many streams each way to end a distance shall come once, each place at
-/// the ends of what an instrument has, and each way to hand over an n.
+/// the ends of what an instrument has, each way to hand over an n, and each sort
+/// of row.
 const STREAMS_TO_EACH_WAY: u64 = 200;
 
 /// Answers the streams of a seed and counts; fails if too few have a match, or
-/// if a way to end a distance, a place at those ends or a way to hand over an n
-/// is rare.
+/// if a way to end a distance, a place at those ends, a way to hand over an n or
+/// a sort of row is rare.
 pub fn count(seed: u64, count: u64) -> Outcome {
     let mut tally = Tally::default();
     for index in 0..count {
@@ -31,7 +34,11 @@ pub fn count(seed: u64, count: u64) -> Outcome {
     let mut output = output();
     writeln!(output, "{tally}")?;
     output.flush()?;
-    Ok(verdict(tally.has_enough_matches() && tally.has_each_way()))
+    if !tally.has_each_row() {
+        let (count, sort) = tally.rows.rarest();
+        note(format_args!("rare among the rows of letters: {sort}, {count} times"));
+    }
+    Ok(verdict(tally.has_enough_matches() && tally.has_each_way() && tally.has_each_row()))
 }
 
 #[derive(Default)]
@@ -48,6 +55,7 @@ struct Tally {
     ends: Ends,
     limits: Limits,
     handed: Handed,
+    rows: LetterRows,
 }
 
 impl Tally {
@@ -87,23 +95,32 @@ impl Tally {
     }
 
     /// Answers a line and counts the ends of its calls and what they hand over,
-    /// or the key that it asks.
+    /// the row that it is, or the key that it asks.
     fn answer(&mut self, desk: &mut Desk, line: &[u8]) -> Vec<Effect> {
+        let active = desk.active();
         let effects = desk.answer(line, &mut Vec::new());
         for made in calls_made(&effects) {
             self.ends.note_made(desk, made);
             self.limits.note_made(desk, made);
         }
         effects.iter().for_each(|effect| self.handed.note(desk.program(), effect));
+        self.rows.note(line, active, desk, &effects);
         if let Some([1 | 2, 2, key @ 0..=127]) = frame_bytes(line).as_deref() {
             self.limits.note_key(desk.state().pitch(Key((*key).into())));
         }
         effects
     }
 
+    fn is_frequent(&self, count: u64) -> bool {
+        STREAMS_TO_EACH_WAY * count >= self.streams
+    }
+
     fn has_each_way(&self) -> bool {
-        let rarest = self.ends.rarest().min(self.limits.rarest()).min(self.handed.rarest());
-        STREAMS_TO_EACH_WAY * rarest >= self.streams
+        self.is_frequent(self.ends.rarest().min(self.limits.rarest()).min(self.handed.rarest()))
+    }
+
+    fn has_each_row(&self) -> bool {
+        self.is_frequent(self.rows.rarest().0)
     }
 
     fn has_enough_matches(&self) -> bool {
@@ -125,7 +142,8 @@ impl std::fmt::Display for Tally {
         )?;
         writeln!(f, "{}", self.ends)?;
         writeln!(f, "{}", self.limits)?;
-        write!(f, "{}", self.handed)
+        writeln!(f, "{}", self.handed)?;
+        write!(f, "{}", self.rows)
     }
 }
 
@@ -138,6 +156,7 @@ mod tests {
         let mut tally = Tally::default();
         (0..500).for_each(|index| tally.follow(&streams::pair(11, index)));
         assert!(tally.has_enough_matches() && tally.has_each_way(), "{tally}");
+        assert!(tally.has_each_row(), "{tally}");
         let refused = [tally.refused_calls, tally.held, tally.not_held, tally.above];
         assert!(refused.into_iter().all(|count| count >= 30), "{tally}");
     }

@@ -6,7 +6,7 @@ use crate::text::tree::Letter;
 use std::ops::RangeInclusive;
 
 /// "A count from 1 to 32".
-const LETTERS_IN_ROW: RangeInclusive<usize> = 1..=32;
+pub const LETTERS_IN_ROW: RangeInclusive<usize> = 1..=32;
 
 /// The digits of the longest frame: house, kind, count and 32 letters.
 pub const LONGEST_FRAME: usize = 2 * (3 + *LETTERS_IN_ROW.end());

@@ -15,7 +15,7 @@ use crate::text::tree::{Called, Target};
 use crate::text::{Program, Refusal};
 pub use effects::{calls_made, Caller, Effect, Made};
 use line::{frame, Action, Frame};
-pub use line::{frame_bytes, LONGEST_FRAME};
+pub use line::{frame_bytes, LETTERS_IN_ROW, LONGEST_FRAME};
 
 /// "Muted is 80000000."
 const MUTED: [u8; 4] = [0x80, 0, 0, 0];
@@ -98,6 +98,12 @@ impl Desk {
 
     pub fn held(&self) -> &HeldKeys {
         &self.held
+    }
+
+    /// Whether an analysis of the held keys would find something now.
+    pub fn has_bound_chord(&self) -> bool {
+        let chord = self.held.chord(&self.state);
+        self.bindings.find(Sought::Chord(chord), self.active).is_some()
     }
 
     /// Takes one frame, a line without its line feed, and writes the answer's
