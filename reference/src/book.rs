@@ -134,7 +134,7 @@ impl Book {
     /// "A call with number 0 does what its line above says, with entries for
     /// pitches and intervals and no checks. Any other number, or no call,
     /// changes nothing."
-    pub fn take(&mut self, made: &Made) -> Result<(), Halt> {
+    pub fn take(&mut self, made: Made) -> Result<(), Halt> {
         if made.number != numbers::DONE {
             return Ok(());
         }
@@ -338,7 +338,7 @@ mod tests {
     }
 
     fn call(book: &mut Book, target: Target) {
-        book.take(&made(target, &[], 0)).unwrap();
+        book.take(made(target, &[], 0)).unwrap();
     }
 
     #[test]
@@ -359,7 +359,7 @@ mod tests {
         assert_eq!(book.numbers, [Declaration::Interval(0), Declaration::Interval(1), tone]);
         call(&mut book, Target::System(0));
         assert_eq!(book.entry(71).unwrap().unwrap().declared, [1, 0, 1]);
-        book.take(&made(Target::Retuning(0), &[], 10)).unwrap();
+        book.take(made(Target::Retuning(0), &[], 10)).unwrap();
         assert_eq!(book.entry(71).unwrap().unwrap().declared, [1, 0, 1]);
         call(&mut book, Target::Retuning(0));
         assert_eq!(book.entry(71).unwrap().unwrap().declared, [0, 2, 1]);
@@ -372,12 +372,12 @@ mod tests {
     fn numbers_handed_over() {
         let text = b"RETUNING A ( x, y ) = @ - y [ ] W ( x ) = [ << @ / x >> ]";
         let mut book = Book::new(&text::read(text).unwrap().declared).unwrap();
-        book.take(&made(Target::Retuning(0), &[3, 7], 0)).unwrap();
-        book.take(&made(Target::Retuning(1), &[0], 25)).unwrap();
+        book.take(made(Target::Retuning(0), &[3, 7], 0)).unwrap();
+        book.take(made(Target::Retuning(1), &[0], 25)).unwrap();
         assert_eq!((book.anchor, book.width), (53, 12));
-        book.take(&made(Target::Retuning(1), &[5], 0)).unwrap();
+        book.take(made(Target::Retuning(1), &[5], 0)).unwrap();
         assert_eq!((book.width, book.period.root_of_two), (2, 2));
-        let zero = book.take(&made(Target::Retuning(1), &[0], 0));
+        let zero = book.take(made(Target::Retuning(1), &[0], 0));
         assert_eq!(zero, Err(Halt::Impossible));
     }
 

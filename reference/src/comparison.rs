@@ -205,7 +205,7 @@ mod tests {
     fn a_fifth() {
         let tree = text::read(CASE_S.as_bytes()).unwrap().declared;
         let mut book = Book::new(&tree).unwrap();
-        book.take(&made(Target::System(0), &[], 0)).unwrap();
+        book.take(made(Target::System(0), &[], 0)).unwrap();
         let Comparison::Apart(distance) = compare(&book, &tree, 70, 7_601_955) else {
             panic!("the fifth has no distance");
         };
@@ -230,7 +230,7 @@ mod tests {
         let text = b"INTERVAL o = 2 : 1 TONE d = 1153 TONESYSTEM One = 69 [ d ] o";
         let tree = text::read(text).unwrap().declared;
         let mut book = Book::new(&tree).unwrap();
-        book.take(&made(Target::System(0), &[], 0)).unwrap();
+        book.take(made(Target::System(0), &[], 0)).unwrap();
         let Comparison::Apart(distance) = compare(&book, &tree, 69, 8_567_780) else {
             panic!("the tone has no distance");
         };

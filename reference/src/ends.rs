@@ -1,7 +1,6 @@
 //! Anchor and width calls by the two ends of their distance: how often the rule
 //! of request 2/13 was met, and each way to number 13.
 
-use crate::frames::{Desk, Made};
 use crate::numbers::{self, Number};
 use crate::state::{Call, Key, State, ANCHORS, WIDTHS};
 
@@ -39,13 +38,6 @@ impl Ends {
             _ => return,
         };
         *count += 1;
-    }
-
-    /// The same of a call that a frame has made.
-    pub fn note_made(&mut self, desk: &Desk, made: &Made) {
-        if let Some(call) = desk.call_of(made) {
-            self.note(&made.on, &call, made.number);
-        }
     }
 
     /// Those by whole periods that were taken.

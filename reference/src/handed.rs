@@ -32,7 +32,7 @@ impl Handed {
 
     /// Counts what a frame did, or a press of a row.
     pub fn note(&mut self, program: &Program, effect: &Effect) {
-        match &effect.made {
+        match effect.made {
             Some(made) => self.note_made(program, made),
             // A logic without a start.
             None if effect.activated.is_some() => self.divided = false,
@@ -40,7 +40,7 @@ impl Handed {
         }
     }
 
-    fn note_made(&mut self, program: &Program, made: &Made) {
+    fn note_made(&mut self, program: &Program, made: Made) {
         let (is_taken, is_zero) =
             (made.number == numbers::DONE, made.number == numbers::DIVISION_BY_ZERO);
         if made.caller == Caller::Start {
@@ -130,8 +130,8 @@ mod tests {
         let mut desk = Desk::new(text::read(text.as_bytes()).unwrap());
         let mut handed = Handed::default();
         for letter in "LBCDEFGHIJMBLNB".bytes() {
-            let effects = desk.answer(format!("0101{letter:02X}").as_bytes(), &mut Vec::new());
-            handed.note(desk.program(), &effects[0]);
+            desk.answer(format!("0101{letter:02X}").as_bytes(), &mut Vec::new());
+            desk.effects().iter().for_each(|effect| handed.note(desk.program(), effect));
         }
         let expected = Handed {
             taken: [1, 2, 1, 1, 1, 1, 1, 1],

@@ -1,7 +1,7 @@
 //! Request 3/13: how often rows of letters came, good ones and bad ones, and what
 //! was in them.
 
-use crate::frames::{frame_bytes, Caller, Desk, Effect, LETTERS_IN_ROW, LONGEST_FRAME};
+use crate::frames::{frame_bytes, Caller, Desk, Effect, LONGEST_FRAME, LONGEST_ROW};
 use crate::numbers::{self, Number};
 
 /// How often each came, of lines of kind 04.
@@ -58,9 +58,9 @@ const BAD: [&str; 10] = [
 ];
 
 impl LetterRows {
-    /// Counts a line and what it did. `before` is the logic that was active
-    /// before it.
-    pub fn note(&mut self, line: &[u8], before: Option<usize>, desk: &Desk, effects: &[Effect]) {
+    /// Counts a line that the desk has answered. `before` is the logic that was
+    /// active before it.
+    pub fn note(&mut self, line: &[u8], before: Option<usize>, desk: &Desk) {
         if !is_of_kind_04(line) {
             return;
         }
@@ -68,6 +68,7 @@ impl LetterRows {
             self.bad[fault as usize] += 1;
             return;
         }
+        let effects = desk.effects();
         let (letters, house) = (effects.len(), line.get(1));
         let met = [
             house == Some(&b'1'),
@@ -82,7 +83,7 @@ impl LetterRows {
             }),
             has_before_taken(effects, |number| number == numbers::DIVISION_BY_ZERO),
             has_order_of_new_logic(effects, before),
-            effects.iter().filter(|effect| is_taken(effect)).count() > 1,
+            effects.iter().filter(|effect| effect.is_taken()).count() > 1,
             desk.held().all().next().is_some() && desk.has_bound_chord(),
         ];
         for (count, met) in self.good.iter_mut().zip(met) {
@@ -128,7 +129,7 @@ fn fault_of(line: &[u8]) -> Option<Fault> {
         _ if count == 0 => Some(Fault::Zero),
         length if length < count => Some(Fault::Few),
         length if length > count => Some(Fault::Many),
-        _ if count > *LETTERS_IN_ROW.end() => Some(Fault::Above),
+        _ if count > LONGEST_ROW => Some(Fault::Above),
         _ if !letters.iter().all(u8::is_ascii_uppercase) => Some(Fault::Letter),
         _ if !(1..=2).contains(&house) => Some(Fault::House),
         _ => None,
@@ -139,11 +140,7 @@ fn fault_of(line: &[u8]) -> Option<Fault> {
 /// taken.
 fn has_before_taken(effects: &[Effect], is_such: impl Fn(Number) -> bool) -> bool {
     let behind = effects.iter().skip_while(|effect| !is_such(effect.number));
-    behind.skip(1).any(is_taken)
-}
-
-fn is_taken(effect: &Effect) -> bool {
-    effect.made.as_ref().is_some_and(|made| made.number == numbers::DONE)
+    behind.skip(1).any(Effect::is_taken)
 }
 
 /// Whether another logic than before the row becomes active, and then an order
@@ -152,7 +149,7 @@ fn has_order_of_new_logic(effects: &[Effect], before: Option<usize>) -> bool {
     let mut active = before;
     effects.iter().any(|effect| {
         active = effect.activated.or(active);
-        let is_order = effect.made.as_ref().is_some_and(|made| made.caller == Caller::Order);
+        let is_order = effect.made.is_some_and(|made| made.caller == Caller::Order);
         is_order && active != before
     })
 }
@@ -218,8 +215,8 @@ mod tests {
             "0104024D40",
         ] {
             let before = desk.active();
-            let effects = desk.answer(line.as_bytes(), &mut Vec::new());
-            rows.note(line.as_bytes(), before, &desk, &effects);
+            desk.answer(line.as_bytes(), &mut Vec::new());
+            rows.note(line.as_bytes(), before, &desk);
         }
         assert_eq!(rows.good, [2, 3, 1, 2, 0, 0, 1, 1, 1, 1, 1, 1]);
         assert_eq!((rows.good(), rows.bad[Fault::Letter as usize]), (5, 1));

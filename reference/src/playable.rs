@@ -3,10 +3,9 @@
 //! to the ends of that range.
 
 use crate::ends::other_end;
-use crate::frames::{Desk, Made};
 use crate::measure::Pitch;
 use crate::numbers::{self, Number};
-use crate::state::{Key, State};
+use crate::state::{Call, Key, State};
 use std::ops::RangeInclusive;
 
 pub const PLAYABLE: RangeInclusive<i64> = 0..=12_799_999;
@@ -58,14 +57,14 @@ impl Limits {
         *count += 1;
     }
 
-    /// Counts a call that a frame has made: "Anchor and width retunings keep using
-    /// the unlimited pitch."
-    pub fn note_made(&mut self, desk: &Desk, made: &Made) {
-        let Some(key) = desk.call_of(made).and_then(|call| other_end(&made.on, &call)) else {
+    /// Counts a call on this state, by the number that it got: "Anchor and width
+    /// retunings keep using the unlimited pitch."
+    pub fn note_call(&mut self, state: &State, call: &Call, number: Number) {
+        let Some(key) = other_end(state, call) else {
             return;
         };
-        let by_a_pitch = made.on.place_of(key).1 != 0 && made.number == numbers::DONE;
-        self.far_ends += u64::from(by_a_pitch && is_unplayable(&made.on, key));
+        let by_a_pitch = state.place_of(key).1 != 0 && number == numbers::DONE;
+        self.far_ends += u64::from(by_a_pitch && is_unplayable(state, key));
     }
 
     /// How often the rarest of all came.

@@ -4,7 +4,7 @@
 
 use super::letter_rows::{digits, row};
 use super::streams;
-use crate::frames::{frame_bytes, Desk, Effect, LETTERS_IN_ROW};
+use crate::frames::{frame_bytes, Desk, Effect, LONGEST_ROW};
 use crate::text::{self, Program};
 
 const BAD: &[u8] = b"FF16\n";
@@ -65,8 +65,8 @@ impl Desks {
 
 fn answered(desk: &mut Desk, line: &[u8]) -> (Vec<u8>, Vec<Effect>) {
     let mut answer = Vec::new();
-    let effects = desk.answer(line, &mut answer);
-    (answer, effects)
+    desk.answer(line, &mut answer);
+    (answer, desk.effects().to_vec())
 }
 
 /// All that a desk remembers.
@@ -87,7 +87,7 @@ fn gathered(lines: &[&[u8]]) -> Vec<Vec<u8>> {
     let is_same = |a: &&[u8], b: &&[u8]| {
         house_of_letter(a).is_some() && house_of_letter(a) == house_of_letter(b)
     };
-    let runs = lines.chunk_by(is_same).flat_map(|run| run.chunks(*LETTERS_IN_ROW.end()));
+    let runs = lines.chunk_by(is_same).flat_map(|run| run.chunks(LONGEST_ROW));
     runs.map(|run| match house_of_letter(run[0]) {
         Some(house) => {
             let letters = run.iter().filter_map(|line| frame_bytes(line)?.last().copied());

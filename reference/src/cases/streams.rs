@@ -239,7 +239,6 @@ fn damaged_line(random: &mut Random) -> Vec<u8> {
 #[cfg(test)]
 mod tests {
     use super::*;
-    use crate::frames::calls_made;
 
     /// Most texts are accepted, and most letters that are played are taken.
     #[test]
@@ -253,9 +252,10 @@ mod tests {
             accepted += 1;
             let mut desk = Desk::new(program);
             for line in pair.frames.split(|&byte| byte == b'\n') {
-                for call in calls_made(&desk.answer(line, &mut Vec::new())) {
-                    made += 1;
-                    taken += u32::from(call.number == 0);
+                desk.answer(line, &mut Vec::new());
+                for effect in desk.effects() {
+                    made += u32::from(effect.made.is_some());
+                    taken += u32::from(effect.is_taken());
                 }
             }
         }

@@ -6,12 +6,12 @@ use crate::book::{Book, Halt};
 use crate::cases::streams;
 use crate::comparison::{Comparison, Distance, Logarithms, Page, Sizes};
 use crate::ends::Ends;
-use crate::frames::{calls_made, frame_bytes, Desk, Effect};
+use crate::frames::{frame_bytes, Desk};
 use crate::handed::Handed;
 use crate::measure::{Pitch, CONCERT_PITCH};
 use crate::numbers::{self, Number};
 use crate::playable::PLAYABLE;
-use crate::state::Key;
+use crate::state::{Key, State};
 use crate::text;
 use std::io::Write;
 
@@ -71,9 +71,10 @@ fn follow(
     compare_keys(&mut desk, &Page::new(&book, &sizes), tally)?;
     let lines = frames.strip_suffix(b"\n").unwrap_or(frames);
     for line in lines.split(|&byte| byte == b'\n') {
-        let effects = desk.answer(line, &mut Vec::new());
-        tally.note_calls(line, &desk, &effects);
-        for made in calls_made(&effects) {
+        let before = desk.state().clone();
+        desk.answer(line, &mut Vec::new());
+        tally.note_calls(line, before, &desk);
+        for made in desk.effects().iter().filter_map(|effect| effect.made) {
             book.take(made)?;
         }
         compare_keys(&mut desk, &Page::new(&book, &sizes), tally)?;
@@ -152,11 +153,13 @@ struct Tally {
 }
 
 impl Tally {
-    /// Counts the calls that a frame has made.
-    fn note_calls(&mut self, line: &[u8], desk: &Desk, effects: &[Effect]) {
-        effects.iter().for_each(|effect| self.handed.note(desk.program(), effect));
-        calls_made(effects).for_each(|made| self.ends.note_made(desk, made));
-        let taken = calls_made(effects).filter(|made| made.number == numbers::DONE).count() as u64;
+    /// Counts the calls of the frame that the desk has answered.
+    fn note_calls(&mut self, line: &[u8], before: State, desk: &Desk) {
+        desk.effects().iter().for_each(|effect| self.handed.note(desk.program(), effect));
+        for step in desk.steps_from(before) {
+            self.ends.note(&step.on, &step.call, step.number);
+        }
+        let taken = desk.effects().iter().filter(|effect| effect.is_taken()).count() as u64;
         self.calls += taken;
         match frame_bytes(line).as_deref() {
             Some([_, 5 | 6, _]) => self.by_harmonies += taken,

@@ -6,7 +6,7 @@
 use super::{note, output, verdict, Outcome};
 use crate::cases::streams::{self, Pair};
 use crate::ends::Ends;
-use crate::frames::{calls_made, frame_bytes, Desk, Effect};
+use crate::frames::{frame_bytes, Desk, Effect};
 use crate::handed::Handed;
 use crate::letter_rows::LetterRows;
 use crate::numbers;
@@ -74,12 +74,12 @@ impl Tally {
     }
 
     fn take(&mut self, desk: Option<&mut Desk>, line: &[u8]) {
-        let effects = desk.map(|desk| self.answer(desk, line)).unwrap_or_default();
+        let effects = desk.map_or(&[][..], |desk| self.answer(desk, line));
         let Some([1 | 2, 5 | 6, _]) = frame_bytes(line).as_deref() else {
             return;
         };
         self.frames += 1;
-        let [effect] = &effects[..] else {
+        let [effect] = effects else {
             return;
         };
         match effect.number {
@@ -96,19 +96,19 @@ impl Tally {
 
     /// Answers a line and counts the ends of its calls and what they hand over,
     /// the row that it is, or the key that it asks.
-    fn answer(&mut self, desk: &mut Desk, line: &[u8]) -> Vec<Effect> {
-        let active = desk.active();
-        let effects = desk.answer(line, &mut Vec::new());
-        for made in calls_made(&effects) {
-            self.ends.note_made(desk, made);
-            self.limits.note_made(desk, made);
+    fn answer<'a>(&mut self, desk: &'a mut Desk, line: &[u8]) -> &'a [Effect] {
+        let (before, active) = (desk.state().clone(), desk.active());
+        desk.answer(line, &mut Vec::new());
+        for step in desk.steps_from(before) {
+            self.ends.note(&step.on, &step.call, step.number);
+            self.limits.note_call(&step.on, &step.call, step.number);
         }
-        effects.iter().for_each(|effect| self.handed.note(desk.program(), effect));
-        self.rows.note(line, active, desk, &effects);
+        desk.effects().iter().for_each(|effect| self.handed.note(desk.program(), effect));
+        self.rows.note(line, active, desk);
         if let Some([1 | 2, 2, key @ 0..=127]) = frame_bytes(line).as_deref() {
             self.limits.note_key(desk.state().pitch(Key((*key).into())));
         }
-        effects
+        desk.effects()
     }
 
     fn is_frequent(&self, count: u64) -> bool {

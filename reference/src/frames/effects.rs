@@ -1,14 +1,13 @@
 //! What frames did, for those who follow a desk.
 
-use crate::numbers::Number;
-use crate::state::State;
+use crate::numbers::{self, Number};
+use crate::state::{Call, State};
 use crate::text::tree::{Called, Target};
+use crate::text::Program;
 
-/// A call of a tone system or retuning that a frame has made, the state that it
-/// was made on, and its number.
-#[derive(Clone, Debug, PartialEq, Eq)]
+/// A call of a tone system or retuning that a frame has made, and its number.
+#[derive(Clone, Copy, Debug, PartialEq, Eq)]
 pub struct Made {
-    pub on: State,
     pub called: Called<Target>,
     pub caller: Caller,
     pub number: Number,
@@ -23,7 +22,7 @@ pub enum Caller {
 
 /// What a frame did, or one press of a row: its number, the logic that became
 /// active, and the call if it made one.
-#[derive(Clone, Debug, PartialEq, Eq)]
+#[derive(Clone, Copy, Debug, PartialEq, Eq)]
 pub struct Effect {
     pub number: Number,
     pub activated: Option<usize>,
@@ -39,9 +38,32 @@ impl Effect {
     pub fn is_triggered(&self) -> bool {
         self.activated.is_some() || self.made.is_some()
     }
+
+    /// Whether it made a call that was taken.
+    pub fn is_taken(&self) -> bool {
+        self.made.is_some_and(|made| made.number == numbers::DONE)
+    }
 }
 
-/// The calls among these effects, in order.
-pub fn calls_made(effects: &[Effect]) -> impl Iterator<Item = &Made> {
-    effects.iter().filter_map(|effect| effect.made.as_ref())
+/// A call that a frame has made, its numbers filled in, on the state that it
+/// met.
+pub struct Step {
+    pub on: State,
+    pub call: Call,
+    pub number: Number,
+}
+
+/// The steps of a frame that met this state: each call meets what those before
+/// it left.
+pub fn steps(program: &Program, mut state: State, effects: &[Effect]) -> Vec<Step> {
+    let mut steps = Vec::new();
+    for made in effects.iter().filter_map(|effect| effect.made) {
+        let Some(call) = program.call(&made.called) else {
+            continue;
+        };
+        let after = state.called(&call).unwrap_or_else(|_| state.clone());
+        let on = std::mem::replace(&mut state, after);
+        steps.push(Step { on, call, number: made.number });
+    }
+    steps
 }

@@ -3,18 +3,17 @@
 use crate::harmony::{House, HouseKey};
 use crate::state::Key;
 use crate::text::tree::Letter;
-use std::ops::RangeInclusive;
 
 /// "A count from 1 to 32".
-pub const LETTERS_IN_ROW: RangeInclusive<usize> = 1..=32;
+pub const LONGEST_ROW: usize = 32;
 
 /// The digits of the longest frame: house, kind, count and 32 letters.
-pub const LONGEST_FRAME: usize = 2 * (3 + *LETTERS_IN_ROW.end());
+pub const LONGEST_FRAME: usize = 2 * (3 + LONGEST_ROW);
 
-#[derive(Clone, Debug, PartialEq, Eq)]
+#[derive(Clone, Copy, Debug, PartialEq, Eq)]
 pub enum Frame {
-    /// One after the other; a row of letters has more than one.
-    Play(Vec<Action>),
+    Play(Action),
+    Row(Row),
     Pitch(Key),
     Dump,
 }
@@ -27,14 +26,25 @@ pub enum Action {
     Up(HouseKey),
 }
 
-/// The bytes of a line that is made of capital hexadecimal digits alone, two
-/// for each.
-pub fn frame_bytes(line: &[u8]) -> Option<Vec<u8>> {
-    let pairs = line.chunks_exact(2);
-    if !pairs.remainder().is_empty() {
-        return None;
+/// The presses of a row of letters, as many as its count says.
+#[derive(Clone, Copy, Debug, PartialEq, Eq)]
+pub struct Row {
+    presses: [Action; LONGEST_ROW],
+    count: usize,
+}
+
+impl Row {
+    pub fn presses(&self) -> &[Action] {
+        self.presses.get(..self.count).unwrap_or_default()
     }
-    pairs.map(|pair| Some(16 * digit(pair[0])? + digit(pair[1])?)).collect()
+}
+
+/// The bytes of a line, two digits for each; `None` for what is no byte.
+fn bytes(line: &[u8]) -> impl Iterator<Item = Option<u8>> + '_ {
+    line.chunks(2).map(|digits| match *digits {
+        [high, low] => Some(16 * digit(high)? + digit(low)?),
+        _ => None,
+    })
 }
 
 fn digit(byte: u8) -> Option<u8> {
@@ -45,18 +55,27 @@ fn digit(byte: u8) -> Option<u8> {
     }
 }
 
+/// The bytes of a line that is made of pairs of digits alone.
+pub fn frame_bytes(line: &[u8]) -> Option<Vec<u8>> {
+    bytes(line).collect()
+}
+
 /// "Byte 1: house, 01 or 02." Then the kind; three bytes, but for a row.
-pub fn frame(bytes: &[u8]) -> Option<Frame> {
-    let (&[house, kind, data], letters) = bytes.split_first_chunk()?;
+pub fn frame(line: &[u8]) -> Option<Frame> {
+    let mut bytes = bytes(line);
+    let mut next = || bytes.next().flatten();
+    let [house, kind, data] = [next()?, next()?, next()?];
     let house = match house {
         1 => House::First,
         2 => House::Second,
         _ => return None,
     };
-    match kind {
-        4 => row(data, letters).map(Frame::Play),
-        _ if letters.is_empty() => frame_of_three(house, kind, data),
-        _ => None,
+    if kind == 4 {
+        return row(data.into(), bytes).map(Frame::Row);
+    }
+    match bytes.next() {
+        None => frame_of_three(house, kind, data),
+        Some(_) => None,
     }
 }
 
@@ -65,22 +84,25 @@ pub fn frame(bytes: &[u8]) -> Option<Frame> {
 fn frame_of_three(house: House, kind: u8, data: u8) -> Option<Frame> {
     let key = HouseKey { house, key: data };
     match (kind, data) {
-        (1, _) => letter(data).map(|letter| Frame::Play(vec![letter])),
+        (1, _) => letter(data).map(Frame::Play),
         (2, 0..=127) => Some(Frame::Pitch(Key(data.into()))),
         (3, 0) => Some(Frame::Dump),
-        (5, 0..=127) => Some(Frame::Play(vec![Action::Down(key)])),
-        (6, 0..=127) => Some(Frame::Play(vec![Action::Up(key)])),
+        (5, 0..=127) => Some(Frame::Play(Action::Down(key))),
+        (6, 0..=127) => Some(Frame::Play(Action::Up(key))),
         _ => None,
     }
 }
 
 /// "A frame of kind 04 shall carry a count from 1 to 32 and that many letters."
-fn row(count: u8, letters: &[u8]) -> Option<Vec<Action>> {
-    let count = usize::from(count);
-    if !LETTERS_IN_ROW.contains(&count) || letters.len() != count {
+fn row(count: usize, mut letters: impl Iterator<Item = Option<u8>>) -> Option<Row> {
+    let mut row = Row { presses: [Action::Letter(Letter(b'A')); LONGEST_ROW], count };
+    if count == 0 {
         return None;
     }
-    letters.iter().map(|&byte| letter(byte)).collect()
+    for press in row.presses.get_mut(..count)? {
+        *press = letter(letters.next()??)?;
+    }
+    letters.next().is_none().then_some(row)
 }
 
 fn letter(byte: u8) -> Option<Action> {

@@ -10,12 +10,13 @@ use crate::harmony::HeldKeys;
 use crate::measure::Pitch;
 use crate::numbers::{self, Number};
 use crate::playable::key_answer;
-use crate::state::{Call, State};
+use crate::state::State;
 use crate::text::tree::{Called, Target};
 use crate::text::{Program, Refusal};
-pub use effects::{calls_made, Caller, Effect, Made};
+use effects::steps;
+pub use effects::{Caller, Effect, Made, Step};
 use line::{frame, Action, Frame};
-pub use line::{frame_bytes, LETTERS_IN_ROW, LONGEST_FRAME};
+pub use line::{frame_bytes, LONGEST_FRAME, LONGEST_ROW};
 
 /// "Muted is 80000000."
 const MUTED: [u8; 4] = [0x80, 0, 0, 0];
@@ -31,6 +32,12 @@ impl<'a> Answer<'a> {
         let mut answer = Answer(line);
         answer.put(start);
         answer
+    }
+
+    /// "An answer repeats the frame".
+    fn repeating(line: &'a mut Vec<u8>, frame: &[u8]) -> Self {
+        line.extend(frame);
+        Answer(line)
     }
 
     fn put(&mut self, bytes: &[u8]) {
@@ -70,13 +77,15 @@ pub struct Desk {
     state: State,
     active: Option<usize>,
     held: HeldKeys,
+    /// What the last frame did.
+    effects: Vec<Effect>,
 }
 
 impl Desk {
     pub fn new(program: Program) -> Self {
         let bindings = Bindings::of(&program);
-        let held = HeldKeys::default();
-        Desk { program, bindings, state: State::start(), active: None, held }
+        let (held, effects) = (HeldKeys::default(), Vec::new());
+        Desk { program, bindings, state: State::start(), active: None, held, effects }
     }
 
     pub fn program(&self) -> &Program {
@@ -91,9 +100,14 @@ impl Desk {
         self.active
     }
 
-    /// What a call that was made did, its numbers filled in.
-    pub fn call_of(&self, made: &Made) -> Option<Call> {
-        self.program.call(&made.called)
+    /// What the last frame did; of a row what each press did.
+    pub fn effects(&self) -> &[Effect] {
+        &self.effects
+    }
+
+    /// The calls of the last frame, which met this state.
+    pub fn steps_from(&self, state: State) -> Vec<Step> {
+        steps(&self.program, state, &self.effects)
     }
 
     pub fn held(&self) -> &HeldKeys {
@@ -107,41 +121,43 @@ impl Desk {
     }
 
     /// Takes one frame, a line without its line feed, and writes the answer's
-    /// line; tells what it did, of a row what each press did.
-    pub fn answer(&mut self, line: &[u8], out: &mut Vec<u8>) -> Vec<Effect> {
-        let known = frame_bytes(line).and_then(|bytes| Some((frame(&bytes)?, bytes)));
-        let Some((frame, bytes)) = known else {
-            Answer::new(out, &[0xFF, numbers::BAD_FRAME]).end();
-            return vec![Effect::nothing(numbers::BAD_FRAME)];
+    /// line.
+    pub fn answer(&mut self, line: &[u8], out: &mut Vec<u8>) {
+        self.effects.clear();
+        let Some(frame) = frame(line) else {
+            self.effects.push(Effect::nothing(numbers::BAD_FRAME));
+            return Answer::new(out, &[0xFF, numbers::BAD_FRAME]).end();
         };
-        let mut answer = Answer::new(out, &bytes);
-        let effects = match frame {
-            Frame::Play(actions) => self.play_all(&actions, &mut answer),
+        let mut answer = Answer::repeating(out, line);
+        match frame {
+            Frame::Play(action) => self.play_all(&[action], &mut answer),
+            Frame::Row(row) => self.play_all(row.presses(), &mut answer),
             Frame::Pitch(key) => {
                 let (number, pitch) = key_answer(self.state.pitch(key));
                 answer.put(&[number]);
                 answer.put_pitch(pitch);
-                vec![Effect::nothing(number)]
+                self.effects.push(Effect::nothing(number));
             }
             Frame::Dump => {
                 answer.put(&[numbers::DONE]);
                 answer.put_head(&self.state);
                 let tones = self.state.tones.iter().take(self.state.width);
                 tones.for_each(|tone| answer.put_pitch(*tone));
-                vec![Effect::nothing(numbers::DONE)]
+                self.effects.push(Effect::nothing(numbers::DONE));
             }
-        };
+        }
         answer.end();
-        effects
     }
 
     /// "Its answer is the frame, then each press's number, then anchor, width
-    /// and period." A press starts from what the one before it left.
-    fn play_all(&mut self, actions: &[Action], answer: &mut Answer) -> Vec<Effect> {
-        let effects: Vec<_> = actions.iter().map(|action| self.play(*action)).collect();
-        effects.iter().for_each(|effect| answer.put(&[effect.number]));
+    /// and period." Each press starts from what the one before it left.
+    fn play_all(&mut self, actions: &[Action], answer: &mut Answer) {
+        for action in actions {
+            let effect = self.play(*action);
+            answer.put(&[effect.number]);
+            self.effects.push(effect);
+        }
         answer.put_head(&self.state);
-        effects
     }
 
     /// "17 for a key already held in that house, 18 for one not held, each
@@ -200,15 +216,14 @@ impl Desk {
         let Some(call) = self.program.call(&called) else {
             return Effect::nothing(numbers::DONE);
         };
-        let on = self.state.clone();
-        let number = match on.called(&call) {
+        let number = match self.state.called(&call) {
             Ok(state) => {
                 self.state = state;
                 numbers::DONE
             }
             Err(number) => number,
         };
-        let made = Made { on, called, caller, number };
+        let made = Made { called, caller, number };
         Effect { made: Some(made), ..Effect::nothing(number) }
     }
 }

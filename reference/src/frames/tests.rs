@@ -6,8 +6,7 @@ use crate::text::{self, tests::CASE_S};
 /// A call that an order made, with the numbers that it handed over.
 pub fn made(target: Target, handed: &[u16], number: Number) -> Made {
     let numbers = handed.iter().copied().collect();
-    let called = Called { target, place: 0, numbers };
-    Made { on: State::start(), called, caller: Caller::Order, number }
+    Made { called: Called { target, place: 0, numbers }, caller: Caller::Order, number }
 }
 
 fn desk(text: &str) -> Desk {
