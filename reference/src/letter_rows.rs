@@ -92,7 +92,7 @@ impl LetterRows {
     }
 
     /// All good rows: each is one of the two houses'.
-    pub fn good(&self) -> u64 {
+    fn good(&self) -> u64 {
         self.good[0] + self.good[1]
     }
 
