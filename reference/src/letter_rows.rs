@@ -168,6 +168,7 @@ impl std::fmt::Display for LetterRows {
 #[cfg(test)]
 mod tests {
     use super::*;
+    use crate::cases::streams;
     use crate::text;
 
     #[test]
@@ -196,6 +197,23 @@ mod tests {
             assert!(is_of_kind_04(line.as_bytes()));
         }
         assert!(!is_of_kind_04(b"010104") && !is_of_kind_04(b"010"));
+    }
+
+    /// A row is refused for one of these causes, or taken.
+    #[test]
+    fn causes_and_answers() {
+        let mut desk = Desk::new(text::read(b"").unwrap());
+        let mut refused = [0; 2];
+        for index in 0..200 {
+            let frames = streams::pair(11, index).frames;
+            for line in frames.split(|&byte| byte == b'\n').filter(|line| is_of_kind_04(line)) {
+                desk.answer(line, &mut Vec::new());
+                let is_bad = desk.effects()[0].number == numbers::BAD_FRAME;
+                assert_eq!(fault_of(line).is_some(), is_bad, "{line:?}");
+                refused[usize::from(is_bad)] += 1;
+            }
+        }
+        assert!(refused[0] > 300 && refused[1] > 100, "{refused:?}");
     }
 
     #[test]

@@ -30,8 +30,11 @@ impl Desks {
     }
 
     fn take(&mut self, line: &[u8]) {
-        let before = parts(&self.rows);
+        let (before, state) = (parts(&self.rows), self.rows.state().clone());
         let answer = answered(&mut self.rows, line);
+        for step in self.rows.steps_from(state) {
+            assert_eq!(step.on.called(&step.call).err().unwrap_or_default(), step.number);
+        }
         let expected = match frame_bytes(line).as_deref() {
             Some([house, 4, _, letters @ ..]) if answer.0 != BAD => {
                 self.compared += 1;
