@@ -5,7 +5,7 @@ use digits::RADIX;
 use digits::hex_digit;
 ghost use mathlib.Core.Path.{_≡_};
 ghost use mathlib.Core.List.{[], _∷_};
-ghost use Prim.Native.Nat.{_+_, _*_, _<_};
+ghost use Prim.Native.Nat.{_+_, _*_, _≤_, _<_};
 ghost use lib.ListN.{length, set};
 ghost use Rattle.hexadecimal.specs.Numbers.{twos, fourOf};
 ghost use Rattle.hexadecimal.specs.Lines.{written};
@@ -28,6 +28,16 @@ pub fn put_byte(buf: &mut [u8], at: usize, b: u8)
 {
     buf[2 * at] = hex_digit(b / RADIX);
     buf[2 * at + 1] = hex_digit(b % RADIX);
+}
+
+// Writes bytes of an answer, from byte `at` on.
+pub fn put_bytes(buf: &mut [u8], at: usize, bytes: &[u8])
+    requires { ⌜ 2 * (at + length (now bytes)) ≤ length (now buf) ⌝ }
+    ensures { λ _. ⌜ now (buf .exit) ≡ written (now (buf .entry)) at (now (bytes .entry)) ⌝ }
+{
+    for i in 0..bytes.len() {
+        put_byte(buf, at + i, bytes[i]);
+    }
 }
 
 // Writes a number as four bytes of an answer, from byte `at` on.
