@@ -2,8 +2,8 @@
 use mathlib.Core.Path.{refl}
 use mathlib.Core.Option.{Option·elim}
 use Rattle.hexadecimal.specs.Digits.{digitOf, byteOf, bytesOf}
-use Rattle.frames.specs.Frames.{framed, frameOf}
-use Rattle.frames.specs.Cases.{CaseS, Others}
+use Rattle.frames.specs.Frames.{areCapitals, framed, frameOf}
+use Rattle.frames.specs.Cases.{CaseS, Others, Rows}
 
 pub case-s : CaseS
 unfolding CaseS frameOf framed bytesOf byteOf digitOf Option·elim
@@ -12,3 +12,7 @@ case-s = refl
 pub others : Others
 unfolding Others frameOf framed bytesOf byteOf digitOf Option·elim
 others = refl
+
+pub rows : Rows
+unfolding Rows frameOf framed areCapitals bytesOf byteOf digitOf Option·elim
+rows = refl

@@ -4,7 +4,7 @@ use mathlib.Core.Path.{_≡_}
 use mathlib.Core.List.{List, [], _∷_, map}
 use lib.ListN.{replicate}
 use Rattle.ascii.specs.Ascii.{byte, bytes}
-use Rattle.frames.specs.Frames.{firstHouse, secondHouse, Frame, bad, letter, key, dump, move, frameOf}
+use Rattle.frames.specs.Frames.{firstHouse, secondHouse, Frame, bad, letter, key, dump, move, letterRow, frameOf}
 use Rattle.frames.specs.declared.Way.the-variants.{Down, Up}
 
 -- the column "In"
@@ -34,3 +34,24 @@ otherLines =
 
 unfoldable pub Others : Type 0
 Others = map (λ s. frameOf (bytes s)) otherLines ≡ dump firstHouse ∷ move Down firstHouse 0x3C ∷ move Up secondHouse 0x7F ∷ replicate 11 bad
+
+-- document 02, 3/13: rows of one letter and of 32; and bad ones: no count, count 0, 33 letters, a letter too few, one too many, a digit too many, bytes
+-- just below and above the letters, a small digit, a house
+abbrev pub rowLines : List String
+rowLines =
+    "01040155"
+    ∷ "0204205555555555555555555555555555555555555555555555555555555555555555"
+    ∷ "0104"
+    ∷ "010400"
+    ∷ "010421555555555555555555555555555555555555555555555555555555555555555555"
+    ∷ "01040255"
+    ∷ "0104025555AA"
+    ∷ "010402555"
+    ∷ "0104025540"
+    ∷ "010402555B"
+    ∷ "010402554d"
+    ∷ "03040155"
+    ∷ []
+
+unfoldable pub Rows : Type 0
+Rows = map (λ s. frameOf (bytes s)) rowLines ≡ letterRow firstHouse (bytes "U") ∷ letterRow secondHouse (replicate 32 (byte "U")) ∷ replicate 10 bad

@@ -1,9 +1,10 @@
--- Document 01, section "Frames": the frame that a line is; document 02, 5/13. A line comes without its line feed, "which the desk is not handed".
-use Prim.Native.Nat.{ℕ}
+-- Document 01, section "Frames": the frame that a line is; document 02, 3/13 and 5/13. A line comes without its line feed, "which the desk is not handed".
+use Prim.Native.Nat.{ℕ, _+_, _*_}
 use mathlib.Core.Bool.{Bool, true, cond, _&&_}
 use mathlib.Core.List.{List, [], _∷_}
 use mathlib.Core.Option.{Option·elim}
 use lib.Dec.{leb, eqb}
+use lib.ListN.{length}
 use Rattle.ascii.specs.Ascii.{between}
 pub use Rattle.limits.specs.Limits.{firstLetter, lastLetter}
 use Rattle.cents.specs.declared.KeyNumber.{KeyNumber}
@@ -11,7 +12,7 @@ use Rattle.hexadecimal.specs.Digits.{bytesOf}
 use Rattle.frames.specs.declared.Way.{Way}
 use Rattle.frames.specs.declared.Way.the-variants.{Down, Up}
 use Rattle.frames.specs.declared.Decoded.{Decoded}
-use Rattle.frames.specs.declared.Decoded.the-variants.{Bad, Letter, Key, Dump, Move}
+use Rattle.frames.specs.declared.Decoded.the-variants.{Bad, Letter, Key, Dump, Move, LetterRow}
 
 -- ---- "Byte 1: house, 01 or 02."
 
@@ -58,12 +59,30 @@ abbrev pub wayKind : Way → ℕ
 wayKind Down = downKind
 wayKind Up = upKind
 
--- a frame: its house, and its letter or key
+-- "A frame of kind 04 shall carry a count from 1 to 32 and that many letters."
+abbrev pub letterRowKind : ℕ
+letterRowKind = 0x04
+
+abbrev pub fewestPresses : ℕ
+fewestPresses = 1
+
+abbrev pub mostPresses : ℕ
+mostPresses = 32
+
+abbrev pub isCount : ℕ → Bool
+isCount n = between fewestPresses mostPresses n
+
+unfoldable pub areCapitals : List ℕ → Bool
+areCapitals [] = true
+areCapitals (b ∷ bs) = isCapital b && areCapitals bs
+
+-- a frame: its house, and its letter, key or letters
 pub data Frame : Type 0 where
   bad : Frame
   letter key : ℕ → ℕ → Frame
   dump : ℕ → Frame
   move : Way → ℕ → ℕ → Frame
+  letterRow : ℕ → List ℕ → Frame
 
 -- what stands after house and kind, a case for each kind
 abbrev pub letterFrame : ℕ → List ℕ → Frame
@@ -86,6 +105,10 @@ moveFrame way house (b ∷ []) = cond (isKey b) (move way house b) bad
 moveFrame way house [] = bad
 moveFrame way house (b ∷ c ∷ more) = bad
 
+abbrev pub letterRowFrame : ℕ → List ℕ → Frame
+letterRowFrame house (count ∷ letters) = cond (isCount count && eqb (length letters) count && areCapitals letters) (letterRow house letters) bad
+letterRowFrame house [] = bad
+
 abbrev pub kindFrame : ℕ → ℕ → List ℕ → Frame
 kindFrame house kind rest =
     cond (eqb kind letterKind) (letterFrame house rest)
@@ -93,7 +116,8 @@ kindFrame house kind rest =
     (cond (eqb kind dumpKind) (dumpFrame house rest)
     (cond (eqb kind downKind) (moveFrame Down house rest)
     (cond (eqb kind upKind) (moveFrame Up house rest)
-    bad))))
+    (cond (eqb kind letterRowKind) (letterRowFrame house rest)
+    bad)))))
 
 -- the frame of a line's bytes
 unfoldable pub framed : List ℕ → Frame
@@ -105,15 +129,16 @@ framed (house ∷ []) = bad
 unfoldable pub frameOf : List ℕ → Frame
 frameOf line = Option·elim (bytesOf line) bad framed
 
--- ---- what holds of every frame that a line is: its house, its letter or its key lies in its range
+-- ---- what holds of every frame that a line is: its house, its letter or its key lies in its range; of a row the count, and each letter
 abbrev pub inside : Frame → Bool
 inside bad = true
 inside (letter house c) = isHouse house && isCapital c
 inside (key house k) = isHouse house && isKey k
 inside (dump house) = isHouse house
 inside (move way house k) = isHouse house && isKey k
+inside (letterRow house letters) = isHouse house && isCount (length letters) && areCapitals letters
 
--- ---- the same as the code's enum
+-- ---- the same as the code's enum, which has of a row how many letters it has
 
 abbrev pub keyOf : ℕ → KeyNumber
 keyOf b = record { 0 = b }
@@ -124,7 +149,9 @@ decodedAs (letter house c) = Letter house c
 decodedAs (key house k) = Key house (keyOf k)
 decodedAs (dump house) = Dump house
 decodedAs (move way house k) = Move way house (keyOf k)
+decodedAs (letterRow house letters) = LetterRow house (length letters)
 
--- of a line no more than these bytes matter: six digits, and one more that makes the line too long for a frame
+-- of a line no more than these bytes matter: the digits of the longest frame, house, kind, count and its letters, and one more that makes the line too
+-- long for a frame
 abbrev pub enough : ℕ
-enough = 7
+enough = 2 * (3 + mostPresses) + 1

@@ -6,7 +6,10 @@ use hexadecimal::digits::byte_value;
 ghost use mathlib.Core.Path.{_≡_};
 ghost use mathlib.Core.Bool.{true};
 ghost use mathlib.Core.List.{[], _∷_};
-ghost use Rattle.frames.specs.Frames.{letterFrame, keyFrame, dumpFrame, wayKind, moveFrame, framed, frameOf, decodedAs, inside};
+ghost use Prim.Native.Nat.{_*_, _≤_};
+ghost use lib.ListN.{length};
+ghost use Rattle.frames.specs.Frames.{letterFrame, keyFrame, dumpFrame, wayKind, moveFrame, framed, frameOf, decodedAs, inside, mostPresses};
+ghost use Rattle.frames.specs.Inner.{Reads, headDigits, rowBehind, HasLetters};
 
 // The first byte of a frame: the house that sends it.
 pub const FIRST_HOUSE: u8 = 1;
@@ -20,6 +23,8 @@ pub const KEY_KIND: u8 = 2;
 
 pub const DUMP_KIND: u8 = 3;
 
+pub const LETTER_ROW_KIND: u8 = 4;
+
 pub const DOWN_KIND: u8 = 5;
 
 pub const UP_KIND: u8 = 6;
@@ -29,10 +34,16 @@ pub const DUMP_DATA: u8 = 0;
 
 const LAST_KEY: u8 = 127;
 
-const FRAME_DIGITS: usize = 6;
+// The digits of house, kind, and value or count.
+const HEAD_DIGITS: usize = 6;
 
-// Of a line no more than these bytes matter: one more than a frame has makes it too long.
-pub const ENOUGH: usize = FRAME_DIGITS + 1;
+// How many letters a row has.
+const FEWEST_PRESSES: u8 = 1;
+
+pub const MOST_PRESSES: usize = 32;
+
+// Of a line no more than these bytes matter: one more than the longest frame has makes it too long.
+pub const ENOUGH: usize = HEAD_DIGITS + 2 * MOST_PRESSES + 1;
 
 // How a key moves.
 pub enum Way {
@@ -47,6 +58,13 @@ pub enum Decoded {
     Key { house: u8, key: KeyNumber },
     Dump { house: u8 },
     Move { way: Way, house: u8, key: KeyNumber },
+    LetterRow { house: u8, count: u8 },
+}
+
+// Whether digits write letters, and these.
+struct Letters {
+    pub good: bool,
+    pub codes: [u8; MOST_PRESSES],
 }
 
 // The kind of a frame that says so.
@@ -97,6 +115,58 @@ fn read_move(way: Way, house: u8, number: u8) -> Decoded
     Decoded::Bad
 }
 
+// Reads so many letters, of two digits each.
+fn read_letters(digits: &[u8], count: usize) -> Letters
+    requires { ⌜ (length (now digits) ≡ 2 * count) × (count ≤ mostPresses) ⌝ }
+    ensures { λ r. ⌜ Reads (now (digits .entry)) count r ⌝ }
+{
+    let mut codes = [0u8; MOST_PRESSES];
+    for i in 0..count {
+        let Value::Of(letter) = byte_value(digits[2 * i], digits[2 * i + 1]) else {
+            return Letters { good: false, codes };
+        };
+        if !is_between(b'A', b'Z', letter) {
+            return Letters { good: false, codes };
+        }
+        codes[i] = letter;
+    }
+    Letters { good: true, codes }
+}
+
+// What a line of this kind asks, by its count and what stands behind it.
+fn read_row(house: u8, count: u8, line: &[u8]) -> Decoded
+    requires { ⌜ headDigits ≤ length (now line) ⌝ }
+    ensures { λ r. ⌜ r ≡ decodedAs (rowBehind house count (now (line .entry))) ⌝ }
+{
+    if !is_between(FIRST_HOUSE, SECOND_HOUSE, house) {
+        return Decoded::Bad;
+    }
+    if !is_between(FEWEST_PRESSES, MOST_PRESSES as u8, count) {
+        return Decoded::Bad;
+    }
+    let digits = &line[HEAD_DIGITS..];
+    if digits.len() != 2 * count as usize {
+        return Decoded::Bad;
+    }
+    let read = read_letters(digits, count as usize);
+    if !read.good {
+        return Decoded::Bad;
+    }
+    Decoded::LetterRow { house, count }
+}
+
+// The letters of a row, and zeros behind them; of any other frame, zeros.
+pub fn letters_of(frame: Decoded, line: &[u8]) -> [u8; MOST_PRESSES]
+    requires { ⌜ frame ≡ decodedAs (frameOf (now line)) ⌝ }
+    ensures { λ r. ⌜ HasLetters r (frameOf (now (line .entry))) ⌝ }
+{
+    let Decoded::LetterRow { house: _, count } = frame else {
+        return [0u8; MOST_PRESSES];
+    };
+    let read = read_letters(&line[HEAD_DIGITS..], count as usize);
+    read.codes
+}
+
 // What three bytes ask.
 fn read_frame(house: u8, kind: u8, value: u8) -> Decoded
     ensures { λ r. ⌜ r ≡ decodedAs (framed (house ∷ kind ∷ value ∷ [])) ⌝ }
@@ -118,7 +188,7 @@ fn read_frame(house: u8, kind: u8, value: u8) -> Decoded
 pub fn decode(line: &[u8]) -> Decoded
     ensures { λ r. ⌜ (r ≡ decodedAs (frameOf (now (line .entry)))) × (inside (frameOf (now (line .entry))) ≡ true) ⌝ }
 {
-    if line.len() != FRAME_DIGITS {
+    if line.len() < HEAD_DIGITS {
         return Decoded::Bad;
     }
     let Value::Of(house) = byte_value(line[0], line[1]) else {
@@ -130,5 +200,11 @@ pub fn decode(line: &[u8]) -> Decoded
     let Value::Of(value) = byte_value(line[4], line[5]) else {
         return Decoded::Bad;
     };
+    if kind == LETTER_ROW_KIND {
+        return read_row(house, value, line);
+    }
+    if line.len() != HEAD_DIGITS {
+        return Decoded::Bad;
+    }
     read_frame(house, kind, value)
 }

@@ -1,6 +1,10 @@
 -- The house's test and the kind are the definition's.
 use borrow.Author.Tests.{ne-eqb, not-true, not-false}
-use Rattle.frames.specs.Frames.{framed}
+use mathlib.Core.List.{[]}
+use native.Mathlib.Omega.{arith}
+use Rattle.ascii.proofs.Between.{in-range}
+use Rattle.frames.specs.Frames.{fewestPresses, mostPresses, framed}
+use Rattle.frames.proofs.Lines.{same, no-row}
 use borrow.Author.Needs.{needs}
 use Rattle.frames.proofs.read_frame.Statement.{statement}
 use Rattle.frames.proofs.read_frame.Tie as tie
@@ -88,6 +92,8 @@ returns-7 c =
       ne-eqb _ _ (c .match .rest .0 .0 .1),
       ne-eqb _ _ (c .match .rest .0 .0 .0 .1),
       ne-eqb _ _ (c .match .rest .0 .0 .0 .0 .1),
+      no-row (c .before .before .before .args .house) (c .before .before .before .args .value) [] (λ e f. omega (arith, in-range fewestPresses mostPresses (c .before .before .before .args .value) e .0)),
+      same,
     )
 
 pub read-frame-spec : {M : Type 1} → statement M
