@@ -2,12 +2,13 @@
 use mathlib.Core.List.{List, [], _∷_, _++_}
 use Prim.Native.Nat.{ℕ}
 use lib.IntN.{ℤ}
+use lib.ListN.{length}
 use Rattle.status.specs.Status.{done, badFrame}
 use Rattle.tuning.specs.Scale.{Sound, muted, sounds}
 use Rattle.tuning.specs.Tuning.{Tuning, width}
 use Rattle.tuning.specs.Desk.{cents}
 use Rattle.frames.specs.declared.Way.{Way}
-use Rattle.frames.specs.Frames.{letterKind, keyKind, dumpKind, dumpData, wayKind}
+use Rattle.frames.specs.Frames.{letterKind, keyKind, dumpKind, dumpData, wayKind, letterRowKind}
 use Rattle.hexadecimal.specs.Numbers.{twos, fourOf}
 
 -- "muted is 80000000"
@@ -44,6 +45,10 @@ letterBytes house letter number s = changeBytes house letterKind letter number s
 
 abbrev pub moveBytes : Way → ℕ → ℕ → ℕ → Tuning cents → List ℕ
 moveBytes way house key number s = changeBytes house (wayKind way) key number s
+
+-- document 02, 3/13, of a row of letters: "the frame, then each press's number, then anchor, width and period"
+abbrev pub letterRowBytes : ℕ → List ℕ → List ℕ → Tuning cents → List ℕ
+letterRowBytes house letters numbers s = house ∷ letterRowKind ∷ length letters ∷ letters ++ numbers ++ stateBytes s
 
 abbrev pub keyBytes : ℕ → ℕ → ℕ → Sound ℤ → List ℕ
 keyBytes house key number t = head house keyKind key number ++ soundBytes t

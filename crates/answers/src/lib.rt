@@ -4,9 +4,11 @@ use cents::KeyNumber;
 use frames::DUMP_DATA;
 use frames::DUMP_KIND;
 use frames::KEY_KIND;
+use frames::LETTER_ROW_KIND;
 use hexadecimal::LINE_FEED;
 use hexadecimal::bits_of;
 use hexadecimal::put_byte;
+use hexadecimal::put_bytes;
 use hexadecimal::put_four;
 use status::BAD_FRAME;
 use status::DONE;
@@ -17,9 +19,10 @@ ghost use mathlib.Core.Bool.{true};
 ghost use Prim.Native.Nat.{_+_, _*_, _≤_};
 ghost use lib.ListN.{length, set};
 ghost use Rattle.tuning.specs.State.{held, heard, validState};
+ghost use Rattle.frames.specs.Frames.{mostPresses};
 ghost use Rattle.hexadecimal.specs.Numbers.{twos};
 ghost use Rattle.hexadecimal.specs.Lines.{written, lineFeed, lineOf, begunWith};
-ghost use Rattle.answers.specs.Answer.{bitsOf, tonesBytes, head, stateBytes, changeBytes, keyBytes, dumpBytes, badBytes, refusalBytes, smallestBuffer};
+ghost use Rattle.answers.specs.Answer.{bitsOf, tonesBytes, head, stateBytes, changeBytes, letterRowBytes, keyBytes, dumpBytes, badBytes, refusalBytes, smallestBuffer};
 
 // The shortest buffer that every answer fits into.
 pub const SMALLEST_BUFFER: usize = 512;
@@ -33,12 +36,17 @@ const BAD_MARK: u8 = 0xFF;
 // The first byte of the line that a refused text gets.
 const REFUSAL_MARK: u8 = 0xEE;
 
-// Where the anchor and the first tone of a state stand, in bytes of an answer, and how many bytes a tone has.
+// Where the anchor and the first tone of a state stand, in bytes of an answer, and how many bytes anchor, width and period have, and a tone.
 const STATE_AT: usize = 4;
 
-const TONES_AT: usize = 10;
+const TONES_AT: usize = STATE_AT + STATE_BYTES;
+
+const STATE_BYTES: usize = 6;
 
 const TONE_BYTES: usize = 4;
+
+// Where the letters of a row stand.
+const LETTERS_AT: usize = 3;
 
 fn sound_bits(tone: Tone) -> u32
     ensures { λ r. ⌜ r ≡ bitsOf (heard tone) ⌝ }
@@ -66,14 +74,14 @@ fn put_head(buf: &mut [u8], house: u8, kind: u8, value: u8, number: u8)
     put_byte(buf, 3, number);
 }
 
-// Anchor, width and period.
-fn put_state(buf: &mut [u8], s: State)
-    requires { ⌜ (smallestBuffer ≤ length (now buf)) × (validState s ≡ true) ⌝ }
-    ensures { λ _. ⌜ now (buf .exit) ≡ written (now (buf .entry)) 4 (stateBytes (held s)) ⌝ }
+// Anchor, width and period, from byte `at` on.
+fn put_state(buf: &mut [u8], at: usize, s: State)
+    requires { ⌜ (smallestBuffer ≤ length (now buf)) × (at ≤ 250) × (validState s ≡ true) ⌝ }
+    ensures { λ _. ⌜ now (buf .exit) ≡ written (now (buf .entry)) at (stateBytes (held s)) ⌝ }
 {
-    put_byte(buf, STATE_AT, s.anchor.0);
-    put_byte(buf, STATE_AT + 1, s.width);
-    put_four(buf, STATE_AT + 2, interval_bits(s.period));
+    put_byte(buf, at, s.anchor.0);
+    put_byte(buf, at + 1, s.width);
+    put_four(buf, at + 2, interval_bits(s.period));
 }
 
 // Each tone.
@@ -106,8 +114,25 @@ pub fn answer_change(buf: &mut [u8], house: u8, kind: u8, value: u8, number: u8,
     ensures { λ r. ⌜ (r ≡ length (lineOf (changeBytes house kind value number (held s)))) × (now (buf .exit) ≡ begunWith (lineOf (changeBytes house kind value number (held s))) (now (buf .entry))) ⌝ }
 {
     put_head(buf, house, kind, value, number);
-    put_state(buf, s);
+    put_state(buf, STATE_AT, s);
     end_line(buf, TONES_AT)
+}
+
+// The answer to a row of letters: the numbers are those of its presses.
+pub fn answer_row(buf: &mut [u8], house: u8, letters: &[u8], numbers: &[u8], s: State) -> usize
+    requires { ⌜ (smallestBuffer ≤ length (now buf)) × (validState s ≡ true) ⌝ }
+    requires { ⌜ (length (now letters) ≤ mostPresses) × (length (now numbers) ≤ mostPresses) ⌝ }
+    ensures { λ r. ⌜ (r ≡ length (lineOf (letterRowBytes house (now (letters .entry)) (now (numbers .entry)) (held s)))) × (now (buf .exit) ≡ begunWith (lineOf (letterRowBytes house (now (letters .entry)) (now (numbers .entry)) (held s))) (now (buf .entry))) ⌝ }
+{
+    let numbers_at = LETTERS_AT + letters.len();
+    let state_at = numbers_at + numbers.len();
+    put_byte(buf, 0, house);
+    put_byte(buf, 1, LETTER_ROW_KIND);
+    put_byte(buf, 2, letters.len() as u8);
+    put_bytes(buf, LETTERS_AT, letters);
+    put_bytes(buf, numbers_at, numbers);
+    put_state(buf, state_at, s);
+    end_line(buf, state_at + STATE_BYTES)
 }
 
 pub fn answer_key(buf: &mut [u8], house: u8, key: KeyNumber, number: u8, tone: Tone) -> usize
@@ -124,7 +149,7 @@ pub fn answer_dump(buf: &mut [u8], house: u8, s: State) -> usize
     ensures { λ r. ⌜ (r ≡ length (lineOf (dumpBytes house (held s)))) × (now (buf .exit) ≡ begunWith (lineOf (dumpBytes house (held s))) (now (buf .entry))) ⌝ }
 {
     put_head(buf, house, DUMP_KIND, DUMP_DATA, DONE);
-    put_state(buf, s);
+    put_state(buf, STATE_AT, s);
     put_tones(buf, s);
     end_line(buf, TONES_AT + TONE_BYTES * s.width as usize)
 }

@@ -18,7 +18,7 @@ use Rattle.answers.proofs.put_state.Tie as tie
 
 -- the width is the number of tones held
 wide : (c : tie.Start) → width cents (held (c .args .s)) ≡ c .args .s .width
-wide c = let long : length (c .args .s .tones) ≡ places = search length-mapped in held-width (c .args .s) (c .pre .1) long
+wide c = let long : length (c .args .s .tones) ≡ places = search length-mapped in held-width (c .args .s) (c .pre .2) long
 
 put-byte-requires : tie.Need-put-byte-requires
 put-byte-requires c κs = search needs
@@ -51,7 +51,7 @@ returns c =
     let two = written-then _ _ _ _ _ (anchor .put-byte .ensures) (width .put-byte2 .ensures) refl in
     let four = rw (period .before .interval-bits .ensures) at (period .put-four .ensures) in
     written-then _ _ _ _ _ two four refl
-    ∙ ap (λ (w : ℕ). written (now (start .args .buf)) 4 (s .anchor .0 ∷ w ∷ fourOf (twos (s .period .0))))
+    ∙ ap (λ (w : ℕ). written (now (start .args .buf)) (start .args .at) (s .anchor .0 ∷ w ∷ fourOf (twos (s .period .0))))
     (sym (wide start))
 
 pub put-state-spec : {M : Type 1} → statement M
