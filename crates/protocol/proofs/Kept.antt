@@ -1,8 +1,8 @@
--- What is not taken leaves the state: of a call, and of a frame. Assumes nothing.
-use mathlib.Core.Path.{_≡_, refl, ap, _∙_}
+-- What is not taken leaves the state: of a call, of a press, and of a frame. Assumes nothing.
+use mathlib.Core.Path.{_≡_, refl, sym, ap, _∙_, subst}
 use mathlib.Core.Logic.{_≢_}
-use mathlib.Core.Bool.{Bool, true, false, cond, _&&_}
-use mathlib.Core.List.{List, [], _∷_}
+use mathlib.Core.Bool.{Bool, true, false, cond}
+use mathlib.Core.List.{List, [], _∷_, _++_}
 use mathlib.Core.Option.{Option, some, none}
 use Prim.Native.Nat.{ℕ, zero, suc}
 use lib.Dec.{eqb}
@@ -11,23 +11,22 @@ use Rattle.status.specs.Status.{done, letterUnbound}
 use Rattle.tuning.specs.Tuning.{Action}
 use Rattle.tuning.specs.Desk.{cents}
 use Rattle.tuning.specs.State.{places, held, coded, validState}
-use Rattle.tuning.proofs.Lists.{both}
 use Rattle.tuning.proofs.Held.{coded-held}
 use Rattle.tuning.proofs.Laws.{refused-keeps}
 use Rattle.tables.specs.Layout.{Tables, AsLogic, no-logic, a-logic, asLogic, rowAt}
-use Rattle.validity.specs.Valid.{validTables}
-use Rattle.frames.specs.Frames.{Frame, bad, letter, key, dump, move, frameOf}
+use Rattle.frames.specs.Frames.{Frame, bad, letter, key, dump, move, letterRow, frameOf}
 use Rattle.frames.specs.declared.Way.{Way}
 use Rattle.keys.specs.declared.HeldKeys.{HeldKeys}
 use Rattle.protocol.specs.declared.Desk.{Desk}
 use Rattle.protocol.specs.declared.Active.{Active}
 use Rattle.protocol.specs.declared.Active.the-variants as active
 use Rattle.protocol.specs.Triggers.{Sought, itself, matching, actionAt, callsAs, called, struck}
-use Rattle.protocol.specs.Steps.{withActive, withKeys, byAction, callOn, deskFrom, madeFrom, lastNumber, Step, triggered, chordOn, analysed, keyMoved, moveStep}
-use Rattle.protocol.specs.Answers.{Outcome, letterOutcome, moveOutcome, keyOutcome, frameOutcome, activeRight, validDesk}
-use Rattle.protocol.specs.Kept.{CallKeeps, FrameKeeps}
-use Rattle.protocol.proofs.Presses.{named}
-use Rattle.protocol.proofs.Ways.{by-outcome}
+use Rattle.protocol.specs.Steps.{withActive, withKeys, Made, byAction, callOn, deskFrom, madeFrom, lastNumber, Step, triggered, letterStep, pressedInTurn, chordOn, analysed, keyMoved, moveStep}
+use Rattle.protocol.specs.Answers.{Outcome, letterOutcome, moveOutcome, letterRowOutcome, keyOutcome, frameOutcome}
+use Rattle.protocol.specs.Kept.{CallKeeps, PressKeeps, NoneTaken, FrameKeeps}
+use Rattle.protocol.proofs.Struck.{named}
+use Rattle.protocol.proofs.Ways.{by-outcome, state-right}
+use Rattle.protocol.proofs.Callable.{Whole}
 
 one-kept : (house : ℕ) (d : Desk) → validState (d .tuning) ≡ true → length (d .tuning .tones) ≡ places → (o : Option (Action cents))
     → byAction house d o .number ≢ 0 → byAction house d o .desk .tuning ≡ d .tuning
@@ -76,21 +75,62 @@ move-kept t d n v way house k = let c = keyMoved way (d .keys) house k in go (eq
     go true m h = step-kept t (withKeys h d) n v house done (matching (chordOn (withKeys h d)))
     go false m h = λ e. refl
 
-frame-kept : (t : Tables) (d : Desk) → length (d .tuning .tones) ≡ places → validState (d .tuning) ≡ true → (f : Frame)
-    → frameOutcome t d f .number ≢ 0 → frameOutcome t d f .desk .tuning ≡ d .tuning
-unfolding frameOutcome letterOutcome moveOutcome keyOutcome
-frame-kept t d n v bad h = refl
-frame-kept t d n v (letter house c) h = step-kept t d n v house letterUnbound (itself c) h
-frame-kept t d n v (key house k) h = refl
-frame-kept t d n v (dump house) h = refl
-frame-kept t d n v (move way house k) h = move-kept t d n v way house k h
+pub press-keeps : PressKeeps
+unfolding PressKeeps
+press-keeps t house d v n = record {
+  letter = λ c. step-kept t d n v house letterUnbound (itself c);
+  move = λ way k. move-kept t d n v way house k;
+}
+
+-- ---- a frame of whose calls none is taken
+
+none-first : (l m : List Made) → NoneTaken (l ++ m) → NoneTaken l × NoneTaken m
+none-first [] m h = (tt, h)
+none-first (x ∷ l) m h = let r = none-first l m (h .1) in ((h .0, r .0), r .1)
+
+module _ (t : Tables) where
+  calls-untaken : (house : ℕ) (d : Desk) → Whole (d .tuning) → (ks : List ℕ) → NoneTaken (madeFrom t house d ks) → deskFrom t house d ks .tuning ≡ d .tuning
+  unfolding deskFrom madeFrom CallKeeps
+  calls-untaken house d w [] h = refl
+  calls-untaken house d w (k ∷ ks) h =
+      let e = call-keeps t house d (w .0) (w .1) k (h .0) in
+      calls-untaken house (callOn t house d k .desk) (subst Whole (sym e) w) ks (h .1) ∙ e
+
+  step-untaken : (house : ℕ) (d : Desk) → Whole (d .tuning) → (x : Sought) (unfound : ℕ) → NoneTaken (triggered t house d x unfound .made)
+      → triggered t house d x unfound .desk .tuning ≡ d .tuning
+  unfolding triggered
+  step-untaken house d w x unfound h = let z = struck t (d .active) x in calls-untaken house (withActive (z .active) d) w (z .calls) h
+
+  move-untaken : (way : Way) (house : ℕ) (d : Desk) → Whole (d .tuning) → (k : ℕ) → NoneTaken (moveStep t way house d k .made) → moveStep t way house d k .desk .tuning ≡ d .tuning
+  unfolding moveStep
+  move-untaken way house d w k = let c = keyMoved way (d .keys) house k in go (eqb (c .number) done) (c .number) (c .held)
+    where
+      go : (b : Bool) (m : ℕ) (h : HeldKeys)
+          → (let s : Step = cond b (analysed t house (withKeys h d)) (record { desk = d; number = m; made = [] }) in NoneTaken (s .made) → s .desk .tuning ≡ d .tuning)
+      go true m h = step-untaken house (withKeys h d) w (matching (chordOn (withKeys h d))) done
+      go false m h = λ e. refl
+
+  presses-untaken : (house : ℕ) (d : Desk) → Whole (d .tuning) → (cs : List ℕ) → NoneTaken (pressedInTurn t house d cs .made)
+      → pressedInTurn t house d cs .desk .tuning ≡ d .tuning
+  unfolding pressedInTurn
+  presses-untaken house d w [] h = refl
+  presses-untaken house d w (c ∷ cs) h =
+      let s = letterStep t house d c in
+      let r = none-first (s .made) (pressedInTurn t house (s .desk) cs .made) h in
+      let e = step-untaken house d w (itself c) letterUnbound (r .0) in
+      presses-untaken house (s .desk) (subst Whole (sym e) w) cs (r .1) ∙ e
+
+  frame-untaken : (d : Desk) → Whole (d .tuning) → (f : Frame) → NoneTaken (frameOutcome t d f .made) → frameOutcome t d f .desk .tuning ≡ d .tuning
+  unfolding frameOutcome letterOutcome moveOutcome letterRowOutcome keyOutcome
+  frame-untaken d w bad h = refl
+  frame-untaken d w (letter house c) h = step-untaken house d w (itself c) letterUnbound h
+  frame-untaken d w (key house k) h = refl
+  frame-untaken d w (dump house) h = refl
+  frame-untaken d w (move way house k) h = move-untaken way house d w k h
+  frame-untaken d w (letterRow house cs) h = presses-untaken house d w cs h
 
 pub frame-keeps : FrameKeeps
 unfolding FrameKeeps
-frame-keeps t d n frame room = by-outcome t d frame room (λ (o : Outcome). o .number ≢ 0 → o .desk .tuning ≡ d .tuning) (λ h. refl) (λ e h. refl) sound
-  where
-    sound : validDesk t d ≡ true → frameOutcome t d (frameOf frame) .number ≢ 0 → frameOutcome t d (frameOf frame) .desk .tuning ≡ d .tuning
-    sound e =
-        let a = both (validTables t && validState (d .tuning)) (activeRight t (d .active)) e in
-        let b = both (validTables t) (validState (d .tuning)) (a .0) in
-        frame-kept t d n (b .1) (frameOf frame)
+frame-keeps t d n frame room =
+    by-outcome t d frame room (λ (o : Outcome). NoneTaken (o .made) → o .desk .tuning ≡ d .tuning) (λ h. refl) (λ e h. refl)
+    (λ e. frame-untaken t d (state-right t d e, n) (frameOf frame))

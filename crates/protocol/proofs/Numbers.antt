@@ -1,7 +1,7 @@
 -- The numbers of calls, presses and frames: what holds of each that can be given holds of the one that is. Assumes nothing.
-use mathlib.Core.Path.{_≡_, refl}
+use mathlib.Core.Path.{_≡_, refl, sym, subst}
 use mathlib.Core.Bool.{Bool, true, false, cond}
-use mathlib.Core.List.{List, [], _∷_}
+use mathlib.Core.List.{List, [], _∷_, getLastD}
 use mathlib.Core.Option.{Option, some, none}
 use Prim.Native.Nat.{ℕ}
 use lib.Dec.{eqb}
@@ -17,11 +17,12 @@ use Rattle.keys.specs.declared.Changed.{Changed}
 use Rattle.keys.specs.Keys.{isHeld, withKey, withoutKey}
 use Rattle.frames.specs.declared.Way.{Way}
 use Rattle.frames.specs.declared.Way.the-variants.{Down, Up}
-use Rattle.frames.specs.Frames.{Frame, bad, letter, key, dump, move}
+use Rattle.frames.specs.Frames.{Frame, bad, letter, key, dump, move, letterRow}
 use Rattle.protocol.specs.declared.Desk.{Desk}
 use Rattle.protocol.specs.Triggers.{Sought, itself, matching, actionAt, struck}
-use Rattle.protocol.specs.Steps.{withActive, withKeys, byAction, callOn, madeFrom, lastNumber, Step, triggered, chordOn, analysed, keyMoved, moveStep}
-use Rattle.protocol.specs.Answers.{letterOutcome, moveOutcome, soundAt, keyNumber, keyOutcome, frameOutcome}
+use Rattle.protocol.specs.Steps.{withActive, withKeys, byAction, callOn, madeFrom, lastNumber, Step, triggered, letterStep, pressedInTurn, chordOn, analysed, keyMoved, moveStep}
+use Rattle.protocol.specs.Answers.{letterOutcome, moveOutcome, letterRowOutcome, soundAt, keyNumber, keyOutcome, frameOutcome}
+use Rattle.protocol.proofs.InTurn.{last-of}
 
 -- ---- the numbers that can be given
 
@@ -116,12 +117,22 @@ module _ (P : ℕ → Type 0) where
         go true n ks l = step-number (h .call) t house (withKeys ks d) (matching (chordOn (withKeys ks d))) (h .call .taken)
         go false n ks l = l
 
+    -- of the last press, and where there is none
+    presses-number : (t : Tables) (house : ℕ) (d : Desk) (cs : List ℕ) {n : ℕ} → P n → P (getLastD (pressedInTurn t house d cs .numbers) n)
+    unfolding pressedInTurn getLastD
+    presses-number t house d [] p = p
+    presses-number t house d (c ∷ cs) {n} p =
+        let s = letterStep t house d c in
+        subst P (sym (last-of (s .number) (pressedInTurn t house (s .desk) cs .numbers) n))
+        (presses-number t house (s .desk) cs (step-number (h .call) t house d (itself c) (h .unbound)))
+
     -- ---- a frame, where it holds of the number of each key asked
 
     pub frame-number : (t : Tables) (d : Desk) (f : Frame) → ((house k : ℕ) → f ≡ key house k → P (keyNumber (soundAt d k))) → P (frameOutcome t d f .number)
-    unfolding frameOutcome letterOutcome moveOutcome keyOutcome
+    unfolding frameOutcome letterOutcome moveOutcome letterRowOutcome keyOutcome
     frame-number t d bad asked = h .bad
     frame-number t d (letter house c) asked = step-number (h .call) t house d (itself c) (h .unbound)
     frame-number t d (key house k) asked = asked house k refl
     frame-number t d (dump house) asked = h .call .taken
     frame-number t d (move way house k) asked = move-number t way house d k
+    frame-number t d (letterRow house cs) asked = presses-number t house d cs (h .call .taken)

@@ -19,7 +19,7 @@ use Rattle.protocol.specs.Triggers.{Sought, answersTo, firstLogic, order
 use Rattle.protocol.specs.Answers.{activeRight}
 use Rattle.protocol.specs.Inner.{Within, OrdersThere, ActiveReadable}
 use Rattle.protocol.proofs.Searches.{logic-found, order-called}
-use Rattle.protocol.proofs.Presses.{named}
+use Rattle.protocol.proofs.Struck.{named}
 
 module _ (t : Tables) (v : validTables t ≡ true) where
   active-within : (i : ℕ) → activeRight t (active.Logic i) ≡ true → i < rowCount t

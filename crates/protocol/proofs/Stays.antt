@@ -22,18 +22,18 @@ use Rattle.tables.specs.declared.Row.{Row as TableRow}
 use Rattle.tables.specs.declared.Row.the-variants.{Unused, Interval, Tone, System, Retuning, Logic, Harmony, Pattern}
 use Rattle.tables.specs.Layout.{Tables, rowCount, rowAt, asLogic}
 use Rattle.validity.specs.Valid.{validTables}
-use Rattle.frames.specs.Frames.{Frame, bad, letter, key, dump, frameOf, move}
+use Rattle.frames.specs.Frames.{Frame, bad, letter, key, dump, frameOf, move, letterRow}
 use Rattle.frames.specs.declared.Decoded.{Decoded}
-use Rattle.frames.specs.declared.Decoded.the-variants.{Bad, Letter, Key, Dump, Move}
+use Rattle.frames.specs.declared.Decoded.the-variants.{Bad, Letter, Key, Dump, Move, LetterRow}
 use Rattle.answers.specs.Answer.{smallestBuffer}
 use Rattle.protocol.specs.declared.Active.{Active}
 use Rattle.protocol.specs.declared.Desk.{Desk}
 use Rattle.protocol.specs.Triggers.{Sought, itself, actionAt, callsAs, called, struck, matching}
-use Rattle.protocol.specs.Steps.{withActive, withKeys, byAction, callOn, deskFrom, Step, triggered, chordOn, analysed, keyMoved, moveStep}
-use Rattle.protocol.specs.Answers.{startDesk, Outcome, letterOutcome, moveOutcome, keyOutcome, frameOutcome, activeRight, validDesk, answerOf}
+use Rattle.protocol.specs.Steps.{withActive, withKeys, byAction, callOn, deskFrom, Step, triggered, letterStep, pressedInTurn, chordOn, analysed, keyMoved, moveStep}
+use Rattle.protocol.specs.Answers.{startDesk, Outcome, letterOutcome, moveOutcome, letterRowOutcome, keyOutcome, frameOutcome, activeRight, validDesk, answerOf}
 use Rattle.protocol.specs.Inner.{tuned, stepOf, Within}
 use Rattle.protocol.specs.Streams.{Lent, deskAfter}
-use Rattle.protocol.proofs.Presses.{named}
+use Rattle.protocol.proofs.Struck.{named}
 use Rattle.protocol.proofs.Pressable.{named-within, struck-within}
 use Rattle.protocol.proofs.Callable.{Whole, call-valid}
 use Rattle.protocol.proofs.Ways.{tables-right, too-small, taken}
@@ -99,6 +99,11 @@ module _ (t : Tables) (v : validTables t ≡ true) where
       go true m h = step-right (withKeys h d) (record { tuning = r .tuning; active = r .active }) house (matching (chordOn (withKeys h d))) done
       go false m h = r
 
+  pub presses-right : (d : Desk) → Right d → (house : ℕ) (cs : List ℕ) → Right (pressedInTurn t house d cs .desk)
+  unfolding pressedInTurn
+  presses-right d r house [] = r
+  presses-right d r house (c ∷ cs) = presses-right (letterStep t house d c .desk) (step-right d r house (itself c) letterUnbound) house cs
+
   module _ (d : Desk) (r : Right d) where
     pub change-right : (f : Decoded) → Right (stepOf t d f .desk)
     change-right Bad = r
@@ -106,14 +111,16 @@ module _ (t : Tables) (v : validTables t ≡ true) where
     change-right (Key house k) = r
     change-right (Dump house) = r
     change-right (Move way house k) = move-right d r way house (k .0)
+    change-right (LetterRow house count) = r
 
-    frame-right : (f : Frame) → Right (frameOutcome t d f .desk)
-    unfolding frameOutcome letterOutcome moveOutcome keyOutcome
+    pub frame-right : (f : Frame) → Right (frameOutcome t d f .desk)
+    unfolding frameOutcome letterOutcome moveOutcome letterRowOutcome keyOutcome
     frame-right bad = r
     frame-right (letter house c) = step-right d r house (itself c) letterUnbound
     frame-right (key house k) = r
     frame-right (dump house) = r
     frame-right (move way house k) = move-right d r way house k
+    frame-right (letterRow house cs) = presses-right d r house cs
 
     pub answer-right : (frame : List ℕ) (room : ℕ) → Right (answerOf t d frame room .desk)
     answer-right frame room =

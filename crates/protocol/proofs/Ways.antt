@@ -17,22 +17,24 @@ use Rattle.tuning.proofs.Lists.{both}
 use Rattle.tuning.proofs.Held.{heard-tone}
 use Rattle.tables.specs.Layout.{Tables}
 use Rattle.validity.specs.Valid.{validTables}
-use Rattle.frames.specs.Frames.{Frame, bad, letter, key, dump, move, frameOf, inside, isHouse, isKey, lastKey, decodedAs}
+use Rattle.frames.specs.Frames.{Frame, bad, letter, key, dump, move, letterRow, frameOf, inside, isHouse, isKey, lastKey, decodedAs}
 use Rattle.frames.specs.declared.Decoded.{Decoded}
-use Rattle.frames.specs.declared.Decoded.the-variants.{Bad, Letter, Key, Dump, Move}
+use Rattle.frames.specs.declared.Decoded.the-variants.{Bad, Letter, Key, Dump, Move, LetterRow}
 use Rattle.frames.proofs.Decoded as variants
 use Rattle.cents.specs.declared.KeyNumber.{KeyNumber}
 use Rattle.hexadecimal.specs.Lines.{lineOf}
-use Rattle.frames.proofs.Ranges.{letter-ranges, move-ranges}
+use Rattle.frames.specs.declared.Way.{Way}
+use Rattle.frames.proofs.LetterRows.{noRow}
+use Rattle.frames.proofs.Ranges.{move-ranges, row-ranges}
 use Rattle.answers.specs.Answer.{changeBytes, keyBytes, smallestBuffer}
 use Rattle.protocol.specs.declared.Desk.{Desk}
 use Rattle.protocol.specs.declared.Answered.{Answered}
 use Rattle.protocol.specs.declared.Told.{Told}
 use Rattle.protocol.specs.declared.Stepped.{Stepped}
-use Rattle.protocol.specs.declared.Head.{Head}
-use Rattle.protocol.specs.Answers.{Outcome, letterOutcome, moveOutcome, soundAt, keyNumber, keyOutcome, frameOutcome}
+use Rattle.protocol.specs.declared.presses.Head.{Head}
+use Rattle.protocol.specs.Answers.{Outcome, letterOutcome, moveOutcome, letterRowOutcome, soundAt, keyNumber, keyOutcome, frameOutcome}
 use Rattle.protocol.specs.Answers.{activeRight, validDesk, unchanged, answerOf, Gives}
-use Rattle.protocol.specs.Inner.{stepLeaves, Ready, FrameInside, mayChange, headOf, stepOf, changeOutcome, toldOutcome, Tells}
+use Rattle.protocol.specs.Inner.{Ready, FrameInside, mayChange, toldOutcome, Tells}
 
 -- what gives an outcome gives an equal one
 pub gives : {r : Answered} {before after : List ℕ} {o q : Outcome} → o ≡ q → Gives o r before after → Gives q r before after
@@ -80,6 +82,9 @@ module _ (t : Tables) (d : Desk) where
   pub ready-valid : {buffer : List ℕ} → Ready t d buffer → validDesk t d ≡ true
   ready-valid r = rw (r .tables, r .state, r .active)
 
+  pub state-right : validDesk t d ≡ true → validState (d .tuning) ≡ true
+  state-right h = both (validTables t) (validState (d .tuning)) (both (validTables t && validState (d .tuning)) (activeRight t (d .active)) h .0) .1
+
   pub tables-right : validDesk t d ≡ true → validTables t ≡ true
   tables-right h = both (validTables t) (validState (d .tuning)) (both (validTables t && validState (d .tuning)) (activeRight t (d .active)) h .0) .0
 
@@ -107,22 +112,11 @@ frame-inside f e h = subst FrameInside (sym e) (go f h)
   where
     go : (f : Frame) → inside f ≡ true → FrameInside (decodedAs f)
     go bad h = tt
-    go (letter house c) h = omega (arith, letter-ranges house c h .3)
+    go (letter house c) h = tt
     go (key house k) h = leb-true k lastKey (both (isHouse house) (isKey k) h .1)
     go (dump house) h = tt
     go (move way house k) h = let r = move-ranges way house k h in record { first = r .0; last = r .1; high = omega (arith, r .2) }
-
--- a frame that may change the desk
-pub on-change : (t : Tables) (d : Desk) (f : Frame) {q : Decoded} → q ≡ decodedAs f → mayChange q ≡ true → changeOutcome t d q ≡ frameOutcome t d f
-unfolding frameOutcome letterOutcome moveOutcome
-on-change t d f e h = ap (changeOutcome t d) e ∙ go f (ap mayChange (sym e) ∙ h)
-  where
-    go : (f : Frame) → mayChange (decodedAs f) ≡ true → changeOutcome t d (decodedAs f) ≡ frameOutcome t d f
-    go bad h = absurd (false≢true h)
-    go (letter house c) h = refl
-    go (key house k) h = absurd (false≢true h)
-    go (dump house) h = absurd (false≢true h)
-    go (move way house k) h = refl
+    go (letterRow house cs) h = row-ranges house cs h .most
 
 -- ---- what a frame is told that changes nothing
 
@@ -148,38 +142,37 @@ told-gives t d f {q} {r} {before} {after} e h g =
     go (key house n) h g = record { desk = refl; number = g .number; size = g .size; buffer = g .buffer }
     go (dump house) h g = record { desk = refl; number = g .number; size = g .size; buffer = g .buffer }
     go (move way house n) h g = absurd (false≢true (sym h))
+    go (letterRow house cs) h g = absurd (false≢true (sym h))
 
 -- ---- a frame that may change the desk, and one that may not
 
 -- the variants of a frame that is no letter, and of one that moves no key
 abbrev pub noLetter : List ℕ
-noLetter = 0 ∷ 2 ∷ 3 ∷ 4 ∷ []
+noLetter = 0 ∷ 2 ∷ 3 ∷ 4 ∷ 5 ∷ []
 
 abbrev pub noMove : List ℕ
-noMove = 0 ∷ 1 ∷ 2 ∷ 3 ∷ []
+noMove = 0 ∷ 1 ∷ 2 ∷ 3 ∷ 5 ∷ []
 
 -- what holds of those that are neither
-pub of-other : (P : Decoded → Type 0) → P Bad → ((house : ℕ) (k : KeyNumber) → P (Key house k)) → ((house : ℕ) → P (Dump house)) → (f : Decoded)
+pub of-other : (P : Decoded → Type 0) → P Bad → ((house : ℕ) (k : KeyNumber) → P (Key house k)) → ((house : ℕ) → P (Dump house))
+    → ((house count : ℕ) → P (LetterRow house count)) → (f : Decoded)
     → OneOf noLetter (tagOf variants.the-type f) → OneOf noMove (tagOf variants.the-type f) → P f
-of-other P b k d Bad h m = b
-of-other P b k d (Letter house c) h m = absurd (miss noLetter 1 tt h)
-of-other P b k d (Key house x) h m = k house x
-of-other P b k d (Dump house) h m = d house
-of-other P b k d (Move way house x) h m = absurd (miss noMove 4 tt m)
+of-other P b k d l Bad h m = b
+of-other P b k d l (Letter house c) h m = absurd (miss noLetter 1 tt h)
+of-other P b k d l (Key house x) h m = k house x
+of-other P b k d l (Dump house) h m = d house
+of-other P b k d l (Move way house x) h m = absurd (miss noMove 4 tt m)
+of-other P b k d l (LetterRow house count) h m = l house count
 
-module _ (t : Tables) (d : Desk) (f : Decoded) where
-  -- by its bytes, and the desk and the number that the step leaves
-  abbrev pub changed : Head → Stepped → Outcome
-  changed h r =
-      record {
-        desk = r .desk;
-        number = r .number;
-        made = stepOf t d f .made;
-        line = lineOf (changeBytes (h .house) (h .kind) (h .value) (r .number) (held (r .desk .tuning)));
-      }
-
-  pub change-gives : {h : Head} {r : Stepped} → h ≡ headOf f → r ≡ stepLeaves (stepOf t d f) → changed h r ≡ changeOutcome t d f
-  change-gives e g = ap₂ changed e g
+-- what holds of every frame that is no row
+pub of-no-row : (P : Decoded → Type 0) → P Bad → ((house c : ℕ) → P (Letter house c)) → ((house : ℕ) (k : KeyNumber) → P (Key house k)) → ((house : ℕ) → P (Dump house))
+    → ((way : Way) (house : ℕ) (k : KeyNumber) → P (Move way house k)) → (f : Decoded) → OneOf noRow (tagOf variants.the-type f) → P f
+of-no-row P b l k d m Bad h = b
+of-no-row P b l k d m (Letter house c) h = l house c
+of-no-row P b l k d m (Key house x) h = k house x
+of-no-row P b l k d m (Dump house) h = d house
+of-no-row P b l k d m (Move way house x) h = m way house x
+of-no-row P b l k d m (LetterRow house count) h = absurd (miss noRow 5 tt h)
 
 -- ---- a key
 

@@ -1,7 +1,7 @@
 -- What a frame does: the desk after it, the number, the calls that were made, and the answer's line. Document 01, "Frames", and "Numbers returned".
 use mathlib.Core.Path.{_≡_}
 use mathlib.Core.Bool.{Bool, true, cond, _&&_}
-use mathlib.Core.List.{List, []}
+use mathlib.Core.List.{List, [], getLastD}
 use Prim.Native.Nat.{ℕ}
 use lib.Dec.{ltb}
 use lib.IntN.{ℤ}
@@ -14,15 +14,15 @@ use Rattle.tuning.specs.State.{held, coded, validState}
 use Rattle.keys.specs.Keys.{noKeys}
 use Rattle.tables.specs.Layout.{Tables}
 use Rattle.validity.specs.Valid.{isLogic, refersTo, validTables}
-use Rattle.frames.specs.Frames.{Frame, bad, letter, key, dump, move, frameOf}
+use Rattle.frames.specs.Frames.{Frame, bad, letter, key, dump, move, letterRow, frameOf}
 use Rattle.frames.specs.declared.Way.{Way}
 use Rattle.hexadecimal.specs.Lines.{lineOf, begunWith}
-use Rattle.answers.specs.Answer.{letterBytes, moveBytes, keyBytes, dumpBytes, badBytes, smallestBuffer}
+use Rattle.answers.specs.Answer.{letterBytes, moveBytes, letterRowBytes, keyBytes, dumpBytes, badBytes, smallestBuffer}
 use Rattle.protocol.specs.declared.Active.{Active}
 use Rattle.protocol.specs.declared.Active.the-variants as active
 use Rattle.protocol.specs.declared.Desk.{Desk}
 use Rattle.protocol.specs.declared.Answered.{Answered}
-use Rattle.protocol.specs.Steps.{Made, Step, letterStep, moveStep}
+use Rattle.protocol.specs.Steps.{Made, Step, letterStep, pressedInTurn, moveStep}
 
 -- "At the start: .. no logic active."; no key is held
 abbrev pub startDesk : Desk
@@ -48,6 +48,18 @@ letterOutcome t d house c =
 unfoldable pub moveOutcome : Tables → Desk → Way → ℕ → ℕ → Outcome
 moveOutcome t d way house k =
     let s = moveStep t way house d k in answered s (lineOf (moveBytes way house k (s .number) (held (s .desk .tuning))))
+
+-- document 02, 3/13: "Its answer is the frame, then each press's number, then anchor, width and period." The number that a call for a row returns is the
+-- last press's
+unfoldable pub letterRowOutcome : Tables → Desk → ℕ → List ℕ → Outcome
+letterRowOutcome t d house cs =
+    let p = pressedInTurn t house d cs in
+    record {
+      desk = p .desk;
+      number = getLastD (p .numbers) done;
+      made = p .made;
+      line = lineOf (letterRowBytes house cs (p .numbers) (held (p .desk .tuning)));
+    }
 
 -- what a key sounds, however high or low
 abbrev pub soundAt : Desk → ℕ → Sound ℤ
@@ -77,6 +89,7 @@ frameOutcome t d (letter house c) = letterOutcome t d house c
 frameOutcome t d (key house k) = keyOutcome d house k
 frameOutcome t d (dump house) = dumpOutcome d house
 frameOutcome t d (move way house k) = moveOutcome t d way house k
+frameOutcome t d (letterRow house cs) = letterRowOutcome t d house cs
 frameOutcome t d bad = badOutcome d
 
 -- ---- the whole answer

@@ -1,21 +1,21 @@
 -- What the contracts of private functions cite: no part of the rules.
 use mathlib.Core.Path.{_≡_}
 use mathlib.Core.Bool.{Bool, true, false, cond, _&&_}
-use mathlib.Core.List.{List, [], _∷_, zipWith}
+use mathlib.Core.List.{List, [], _∷_, _++_, map, zipWith, getLastD}
 use mathlib.Core.Option.{Option, some, none}
 use Prim.Native.Nat.{ℕ, zero, suc, _+_, _-_, _^_, _≤_, _<_}
 use lib.Dec.{eqb, leb}
 use lib.IntN.{ℤ}
-use lib.ListN.{length, getD}
+use lib.ListN.{length, take, getD}
 use lib.Seq.{slice}
 use Rattle.orders.specs.declared.Kind.{Kind}
 use Rattle.orders.specs.declared.Kind.the-variants as kind
 use Rattle.orders.specs.declared.Order.{Order}
 use Rattle.orders.specs.Orders.{noOrder}
 use Rattle.status.specs.Status.{done}
-use Rattle.tuning.specs.Tuning.{Action}
+use Rattle.tuning.specs.Tuning.{Tuning, Action}
 use Rattle.tuning.specs.Desk.{cents}
-use Rattle.tuning.specs.State.{held, replied, validState}
+use Rattle.tuning.specs.State.{replied, validState}
 use Rattle.tuning.specs.declared.Reply.{Reply}
 use Rattle.tuning.specs.declared.State.{State}
 use Rattle.tables.specs.declared.Row.{Row as TableRow}
@@ -26,12 +26,12 @@ use Rattle.tables.specs.Layout.{Tables, logicForm, mostRows, rowCount, readAt, 
 use Rattle.tables.specs.Values.{FieldsFit}
 use Rattle.validity.specs.Valid.{validTables}
 use Rattle.validity.specs.Inner.{ValidSystem, ValidRetuning}
-use Rattle.frames.specs.Frames.{lastKey, letterKind, wayKind}
+use Rattle.frames.specs.Frames.{lastKey, letterKind, wayKind, mostPresses}
 use Rattle.frames.specs.declared.Decoded.{Decoded}
-use Rattle.frames.specs.declared.Decoded.the-variants.{Bad, Letter, Key, Dump, Move}
+use Rattle.frames.specs.declared.Decoded.the-variants.{Bad, Letter, Key, Dump, Move, LetterRow}
 use Rattle.keys.specs.Keys.{Place}
-use Rattle.hexadecimal.specs.Lines.{lineOf, begunWith}
-use Rattle.answers.specs.Answer.{changeBytes, smallestBuffer}
+use Rattle.hexadecimal.specs.Lines.{begunWith}
+use Rattle.answers.specs.Answer.{changeBytes, letterRowBytes, smallestBuffer}
 use Rattle.protocol.specs.declared.Active.{Active}
 use Rattle.protocol.specs.declared.Active.the-variants as active
 use Rattle.protocol.specs.declared.Callee.{Callee}
@@ -40,7 +40,8 @@ use Rattle.protocol.specs.declared.Desk.{Desk}
 use Rattle.protocol.specs.declared.Told.{Told}
 use Rattle.protocol.specs.declared.Stepped.{Stepped}
 use Rattle.protocol.specs.declared.Search.{Search}
-use Rattle.protocol.specs.declared.Head.{Head}
+use Rattle.protocol.specs.declared.presses.Head.{Head}
+use Rattle.protocol.specs.declared.presses.PressedAll.{PressedAll}
 use Rattle.protocol.specs.declared.triggers.Press.{Press}
 use Rattle.protocol.specs.declared.triggers.Called.{Called}
 use Rattle.protocol.specs.declared.triggers.Called.the-variants as called
@@ -49,8 +50,8 @@ use Rattle.protocol.specs.declared.chords.Code.the-variants as code
 use Rattle.protocol.specs.declared.Chord.{Chord}
 use Rattle.limits.specs.Limits.{mostPositions}
 use Rattle.protocol.specs.Triggers.{Sought, answersTo, actionAt, Struck, firstLogic, elseOrder, matchesAs, startCalls}
-use Rattle.protocol.specs.Steps.{deskFrom, madeFrom, lastNumber, Step, withActive, withKeys, letterStep, moveStep}
-use Rattle.protocol.specs.Answers.{activeRight, Outcome, answered, unchanged, keyOutcome, dumpOutcome, badOutcome}
+use Rattle.protocol.specs.Steps.{deskFrom, madeFrom, lastNumber, Step, Pressed, withActive, withKeys, letterStep, moveStep}
+use Rattle.protocol.specs.Answers.{activeRight, Outcome, unchanged, keyOutcome, dumpOutcome, badOutcome}
 
 -- ---- the code's values
 
@@ -287,13 +288,14 @@ pub record Ready (t : Tables) (d : Desk) (buffer : List ℕ) : Type 0 where
   pub active : activeRight t (d .active) ≡ true
   pub room : smallestBuffer ≤ length buffer
 
--- a letter is one of the codes; the key that is asked for, or moves, is one of the keyboard, and its house one of the two
+-- the key that is asked for, or moves, is one of the keyboard, and its house one of the two; a row is not too long
 abbrev pub FrameInside : Decoded → Type 0
 FrameInside Bad = Unit
-FrameInside (Letter house letter) = letter < harmonyBase
+FrameInside (Letter house letter) = Unit
 FrameInside (Key house key) = key .0 ≤ lastKey
 FrameInside (Dump house) = Unit
 FrameInside (Move way house key) = Place house (key .0)
+FrameInside (LetterRow house count) = count ≤ mostPresses
 
 -- a frame may change the desk
 abbrev pub mayChange : Decoded → Bool
@@ -302,19 +304,21 @@ mayChange (Letter house letter) = true
 mayChange (Key house key) = false
 mayChange (Dump house) = false
 mayChange (Move way house key) = true
+mayChange (LetterRow house count) = true
 
 abbrev pub head : ℕ → ℕ → ℕ → Head
 head house kind value = record { house = house; kind = kind; value = value }
 
--- the bytes that its answer repeats; of one that may not, zeros
+-- of a letter, and of a key that moves, the bytes that the answer repeats; of any other frame, zeros
 abbrev pub headOf : Decoded → Head
 headOf Bad = head 0 0 0
 headOf (Letter house letter) = head house letterKind letter
 headOf (Key house key) = head 0 0 0
 headOf (Dump house) = head 0 0 0
 headOf (Move way house key) = head house (wayKind way) (key .0)
+headOf (LetterRow house count) = head 0 0 0
 
--- its step; one that may not does nothing
+-- and the step; any other frame has none
 abbrev pub still : Desk → Step
 still d = record { desk = d; number = done; made = [] }
 
@@ -324,25 +328,74 @@ stepOf t d (Letter house letter) = letterStep t house d letter
 stepOf t d (Key house key) = still d
 stepOf t d (Dump house) = still d
 stepOf t d (Move way house key) = moveStep t way house d (key .0)
-
-abbrev pub changeOutcome : Tables → Desk → Decoded → Outcome
-changeOutcome t d f =
-    let s = stepOf t d f in
-    let h = headOf f in
-    answered s (lineOf (changeBytes (h .house) (h .kind) (h .value) (s .number) (held (s .desk .tuning))))
+stepOf t d (LetterRow house count) = still d
 
 -- what a search finds comes to a step once it is called, and can be called
 pub record Finds (t : Tables) (house : ℕ) (d : Desk) (s : Step) (r : Search) : Type 0 where
   pub within : Within t (struckIn t (withKeys (r .keys) d) (r .found) .calls)
   pub leaves : struckLeaves t house (withKeys (r .keys) d) (struckIn t (withKeys (r .keys) d) (r .found)) (r .unfound) ≡ stepLeaves s
 
--- what a frame is told that changes nothing; a letter, or a key that moves, nothing
+-- ---- of presses
+
+-- how many a frame has, and which: of a row its letters, which stand at the start of an array, of any other the frame itself
+abbrev pub pressCount : Decoded → ℕ
+pressCount Bad = 1
+pressCount (Letter house letter) = 1
+pressCount (Key house key) = 1
+pressCount (Dump house) = 1
+pressCount (Move way house key) = 1
+pressCount (LetterRow house count) = count
+
+abbrev pub pressAt : Decoded → List ℕ → ℕ → Decoded
+pressAt Bad letters i = Bad
+pressAt (Letter house letter) letters i = Letter house letter
+pressAt (Key house key) letters i = Key house key
+pressAt (Dump house) letters i = Dump house
+pressAt (Move way house key) letters i = Move way house key
+pressAt (LetterRow house count) letters i = Letter house (getD letters i 0)
+
+abbrev pub pressesOf : Decoded → List ℕ → List Decoded
+pressesOf Bad letters = Bad ∷ []
+pressesOf (Letter house letter) letters = Letter house letter ∷ []
+pressesOf (Key house key) letters = Key house key ∷ []
+pressesOf (Dump house) letters = Dump house ∷ []
+pressesOf (Move way house key) letters = Move way house key ∷ []
+pressesOf (LetterRow house count) letters = map (Letter house) (take count letters)
+
+-- what they leave, one after the other
+unfoldable pub stepsFrom : Tables → Desk → List Decoded → Pressed
+stepsFrom t d [] = record { desk = d; numbers = []; made = [] }
+stepsFrom t d (f ∷ fs) =
+    let s = stepOf t d f in
+    let r = stepsFrom t (s .desk) fs in
+    record { desk = r .desk; numbers = s .number ∷ r .numbers; made = s .made ++ r .made }
+
+-- the same as the code's struct has it
+pub record Presses (p : Pressed) (count : ℕ) (r : PressedAll) : Type 0 where
+  pub desk : r .desk ≡ p .desk
+  pub number : r .number ≡ getLastD (p .numbers) done
+  pub numbers : take count (r .numbers) ≡ p .numbers
+
+-- the bytes of the answer: of a row with its letters and each number, of any other with its own
+abbrev pub pressBytes : Decoded → ℕ → Tuning cents → List ℕ
+pressBytes f number s = let h = headOf f in changeBytes (h .house) (h .kind) (h .value) number s
+
+abbrev pub pressedBytes : Decoded → List ℕ → List ℕ → ℕ → Tuning cents → List ℕ
+pressedBytes Bad letters numbers number s = pressBytes Bad number s
+pressedBytes (Letter house letter) letters numbers number s = pressBytes (Letter house letter) number s
+pressedBytes (Key house key) letters numbers number s = pressBytes (Key house key) number s
+pressedBytes (Dump house) letters numbers number s = pressBytes (Dump house) number s
+pressedBytes (Move way house key) letters numbers number s = pressBytes (Move way house key) number s
+pressedBytes (LetterRow house count) letters numbers number s = letterRowBytes house letters numbers s
+
+-- what a frame is told that may not change the desk; any other, nothing
 abbrev pub toldOutcome : Desk → Decoded → Outcome
 toldOutcome d Bad = badOutcome d
 toldOutcome d (Letter house letter) = unchanged d done
 toldOutcome d (Key house key) = keyOutcome d house (key .0)
 toldOutcome d (Dump house) = dumpOutcome d house
 toldOutcome d (Move way house key) = unchanged d done
+toldOutcome d (LetterRow house count) = unchanged d done
 
 -- its number is told, its line written, and the line's length told
 pub record Tells (o : Outcome) (r : Told) (before after : List ℕ) : Type 0 where

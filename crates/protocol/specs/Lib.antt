@@ -4,6 +4,7 @@ pub mod Steps
 pub mod Answers
 pub mod Streams
 pub mod Kept
+pub mod Singly
 pub mod KeysHeld
 pub mod Unplayable
 pub mod Inner

@@ -1,6 +1,6 @@
--- Calls, and what a trigger or a key does to the desk. Document 01, "Frames" and "Numbers returned"; document 02, 5/13.
+-- Calls, and what a trigger, a key or a row of letters does to the desk. Document 01, "Frames" and "Numbers returned"; document 02, 3/13 and 5/13.
 use mathlib.Core.Bool.{cond}
-use mathlib.Core.List.{List, [], _∷_}
+use mathlib.Core.List.{List, [], _∷_, _++_}
 use mathlib.Core.Option.{Option, some, none}
 use Prim.Native.Nat.{ℕ}
 use lib.Dec.{eqb}
@@ -84,6 +84,22 @@ triggered t house d x unfound =
 -- "letter bound to nothing"
 abbrev pub letterStep : Tables → ℕ → Desk → ℕ → Step
 letterStep t house d letter = triggered t house d (itself letter) letterUnbound
+
+-- ---- a row of letters
+
+-- the desk that its presses leave, each press's number, and the calls that were made
+pub record Pressed : Type 0 where
+  pub desk : Desk
+  pub numbers : List ℕ
+  pub made : List Made
+
+-- "several presses at a time": each is the press of its letter from the desk that the one before it left, whatever number that one had
+unfoldable pub pressedInTurn : Tables → ℕ → Desk → List ℕ → Pressed
+pressedInTurn t house d [] = record { desk = d; numbers = []; made = [] }
+pressedInTurn t house d (c ∷ cs) =
+    let s = letterStep t house d c in
+    let r = pressedInTurn t house (s .desk) cs in
+    record { desk = r .desk; numbers = s .number ∷ r .numbers; made = s .made ++ r .made }
 
 -- ---- a key that goes down or up
 

@@ -25,3 +25,8 @@ madeIn t d (l ∷ ls) = let o = answerOf t d (l .frame) (l .room) in o .made ++ 
 unfoldable pub linesOf : Tables → Desk → List Lent → List (List ℕ)
 linesOf t d [] = []
 linesOf t d (l ∷ ls) = let o = answerOf t d (l .frame) (l .room) in o .line ∷ linesOf t (o .desk) ls
+
+-- the numbers that the calls returned
+unfoldable pub numbersIn : Tables → Desk → List Lent → List ℕ
+numbersIn t d [] = []
+numbersIn t d (l ∷ ls) = let o = answerOf t d (l .frame) (l .room) in o .number ∷ numbersIn t (o .desk) ls

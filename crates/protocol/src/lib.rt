@@ -1,10 +1,10 @@
 // The frame call: a frame, the tables, the desk and a lent buffer give an answer and the next desk.
 mod chords;
+mod presses;
 mod triggers;
 
 use answers::SMALLEST_BUFFER;
 use frames::Decoded;
-use frames::LETTER_KIND;
 use keys::HeldKeys;
 use status::BAD_FRAME;
 use status::BUFFER_TOO_SMALL;
@@ -32,11 +32,11 @@ ghost use Rattle.tuning.specs.State.{heard, validState};
 ghost use Rattle.tables.specs.Layout.{tablesIn, harmonyBase};
 ghost use Rattle.tables.specs.Values.{Slices};
 ghost use Rattle.validity.specs.Valid.{validTables};
-ghost use Rattle.frames.specs.Frames.{frameOf};
+ghost use Rattle.frames.specs.Frames.{frameOf, decodedAs};
 ghost use Rattle.answers.specs.Answer.{smallestBuffer};
 ghost use Rattle.protocol.specs.Steps.{withTuning, withActive, withKeys};
 ghost use Rattle.protocol.specs.Answers.{startDesk, keyNumber, frameOutcome, activeRight, validDesk, answerOf, Gives};
-ghost use Rattle.protocol.specs.Inner.{found, decoded, IndexOf, Ready, FrameInside, mayChange, headOf, stepOf, changeOutcome, Finds, toldOutcome, Tells};
+ghost use Rattle.protocol.specs.Inner.{found, decoded, IndexOf, Ready, FrameInside, mayChange, toldOutcome, Tells};
 
 // The places of the index: 256 for letters, one for each row that a program can have, and one behind the last.
 pub const INDEX_SIZE: usize = HARMONY_BASE as usize + ROWS + 1;
@@ -84,13 +84,6 @@ pub struct Search {
     pub keys: HeldKeys,
     pub found: Called,
     pub unfound: u8,
-}
-
-// The bytes of a frame.
-struct Head {
-    pub house: u8,
-    pub kind: u8,
-    pub value: u8,
 }
 
 // A declaration's number, where there is one.
@@ -213,7 +206,7 @@ fn refuse(desk: Desk, number: u8) -> Answered
     }
 }
 
-// Whether a frame may change the desk: a letter, or a key that goes down or up.
+// Whether a frame may change the desk: a letter, a row of them, or a key that goes down or up.
 pub fn may_change(frame: Decoded) -> bool
     ensures { λ r. ⌜ r ≡ mayChange frame ⌝ }
 {
@@ -230,88 +223,34 @@ pub fn may_change(frame: Decoded) -> bool
             house: _,
             key: _,
         } => true,
+        Decoded::LetterRow { house: _, count: _ } => true,
     }
 }
 
-// What such a frame finds; any other finds nothing.
-fn search_frame(
-    numbers: &[i32],
-    codes: &[u16],
-    index: &[u32; INDEX_SIZE],
-    desk: Desk,
-    frame: Decoded,
-) -> Search
-    requires { ⌜ validDesk (tablesIn (now numbers) (now codes)) desk ≡ true ⌝ }
-    requires { ⌜ IndexOf (tablesIn (now numbers) (now codes)) (now index) ⌝ }
-    requires { ⌜ FrameInside frame ⌝ }
-    ensures { λ r. ⌜ Finds (tablesIn (now (numbers .entry)) (now (codes .entry))) (headOf frame .house) desk (stepOf (tablesIn (now (numbers .entry)) (now (codes .entry))) desk frame) r ⌝ }
-{
-    if let Decoded::Letter { house: _, letter } = frame {
-        return triggers::search_letter(numbers, codes, index, desk, letter);
-    }
-    if let Decoded::Move { way, house, key } = frame {
-        return chords::search_key(numbers, codes, index, desk, way, house, key);
-    }
-    let keys = desk.keys;
-    Search {
-        keys,
-        found: Called::Nothing,
-        unfound: DONE,
-    }
-}
-
-// The bytes of such a frame, which its answer repeats; of any other, zeros.
-fn head_of(frame: Decoded) -> Head
-    ensures { λ r. ⌜ r ≡ headOf frame ⌝ }
-{
-    if let Decoded::Letter { house, letter } = frame {
-        return Head {
-            house,
-            kind: LETTER_KIND,
-            value: letter,
-        };
-    }
-    if let Decoded::Move { way, house, key } = frame {
-        return Head {
-            house,
-            kind: frames::kind_of(way),
-            value: key.0,
-        };
-    }
-    Head {
-        house: 0,
-        kind: 0,
-        value: 0,
-    }
-}
-
-// A letter, or a key that goes down or up: what it finds is called, and the state after it answered. (One way for both: the compiler then keeps the
-// desk in its place.)
+// The answer to a line whose frame may change the desk.
 pub fn answer_changing(
     numbers: &[i32],
     codes: &[u16],
     index: &[u32; INDEX_SIZE],
     desk: Desk,
+    line: &[u8],
     frame: Decoded,
     buffer: &mut [u8],
 ) -> Answered
     requires { ⌜ Ready (tablesIn (now numbers) (now codes)) desk (now buffer) ⌝ }
     requires { ⌜ IndexOf (tablesIn (now numbers) (now codes)) (now index) ⌝ }
-    requires { ⌜ FrameInside frame ⌝ }
-    ensures gives { λ r. ⌜ Gives (changeOutcome (tablesIn (now (numbers .entry)) (now (codes .entry))) desk frame) r (now (buffer .entry)) (now (buffer .exit)) ⌝ }
+    requires { ⌜ (frame ≡ decodedAs (frameOf (now line))) × (mayChange frame ≡ true) ⌝ }
+    ensures gives { λ r. ⌜ Gives (frameOutcome (tablesIn (now (numbers .entry)) (now (codes .entry))) desk (frameOf (now (line .entry)))) r (now (buffer .entry)) (now (buffer .exit)) ⌝ }
     ensures stays { λ r. ⌜ validDesk (tablesIn (now (numbers .entry)) (now (codes .entry))) (r .desk) ≡ true ⌝ }
 {
-    let searched = search_frame(numbers, codes, index, desk, frame);
-    let head = head_of(frame);
-    let house = head.house;
-    let keys = searched.keys;
-    let found = searched.found;
-    let unfound = searched.unfound;
-    let step = triggers::strike(numbers, codes, desk.with_keys(keys), house, found, unfound);
-    let next = step.desk;
+    let letters = frames::letters_of(frame, line);
+    let pressed = presses::press_all(numbers, codes, index, desk, frame, letters);
+    let next = pressed.desk;
     let tuning = next.tuning;
-    let number = step.number;
-    let length = answers::answer_change(buffer, house, head.kind, head.value, number, tuning);
+    let number = pressed.number;
+    let all = pressed.numbers;
+    let n = presses::press_count(frame);
+    let length = presses::answer_presses(buffer, frame, &letters[..n], &all[..n], number, tuning);
     Answered {
         desk: next,
         number,
@@ -331,7 +270,7 @@ fn key_number(tone: Tone) -> u8
     DONE
 }
 
-// The answer to a frame that changes nothing. A letter, or a key that moves, is told nothing.
+// The answer to a frame that changes nothing. One that may change the desk is told nothing.
 pub fn tell(desk: Desk, frame: Decoded, buffer: &mut [u8]) -> Told
     requires { ⌜ (validState (desk .tuning) ≡ true) × (smallestBuffer ≤ length (now buffer)) × FrameInside frame ⌝ }
     ensures { λ r. ⌜ Tells (toldOutcome desk frame) r (now (buffer .entry)) (now (buffer .exit)) ⌝ }
@@ -368,6 +307,10 @@ pub fn tell(desk: Desk, frame: Decoded, buffer: &mut [u8]) -> Told
             number: DONE,
             length: 0,
         },
+        Decoded::LetterRow { house: _, count: _ } => Told {
+            number: DONE,
+            length: 0,
+        },
     }
 }
 
@@ -385,7 +328,7 @@ fn take_frame(
     let taken = frames::decode(frame);
     if may_change(taken) {
         let index = index_logics(numbers, codes);
-        return answer_changing(numbers, codes, &index, desk, taken, buffer);
+        return answer_changing(numbers, codes, &index, desk, frame, taken, buffer);
     }
     let told = tell(desk, taken, buffer);
     Answered {

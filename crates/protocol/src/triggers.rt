@@ -382,7 +382,6 @@ pub fn search_letter(
 ) -> Search
     requires { ⌜ validDesk (tablesIn (now numbers) (now codes)) desk ≡ true ⌝ }
     requires { ⌜ IndexOf (tablesIn (now numbers) (now codes)) (now index) ⌝ }
-    requires { ⌜ letter < harmonyBase ⌝ }
     ensures { λ r. ⌜ ((house : ℕ) → Finds (tablesIn (now (numbers .entry)) (now (codes .entry))) house desk (letterStep (tablesIn (now (numbers .entry)) (now (codes .entry))) house desk letter) r) ⌝ }
 {
     let code = letter as u16;

@@ -16,9 +16,9 @@ use Rattle.tables.specs.Layout.{Tables}
 use Rattle.protocol.specs.declared.Desk.{Desk}
 use Rattle.protocol.specs.declared.Answered.{Answered}
 use Rattle.protocol.specs.declared.Told.{Told}
-use Rattle.protocol.specs.Answers.{Outcome, validDesk, answerOf, Gives}
-use Rattle.protocol.specs.Inner.{mayChange, changeOutcome, toldOutcome, Tells}
-use Rattle.protocol.proofs.Ways.{gives, damaged, taken, on-change, toldBy, told-gives}
+use Rattle.protocol.specs.Answers.{Outcome, frameOutcome, validDesk, answerOf, Gives}
+use Rattle.protocol.specs.Inner.{mayChange, toldOutcome, Tells}
+use Rattle.protocol.proofs.Ways.{gives, damaged, taken, toldBy, told-gives}
 use Rattle.stream.specs.Feed.{Fed, feed, fedByte, fed, finished, streamed, SameStream}
 use Rattle.stream.specs.Inner.{SameLine, SameSkipped}
 use Rattle.stream.proofs.Whole.{enough-held}
@@ -130,8 +130,8 @@ module _ (chunk : List ℕ) (i : ℕ) (k : i < length chunk) where
 -- ---- the answer to a frame, whether it may change the desk or not
 
 module _ (line : List ℕ) {f : Decoded} (e : f ≡ decodedAs (frameOf line)) (t : Tables) (d : Desk) (room : ℕ) (m : smallestBuffer ≤ room) (v : validDesk t d ≡ true) where
-  pub change-answered : {r : Answered} {before after : List ℕ} → mayChange f ≡ true → Gives (changeOutcome t d f) r before after → Gives (answerOf t d line room) r before after
-  change-answered h g = gives (on-change t d (frameOf line) e h ∙ taken t d line room m refl v) g
+  pub change-answered : {r : Answered} {before after : List ℕ} → Gives (frameOutcome t d (frameOf line)) r before after → Gives (answerOf t d line room) r before after
+  change-answered g = gives (taken t d line room m refl v) g
 
   pub told-answered : {r : Told} {before after : List ℕ} → mayChange f ≡ false → Tells (toldOutcome d f) r before after → Gives (answerOf t d line room) (toldBy d r) before after
   told-answered h r = gives (taken t d line room m refl v) (told-gives t d (frameOf line) e h r)

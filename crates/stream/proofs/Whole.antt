@@ -1,4 +1,4 @@
--- Of a line that has not ended no more than its first seven bytes matter: a stream comes to the same where only these are held.
+-- Of a line that has not ended no more than the bytes of the longest frame and one more matter: a stream comes to the same where only these are held.
 use Prim.Native.Nat.{ℕ}
 use mathlib.Core.Path.{_≡_, refl, sym, ap, _∙_}
 use mathlib.Core.Bool.{Bool, true, false, cond}

@@ -115,18 +115,19 @@ pub fn fill_ready(
     let mut i = start.next;
     let mut used: usize = 0;
     while i < chunk.len() {
-        let line = gather(held, n, chunk, i);
-        n = line.held;
-        i = line.next;
+        let read = gather(held, n, chunk, i);
+        n = read.held;
+        i = read.next;
         if i == chunk.len() {
             break;
         }
         if out.len() - used < SMALLEST_BUFFER {
             break;
         }
-        let frame = frames::decode(&held[..n]);
+        let line = &held[..n];
+        let frame = frames::decode(line);
         if may_change(frame) {
-            let r = answer_changing(numbers, codes, index, d, frame, &mut out[used..]);
+            let r = answer_changing(numbers, codes, index, d, line, frame, &mut out[used..]);
             d = r.desk;
             used += r.length;
         } else {

@@ -2,7 +2,7 @@
 use mathlib.Core.Path.{sym, _∙_}
 use borrow.Author.Needs.{needs}
 use Rattle.frames.specs.Frames.{frameOf}
-use Rattle.protocol.proofs.Ways.{gives, frame-inside, on-change, told-gives}
+use Rattle.protocol.proofs.Ways.{frame-inside, told-gives}
 use Rattle.protocol.proofs.take_frame.Statement.{statement}
 use Rattle.protocol.proofs.take_frame.Tie as tie
 
@@ -21,17 +21,14 @@ answer-changing-requires c κs =
     let i = c .before .before in
     let d = i .before .before .before in
     let a = d .before .before .before .before in
-    (a .pre, (i .index-logics .ensures, frame-inside (frameOf (a .args .frame .now)) (d .decode .ensures .0) (d .decode .ensures .1)))
+    let m = i .before in
+    (a .pre, (i .index-logics .ensures, (d .decode .ensures .0, sym (m .before .may-change .ensures) ∙ m .if1 .taken)))
 
 same-length : tie.Need-same-length
 same-length c = search needs
 
 returns : tie.Need-returns
-returns c =
-    let m = c .before .before .before .before .before .before in
-    let d = m .before .before in
-    let a = d .before .before .before .before in
-    gives (on-change _ (a .args .desk) (frameOf (a .args .frame .now)) (d .decode .ensures .0) (sym (m .before .may-change .ensures) ∙ m .if1 .taken)) (c .before .before .answer-changing .ensures .0)
+returns c = c .before .before .answer-changing .ensures .0
 
 tell-requires : tie.Need-tell-requires
 tell-requires c κs =

@@ -40,6 +40,9 @@ answer-dump-requires c κs = search needs
 enum-told-3 : tie.Need-enum-told-3
 enum-told-3 c = search needs
 
+enum-told-4 : tie.Need-enum-told-4
+enum-told-4 c = search needs
+
 same-length : tie.Need-same-length
 same-length c = search needs
 
@@ -70,6 +73,9 @@ returns-4 c = let r = c .before .before .answer-dump .ensures in tells _ (c .bef
 returns-5 : tie.Need-returns-5
 returns-5 c = tells _ (c .enum-told3 .given .1) (record { number = refl; size = refl; buffer = refl })
 
+returns-6 : tie.Need-returns-6
+returns-6 c = tells _ (c .enum-told4 .given .1) (record { number = refl; size = refl; buffer = refl })
+
 pub tell-spec : {M : Type 1} → statement M
 tell-spec =
     tie.close
@@ -85,6 +91,7 @@ tell-spec =
     enum-known-frame-2
     answer-dump-requires
     enum-told-3
+    enum-told-4
     same-length
     returns
     returns-2
@@ -92,4 +99,5 @@ tell-spec =
     returns-3
     same-length-3
     returns-4
-    returns-5)
+    returns-5
+    returns-6)

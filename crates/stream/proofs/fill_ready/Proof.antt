@@ -15,8 +15,8 @@ use Rattle.tables.specs.Layout.{Tables, tablesIn}
 use Rattle.protocol.specs.declared.Desk.{Desk}
 use Rattle.protocol.specs.declared.Answered.{Answered}
 use Rattle.protocol.specs.declared.Told.{Told}
-use Rattle.protocol.specs.Answers.{validDesk, answerOf, Gives}
-use Rattle.protocol.specs.Inner.{Ready, FrameInside, mayChange, changeOutcome, toldOutcome, Tells}
+use Rattle.protocol.specs.Answers.{frameOutcome, validDesk, answerOf, Gives}
+use Rattle.protocol.specs.Inner.{Ready, FrameInside, mayChange, toldOutcome, Tells}
 use Rattle.protocol.proofs.Ways.{desk-ready, frame-inside, toldBy}
 use Rattle.stream.specs.Feed.{Fed, feed, streamed, SameStream}
 use Rattle.stream.proofs.Steps.{answer-fits, rest-kept, drop-more, on-line, change-answered, told-answered}
@@ -99,11 +99,11 @@ gather-requires c κs = search needs
 sub-if2 : tie.Need-sub-if2 Inv-loop μ-loop
 sub-if2 c = search needs
 
-slice-reshare-prefix-decode : tie.Need-slice-reshare-prefix-decode Inv-loop μ-loop
-slice-reshare-prefix-decode c = line-held (c .before .before .before .before)
+slice-reshare-prefix-line : tie.Need-slice-reshare-prefix-line Inv-loop μ-loop
+slice-reshare-prefix-line c = line-held (c .before .before .before .before)
 
-slice-aggregate-decode : tie.Need-slice-aggregate-decode Inv-loop μ-loop
-slice-aggregate-decode c = sym (length-take-le _ _ (line-held (c .before .before .before .before .before)))
+slice-aggregate-line : tie.Need-slice-aggregate-line Inv-loop μ-loop
+slice-aggregate-line c = sym (length-take-le _ _ (line-held (c .before .before .before .before .before)))
 
 decode-requires : tie.Need-decode-requires Inv-loop μ-loop
 decode-requires c κs = search needs
@@ -156,9 +156,8 @@ module _ (c : tie.After-decode Inv-loop μ-loop) where
   inside-here : FrameInside (c .decode .result)
   inside-here = frame-inside (frameOf bytes) (c .decode .ensures .0) (c .decode .ensures .1)
 
-  change-here : {r : Answered} {written : List ℕ} → mayChange (c .decode .result) ≡ true
-      → Gives (changeOutcome t d₁ (c .decode .result)) r part written → Gives (answerOf t d₁ bytes (length part)) r part written
-  change-here h g = change-answered bytes (c .decode .ensures .0) t d₁ (length part) room-here (turn line .loop .inv .known) h g
+  change-here : {r : Answered} {written : List ℕ} → Gives (frameOutcome t d₁ (frameOf bytes)) r part written → Gives (answerOf t d₁ bytes (length part)) r part written
+  change-here g = change-answered bytes (c .decode .ensures .0) t d₁ (length part) room-here (turn line .loop .inv .known) g
 
   told-here : {r : Told} {written : List ℕ} → mayChange (c .decode .result) ≡ false
       → Tells (toldOutcome d₁ (c .decode .result)) r part written → Gives (answerOf t d₁ bytes (length part)) (toldBy d₁ r) part written
@@ -204,17 +203,17 @@ module _ (c : tie.After-decode Inv-loop μ-loop) where
 
 answer-changing-requires : tie.Need-answer-changing-requires Inv-loop μ-loop
 answer-changing-requires c κs =
-    let decoded-here = c .before .before .before in
-    (ready decoded-here, (call (line decoded-here) .pre .1 .1, inside-here decoded-here))
+    let asked = c .before .before in
+    let decoded-here = asked .before in
+    (ready decoded-here, (call (line decoded-here) .pre .1 .1, (decoded-here .decode .ensures .0, sym (asked .may-change .ensures) ∙ c .before .if3 .taken)))
 
 add-used : tie.Need-add-used Inv-loop μ-loop
 add-used c =
     let answered = c .before .before .before .before in
-    let asked = answered .before .before .before in
-    let decoded-here = asked .before in
+    let decoded-here = answered .before .before .before .before in
     let l = line decoded-here in
-    let g = change-here decoded-here (sym (asked .may-change .ensures) ∙ answered .before .before .if3 .taken) (answered .answer-changing .ensures .0) in
-    let k = answered .answer-changing .kept .1 .1 .1 .1 .1 .0 in
+    let g = change-here decoded-here (answered .answer-changing .ensures .0) in
+    let k = answered .answer-changing .kept .1 .1 .1 .1 .1 .1 .0 in
     omega (arith, answer-within decoded-here g k, turn l .loop .inv .out-length, call l .good)
 
 sub-tell : tie.Need-sub-tell Inv-loop μ-loop
@@ -252,8 +251,7 @@ loop-again c =
     let here = asked .before in
     ⊎-elim
     (λ w.
-    next here (change-here here (sym (asked .may-change .ensures) ∙ w .0 .taken) (w .2 .ensures .0)) (w .2 .kept .1 .1 .1 .1 .1 .0)
-    (w .2 .ensures .1) (w .7) (w .8) (w .9))
+    next here (change-here here (w .2 .ensures .0)) (w .2 .kept .1 .1 .1 .1 .1 .1 .0) (w .2 .ensures .1) (w .7) (w .8) (w .9))
     (λ w.
     next here (told-here here (sym (asked .may-change .ensures) ∙ w .0 .left) (w .2 .ensures)) (w .2 .kept .1 .1 .0) (turn (line here) .loop .inv .known) (w .6) (w .7) (w .8))
     (c .if3 .came)
@@ -305,8 +303,8 @@ fill-ready-spec =
     loop-holds
     gather-requires
     sub-if2
-    slice-reshare-prefix-decode
-    slice-aggregate-decode
+    slice-reshare-prefix-line
+    slice-aggregate-line
     decode-requires
     may-change-requires
     sub-answer-changing

@@ -19,7 +19,7 @@ use Rattle.protocol.specs.Inner.{found, Indexed, calledIn, Audible, Audi
 use Rattle.protocol.proofs.Audible.{audible-rows, audible-orders}
 use Rattle.protocol.proofs.Pressable.{active-readable, active-row}
 use Rattle.protocol.proofs.Searches.{logic-found}
-use Rattle.protocol.proofs.Presses.{told, no-orders, order-inactive, order-active, logic-called}
+use Rattle.protocol.proofs.Struck.{told, no-orders, order-inactive, order-active, logic-called}
 use borrow.Author.Needs.{needs}
 use Rattle.protocol.proofs.chords.find_called.Statement.{statement}
 use Rattle.protocol.proofs.chords.find_called.Tie as tie

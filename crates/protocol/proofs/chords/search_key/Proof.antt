@@ -15,7 +15,7 @@ use Rattle.protocol.specs.Triggers.{matching, Struck, struck}
 use Rattle.protocol.specs.Steps.{deskFrom, madeFrom, withKeys, triggered, chordOn, analysed, ifMoved, moveStep}
 use Rattle.protocol.specs.Inner.{Within, calledBy, struckIn, struckLeaves, stepLeaves}
 use Rattle.protocol.proofs.Pressable.{struck-within}
-use Rattle.protocol.proofs.Presses.{struck-named}
+use Rattle.protocol.proofs.Struck.{struck-named}
 use Rattle.protocol.proofs.Ways.{tables-right}
 use Rattle.protocol.proofs.Stays.{Right, valid-right}
 use Rattle.protocol.proofs.chords.search_key.Statement.{statement}

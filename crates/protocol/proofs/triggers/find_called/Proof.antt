@@ -11,7 +11,7 @@ use Rattle.protocol.specs.declared.Active.the-variants as active
 use Rattle.protocol.specs.Triggers.{firstLogic, firstOrder, elseOrder}
 use Rattle.protocol.specs.Inner.{isTrigger, calledIn, OrderPart, OrdersThere, ActiveReadable}
 use Rattle.protocol.proofs.Searches.{logic-found}
-use Rattle.protocol.proofs.Presses.{told, no-orders, order-inactive, order-active, logic-called}
+use Rattle.protocol.proofs.Struck.{told, no-orders, order-inactive, order-active, logic-called}
 use borrow.Author.Needs.{needs}
 use Rattle.protocol.proofs.triggers.find_called.Statement.{statement}
 use Rattle.protocol.proofs.triggers.find_called.Tie as tie

@@ -1,17 +1,18 @@
 -- `protocol::triggers::search_letter` meets its contract. Assumes nothing.
 use mathlib.Core.Path.{_≡_, sym, ap, subst}
 use borrow.Author.Needs.{needs}
+use Prim.Native.Nat.{_<_}
 use lib.ListN.{length}
 use Rattle.status.specs.Status.{letterUnbound}
 use Rattle.tuning.proofs.Lists.{length-mapped}
-use Rattle.tables.specs.Layout.{Tables, tablesIn}
+use Rattle.tables.specs.Layout.{Tables, tablesIn, harmonyBase}
 use Rattle.validity.proofs.Laws.{slices-valid}
 use Rattle.protocol.specs.Triggers.{itself, Struck, struck}
 use Rattle.protocol.specs.Steps.{triggered}
 use Rattle.protocol.specs.Inner.{Within, struckIn, struckLeaves}
 use Rattle.protocol.proofs.Index.{indexed}
 use Rattle.protocol.proofs.Pressable.{active-readable, struck-within}
-use Rattle.protocol.proofs.Presses.{struck-named}
+use Rattle.protocol.proofs.Struck.{struck-named}
 use Rattle.protocol.proofs.Ways.{tables-right}
 use Rattle.protocol.proofs.Stays.{Right, valid-right}
 use Rattle.protocol.proofs.triggers.search_letter.Statement.{statement}
@@ -28,8 +29,12 @@ long a = search length-mapped
 right : (a : tie.Start) → Right (lent a) (tables-right (lent a) (a .args .desk) (a .pre .0)) (a .args .desk)
 right a = valid-right (lent a) (a .args .desk) (a .pre .0) (long a)
 
+-- a letter is one of the codes
+small : (a : tie.Start) → a .args .letter < harmonyBase
+small a = search needs
+
 find-indexed-requires : tie.Need-find-indexed-requires
-find-indexed-requires c κs = c .before .pre .1 .1
+find-indexed-requires c κs = search needs
 
 find-called-requires : tie.Need-find-called-requires
 find-called-requires c κs =
@@ -37,7 +42,7 @@ find-called-requires c κs =
     let a = i .before .before in
     let v = tables-right (lent a) (a .args .desk) (a .pre .0) in (
       slices-valid (a .args .numbers .now) (a .args .codes .now) v,
-      (indexed _ _ _ (a .pre .1 .1) (a .pre .1 .0) (i .find-indexed .ensures), active-readable (lent a) v (a .args .desk .active) (right a .active)),
+      (indexed _ _ _ (small a) (a .pre .1) (i .find-indexed .ensures), active-readable (lent a) v (a .args .desk .active) (right a .active)),
     )
 
 returns : tie.Need-returns

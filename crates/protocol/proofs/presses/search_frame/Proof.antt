@@ -1,4 +1,4 @@
--- `protocol::search_frame` meets its contract, by the frame's kind. Assumes nothing.
+-- `protocol::presses::search_frame` meets its contract, by the frame's kind. Assumes nothing.
 use mathlib.Core.Path.{_≡_, refl, sym, subst}
 use borrow.Author.Needs.{needs}
 use Rattle.status.specs.Status.{done}
@@ -10,8 +10,8 @@ use Rattle.protocol.specs.declared.triggers.Called.the-variants.{Nothing
 use Rattle.protocol.specs.Steps.{deskFrom, madeFrom}
 use Rattle.protocol.specs.Inner.{FrameInside, headOf, stepOf, Finds}
 use Rattle.protocol.proofs.Ways.{of-other}
-use Rattle.protocol.proofs.search_frame.Statement.{statement}
-use Rattle.protocol.proofs.search_frame.Tie as tie
+use Rattle.protocol.proofs.presses.search_frame.Statement.{statement}
+use Rattle.protocol.proofs.presses.search_frame.Tie as tie
 
 -- what is right for a frame
 abbrev Right : tie.Start → Search → Decoded → Type 0
@@ -24,7 +24,7 @@ search-letter-requires : tie.Need-search-letter-requires
 search-letter-requires c κs =
     let f = c .before in
     let a = f .before .before .before in
-    (a .pre .0, (a .pre .1 .0, subst FrameInside (f .frame .given .1) (a .pre .1 .1)))
+    (a .pre .0, a .pre .1 .0)
 
 returns : tie.Need-returns
 returns c =
@@ -52,7 +52,7 @@ unfolding deskFrom madeFrom
 returns-3 c =
     let a = c .before .before .before .before in
     let none : Right a (record { keys = a .args .desk .keys; found = Nothing; unfound = done }) Bad = record { within = tt; leaves = refl } in
-    of-other (Right a (record { keys = a .args .desk .keys; found = Nothing; unfound = done })) none (λ house k. none) (λ house. none) (a .args .frame)
+    of-other (Right a (record { keys = a .args .desk .keys; found = Nothing; unfound = done })) none (λ house k. none) (λ house. none) (λ house count. none) (a .args .frame)
     (c .before .before .match .keys2) (c .before .match2 .keys2)
 
 pub search-frame-spec : {M : Type 1} → statement M
