@@ -29,3 +29,4 @@ pub mod FarTone
 pub mod FirstMuted
 pub mod Unplayable
 pub mod Placeholders
+pub mod LetterRows

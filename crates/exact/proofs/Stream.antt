@@ -16,12 +16,12 @@ use Rattle.tables.specs.Layout.{Tables}
 use Rattle.program.specs.Program.{Program}
 use Rattle.keys.specs.declared.HeldKeys.{HeldKeys}
 use Rattle.frames.specs.declared.Way.{Way}
-use Rattle.frames.specs.Frames.{Frame, bad, letter, key, dump, move, frameOf}
+use Rattle.frames.specs.Frames.{Frame, bad, letter, key, dump, move, letterRow, frameOf}
 use Rattle.status.specs.Status.{done, letterUnbound}
 use Rattle.protocol.specs.declared.Desk.{Desk}
 use Rattle.protocol.specs.Triggers.{Sought, itself, matching, actionAt, struck}
-use Rattle.protocol.specs.Steps.{withActive, withKeys, Made, byAction, callOn, deskFrom, madeFrom, Step, triggered, chordOn, analysed, keyMoved, moveStep}
-use Rattle.protocol.specs.Answers.{Outcome, letterOutcome, moveOutcome, keyOutcome, frameOutcome, answerOf}
+use Rattle.protocol.specs.Steps.{withActive, withKeys, Made, byAction, callOn, deskFrom, madeFrom, Step, triggered, letterStep, Pressed, pressedInTurn, chordOn, analysed, keyMoved, moveStep}
+use Rattle.protocol.specs.Answers.{Outcome, letterOutcome, moveOutcome, letterRowOutcome, keyOutcome, frameOutcome, answerOf}
 use Rattle.protocol.specs.Streams.{Lent, deskAfter, madeIn}
 use Rattle.protocol.proofs.Ways.{by-outcome}
 use Rattle.exact.specs.Book as book
@@ -117,17 +117,29 @@ module _ (t : Tables) (p : Program) (matches : AllMatch t p) where
       go true n ks = step-kept house (withKeys ks d) (matching (chordOn (withKeys ks d))) done b h
       go false n ks = h
 
+  -- a row of letters: the book follows all calls of its presses, in their order
+  presses-kept : (house : ℕ) (cs : List ℕ) (d : Desk) (b : Tuning entries) → Kept (declaredIn p) (d .tuning) b
+      → let r = pressedInTurn t house d cs in Kept (declaredIn p) (r .desk .tuning) (bookFrom b (fedBy p (r .made)))
+  unfolding pressedInTurn fedBy bookFrom
+  presses-kept house [] d b h = h
+  presses-kept house (c ∷ cs) d b h =
+      let s = letterStep t house d c in
+      let rest = pressedInTurn t house (s .desk) cs .made in
+      rw (fed-append p (s .made) rest, book-append b (fedBy p (s .made)) (fedBy p rest))
+      (presses-kept house cs (s .desk) (bookFrom b (fedBy p (s .made))) (step-kept house d (itself c) letterUnbound b h))
+
   -- what is kept after a frame
   abbrev After : Tuning entries → Outcome → Type 0
   After b o = Kept (declaredIn p) (o .desk .tuning) (bookFrom b (fedBy p (o .made)))
 
   frame-kept : (d : Desk) (b : Tuning entries) → Kept (declaredIn p) (d .tuning) b → (f : Frame) → After b (frameOutcome t d f)
-  unfolding frameOutcome letterOutcome moveOutcome keyOutcome fedBy bookFrom
+  unfolding frameOutcome letterOutcome moveOutcome letterRowOutcome keyOutcome fedBy bookFrom
   frame-kept d b h bad = h
   frame-kept d b h (letter house c) = step-kept house d (itself c) letterUnbound b h
   frame-kept d b h (key house k) = h
   frame-kept d b h (dump house) = h
   frame-kept d b h (move way house k) = move-kept way house d k b h
+  frame-kept d b h (letterRow house cs) = presses-kept house cs d b h
 
   answer-kept : (d : Desk) (b : Tuning entries) → Kept (declaredIn p) (d .tuning) b → (frame : List ℕ) (room : ℕ) → After b (answerOf t d frame room)
   unfolding fedBy bookFrom

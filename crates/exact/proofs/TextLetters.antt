@@ -21,14 +21,15 @@ use Rattle.program.proofs.AllowedText.{accepted-allowed}
 use Rattle.filling.specs.Tables.{triggerCode, rowOf, tablesOf}
 use Rattle.mutabor.proofs.Filled.{tonesBefore, changesBefore, ordersBefore}
 use Rattle.mutabor.proofs.Decoded.{rows-counted, row-decoded, past-decoded, logic-triggers, logic-calls}
-use Rattle.frames.specs.Frames.{inside}
-use Rattle.frames.proofs.Ranges.{frame-inside, letter-ranges}
+use Rattle.ascii.proofs.Between.{each, in-range}
+use Rattle.frames.specs.Frames.{firstLetter, lastLetter, isCapital, areCapitals, inside}
+use Rattle.frames.proofs.Ranges.{frame-inside, letter-ranges, row-ranges}
 use Rattle.protocol.specs.declared.Active.{Active}
 use Rattle.protocol.specs.declared.Active.the-variants as active
 use Rattle.protocol.specs.Triggers as protocol
 use Rattle.protocol.specs.declared.Chord.{Chord}
 use Rattle.protocol.specs.Triggers.{Sought, itself, matching, matchesAs, answersTo, Struck, firstLogic, firstOrder, orderOf, callsAs, called, elseOrder, struck}
-use Rattle.exact.specs.TextLetters.{harmonyMatches, soughtBy, Asked, passes, logicIn, orderIn, orderBy, activeOrder, callsIn, unlessNone, elseActive, struckIn, FramesAsk, LettersOfText}
+use Rattle.exact.specs.TextLetters.{harmonyMatches, soughtBy, Asked, passes, logicIn, orderIn, orderBy, activeOrder, callsIn, unlessNone, elseActive, struckIn, AllAsked, FramesAsk, LettersOfText}
 
 -- of a row: whether it is a logic whose trigger passes, and what a call of it calls
 abbrev testedRow : (ℕ → Bool) → Row → Bool
@@ -189,11 +190,22 @@ module _ (p : Program) where
       let q = soughtBy p x in
       ap (called (tablesOf p) a) (found p allowed (answersTo (tablesOf p) x) q (answers p x l) a) ∙ by-name a (elseActive p a q (logicIn q 0 p))
 
+all-asked : (cs : List ℕ) → areCapitals cs ≡ true → AllAsked cs
+unfolding areCapitals
+all-asked [] e = tt
+all-asked (c ∷ cs) e =
+    let a = each (isCapital c) (areCapitals cs) e in
+    let r = in-range firstLetter lastLetter c (a .0) in
+    (record { least = r .0; most = r .1 }, all-asked cs (a .1))
+
 pub frames-ask : FramesAsk
 unfolding FramesAsk
-frames-ask line house c e =
-    let r = letter-ranges house c (sym (ap inside e) ∙ frame-inside line) in
-    record { least = r .2; most = r .3 }
+frames-ask line = record {
+  one = λ house c e.
+      let r = letter-ranges house c (sym (ap inside e) ∙ frame-inside line) in
+      record { least = r .2; most = r .3 };
+  row = λ house cs e. all-asked cs (row-ranges house cs (sym (ap inside e) ∙ frame-inside line) .capitals);
+}
 
 pub letters-of-text : LettersOfText
 unfolding LettersOfText

@@ -15,3 +15,4 @@ pub mod FarTone
 pub mod FirstMuted
 pub mod Unplayable
 pub mod Placeholders
+pub mod LetterRows

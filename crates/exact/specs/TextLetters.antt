@@ -14,7 +14,7 @@ use Rattle.program.specs.Meaning.{declarationAt}
 use Rattle.program.specs.Allowed.{Letter}
 use Rattle.program.specs.Text.{accepted, readText}
 use Rattle.filling.specs.Tables.{tablesOf}
-use Rattle.frames.specs.Frames.{letter, frameOf}
+use Rattle.frames.specs.Frames.{letter, letterRow, frameOf}
 use Rattle.protocol.specs.declared.Active.{Active}
 use Rattle.protocol.specs.declared.Active.the-variants as active
 use Rattle.protocol.specs.declared.Chord.{Chord}
@@ -86,8 +86,17 @@ abbrev pub Asked : Sought → Type 0
 Asked (itself c) = Letter c
 Asked (matching x) = Unit
 
+-- of a row each letter
+abbrev pub AllAsked : List ℕ → Type 0
+AllAsked [] = Unit
+AllAsked (c ∷ cs) = Asked (itself c) × AllAsked cs
+
+pub record LineAsks (line : List ℕ) : Type 0 where
+  pub one : (house c : ℕ) → frameOf line ≡ letter house c → Asked (itself c)
+  pub row : (house : ℕ) (cs : List ℕ) → frameOf line ≡ letterRow house cs → AllAsked cs
+
 unfoldable pub FramesAsk : Type 0
-FramesAsk = (line : List ℕ) (house c : ℕ) → frameOf line ≡ letter house c → Asked (itself c)
+FramesAsk = (line : List ℕ) → LineAsks line
 
 unfoldable pub LettersOfText : Type 0
 LettersOfText =

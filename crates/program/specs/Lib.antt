@@ -18,5 +18,6 @@ pub mod NewAnchor
 pub mod Divisors
 pub mod Unneeded
 pub mod OneName
+pub mod FarStart
 pub mod WrittenIn
 pub mod Verdicts
