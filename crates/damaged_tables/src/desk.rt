@@ -149,3 +149,28 @@ pub fn report_order_of_checks() {
         .try_move(first, b"02063C");
     report(b"damaged tables, key down or up", moves);
 }
+
+// Rows of one letter and of 32, from either house. M is the sample's logic and U its order: a row that is bad behind them has pressed neither.
+pub fn report_letter_rows() {
+    let damaged = start_at(ABOVE_KEYS as u8);
+    let longest = b"0204204D55555555555555555555555555555555555555555555555555555555555555";
+    let rows = Tally::new()
+        .try_letter_row(damaged, b"0104014D")
+        .try_letter_row(damaged, b"0204024D55")
+        .try_letter_row(damaged, longest);
+    let bad = Tally::new()
+        .try_bad_letter_row(b"0104")
+        .try_bad_letter_row(b"010400")
+        .try_bad_letter_row(b"0104014D55")
+        .try_bad_letter_row(b"0104034D55")
+        .try_bad_letter_row(b"0104034D5540")
+        .try_bad_letter_row(b"0104034D555B")
+        .try_bad_letter_row(b"0104034D554d")
+        .try_bad_letter_row(b"0104034D554")
+        .try_bad_letter_row(b"0304024D55")
+        .try_bad_letter_row(
+            b"0104214D5555555555555555555555555555555555555555555555555555555555555555",
+        );
+    report(b"rows of letters, damage or a small buffer", rows);
+    report(b"rows of letters, bad", bad);
+}

@@ -18,7 +18,8 @@
 // - active logic: 11 rows that are no logic, the first one past the count, the greatest number of 32 bits;
 // - held keys: no damage, those of no house, of either and of both; each is answered;
 // - buffers of 0 to 511 bytes, which get 19; the 6 beginnings of a frame of 6 digits; a key of 2 houses down and up;
-// - unplayable keys: 4 states at the ends of what a state may hold, each with 15, 23 and 19.
+// - unplayable keys: 4 states at the ends of what a state may hold, each with 15, 23 and 19;
+// - rows of letters: 3 rows, each with damaged tables, a damaged state and a small buffer; 10 bad ones, which leave the desk as it was.
 mod desk;
 mod kinds;
 mod lent;
@@ -32,6 +33,7 @@ mod trial;
 use answers::SMALLEST_BUFFER;
 use desk::report_active;
 use desk::report_keys;
+use desk::report_letter_rows;
 use desk::report_order_of_checks;
 use desk::report_state;
 use desk::report_unplayable;
@@ -85,4 +87,5 @@ fn main() {
     report_keys();
     report_order_of_checks();
     report_unplayable();
+    report_letter_rows();
 }

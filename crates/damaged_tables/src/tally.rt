@@ -10,6 +10,7 @@ use answers::SMALLEST_BUFFER;
 use keys::HeldKeys;
 use protocol::Active;
 use protocol::Desk;
+use status::BAD_FRAME;
 use status::BUFFER_TOO_SMALL;
 use status::DONE;
 use status::KEY_UNPLAYABLE;
@@ -201,6 +202,27 @@ impl Tally {
     pub fn try_move(self, keys: HeldKeys, frame: &[u8]) -> Tally {
         let t = Lent::damaged();
         self.try_frame(t, holding(keys), frame, SMALLEST_BUFFER, TABLE_DAMAGED)
+    }
+
+    // A row of letters with damaged tables, and with a damaged state: 23; with a small buffer: 19. Nothing is pressed.
+    pub fn try_letter_row(self, damaged: State, frame: &[u8]) -> Tally {
+        let t = Lent::damaged();
+        let right = Lent::sample();
+        self.try_frame(t, Desk::start(), frame, SMALLEST_BUFFER, TABLE_DAMAGED)
+            .try_frame(right, tuned(damaged), frame, SMALLEST_BUFFER, TABLE_DAMAGED)
+            .try_frame(
+                right,
+                Desk::start(),
+                frame,
+                SMALLEST_BUFFER - 1,
+                BUFFER_TOO_SMALL,
+            )
+    }
+
+    // A row that is bad: 22, and the desk is as it was.
+    pub fn try_bad_letter_row(self, frame: &[u8]) -> Tally {
+        let outcome = send_frame(Lent::sample(), Desk::start(), frame, SMALLEST_BUFFER);
+        self.add(outcome.number == BAD_FRAME && outcome.kept)
     }
 
     // The start with another tone at each position from `from` to `to`.

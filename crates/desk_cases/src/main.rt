@@ -5,12 +5,14 @@
 // above the one before. From document 01's list: 2 : 1 is 1,200,000, 1200 ROOT 2 is 1,000, and 440 stands at 6,900,000 (00694920).
 mod chords;
 mod first_muted;
+mod letter_rows;
 mod run;
 mod unplayable;
 mod with_placeholders;
 
 use chords::run_chords;
 use first_muted::run_first_muted;
+use letter_rows::run_letter_rows;
 use run::run_case;
 use unplayable::run_unplayable;
 use with_placeholders::run_with_placeholders;
@@ -136,4 +138,5 @@ fn main() {
     run_first_muted();
     run_unplayable();
     run_with_placeholders();
+    run_letter_rows();
 }
