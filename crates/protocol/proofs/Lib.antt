@@ -14,5 +14,6 @@ pub mod Audible
 pub mod Numbers
 pub mod Kept
 pub mod Singly
+pub mod Fits
 pub mod KeysHeld
 pub mod Unplayable

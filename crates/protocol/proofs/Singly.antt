@@ -2,21 +2,23 @@
 use mathlib.Core.Path.{_≡_, refl, sym, ap, ap₂, _∙_}
 use mathlib.Core.Bool.{Bool, true, false, cond, _&&_, false≢true}
 use mathlib.Core.List.{List, [], _∷_, _++_, map, getLastD, append-assoc, append-nil}
-use mathlib.Core.Option.{Option·elim}
+use mathlib.Core.Option.{some, Option·elim}
 use Prim.Native.Nat.{ℕ, _≤_, _<_}
 use native.Mathlib.Decide.{decLt}
 use native.Mathlib.Omega.{arith}
-use borrow.Author.Tests.{lt-ltb, le-ltb, eq-eqb}
+use borrow.Author.Tests.{eq-eqb, eqb-true}
+use lib.Dec.{eqb}
 use lib.ListN.{length}
 use Rattle.status.specs.Status.{done, letterUnbound, bufferTooSmall, tableDamaged}
 use Rattle.tuning.specs.State.{places, held}
 use Rattle.tables.specs.Layout.{Tables}
 use Rattle.ascii.proofs.Between.{each, in-range}
-use Rattle.hexadecimal.specs.Digits.{hexes}
+use Rattle.hexadecimal.specs.Digits.{hexes, bytesOf}
 use Rattle.hexadecimal.specs.Lines.{lineOf}
 use Rattle.hexadecimal.proofs.RoundTrip.{Bytes, bytes-back}
 use Rattle.frames.specs.Frames.{firstHouse, secondHouse, isHouse, firstLetter, lastLetter, isCapital, letterKind, letterRowKind, fewestPresses, mostPresses, isCount, areCapitals}
-use Rattle.frames.specs.Frames.{Frame, bad, letter, key, dump, move, letterRow, framed, frameOf, inside}
+use Rattle.frames.specs.Frames.{Frame, bad, letter, key, dump, move, letterRow, letterRowFrame, framed, frameOf, inside}
+use Rattle.frames.proofs.Lines.{same}
 use Rattle.frames.proofs.Ranges.{frame-inside, RowRanges, row-ranges}
 use Rattle.answers.specs.Answer.{letterRowBytes, smallestBuffer}
 use Rattle.protocol.specs.declared.Desk.{Desk}
@@ -24,7 +26,7 @@ use Rattle.protocol.specs.Triggers.{itself}
 use Rattle.protocol.specs.Steps.{Made, Pressed, letterStep, pressedInTurn}
 use Rattle.protocol.specs.Answers.{Outcome, letterOutcome, letterRowOutcome, frameOutcome, validDesk, unchanged, answerOf}
 use Rattle.protocol.specs.Streams.{Lent, deskAfter, madeIn, numbersIn}
-use Rattle.protocol.specs.Singly.{RightRow, rowLine, RowsAreRead, single, singly, SameAsSingly, RowsAreSingles, sentAs, allSingly, SentSingly, StreamsOfRows}
+use Rattle.protocol.specs.Singly.{RightRow, rowLine, RowsAreRead, WrongRows, single, singly, SameAsSingly, RowsAreSingles, sentAs, allSingly, SentSingly, StreamsOfRows}
 use Rattle.protocol.proofs.Ways.{by-outcome, tables-right, too-small, damaged, taken}
 use Rattle.protocol.proofs.InTurn.{last-of}
 use Rattle.protocol.proofs.Stays.{right-valid, step-right, frame-right, valid-right}
@@ -57,6 +59,30 @@ rows-are-read house cs r =
       eq-eqb (length cs) (length cs) refl,
       r .letters,
     )
+
+-- any other line of kind 04 is a bad frame
+wrong-frame : (line : List ℕ) (house : ℕ) (rest : List ℕ) → bytesOf line ≡ some (house ∷ letterRowKind ∷ rest)
+    → ((cs : List ℕ) → rest ≡ length cs ∷ cs → RightRow house cs → ⊥) → frameOf line ≡ bad
+unfolding frameOf framed Option·elim
+wrong-frame line house rest e n = rw e (by-rest rest n)
+  where
+    by-tests : (count : ℕ) (cs : List ℕ) (a b c z : Bool) → isHouse house ≡ a → isCount count ≡ b → eqb (length cs) count ≡ c → areCapitals cs ≡ z
+        → ((xs : List ℕ) → count ∷ cs ≡ length xs ∷ xs → RightRow house xs → ⊥) → cond a (cond (b && c && z) (letterRow house cs) bad) bad ≡ bad
+    by-tests count cs false b c z h k l m n = refl
+    by-tests count cs true false c z h k l m n = refl
+    by-tests count cs true true false z h k l m n = refl
+    by-tests count cs true true true false h k l m n = refl
+    by-tests count cs true true true true h k l m n =
+        let size = eqb-true (length cs) count l in
+        absurd (n cs (ap (λ (x : ℕ). x ∷ cs) (sym size)) (record { from = h; count = ap isCount size ∙ k; letters = m }))
+
+    by-rest : (rest : List ℕ) → ((cs : List ℕ) → rest ≡ length cs ∷ cs → RightRow house cs → ⊥) → cond (isHouse house) (letterRowFrame house rest) bad ≡ bad
+    by-rest [] n = same (isHouse house)
+    by-rest (count ∷ cs) n = by-tests count cs (isHouse house) (isCount count) (eqb (length cs) count) (areCapitals cs) refl refl refl refl n
+
+pub wrong-rows : WrongRows
+unfolding WrongRows frameOutcome
+wrong-rows t d v line house rest e n room h = sym (taken t d line room h refl v) ∙ ap (frameOutcome t d) (wrong-frame line house rest e n)
 
 -- ---- presses sent singly
 

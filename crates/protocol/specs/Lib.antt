@@ -5,6 +5,7 @@ pub mod Answers
 pub mod Streams
 pub mod Kept
 pub mod Singly
+pub mod Fits
 pub mod KeysHeld
 pub mod Unplayable
 pub mod Inner

@@ -2,17 +2,18 @@
 use mathlib.Core.Path.{_≡_}
 use mathlib.Core.Bool.{true}
 use mathlib.Core.List.{List, [], _∷_, _++_, map, getLastD}
+use mathlib.Core.Option.{some}
 use Prim.Native.Nat.{ℕ, _≤_}
 use lib.ListN.{length}
 use Rattle.status.specs.Status.{done}
 use Rattle.tuning.specs.State.{places, held}
 use Rattle.tables.specs.Layout.{Tables}
 use Rattle.frames.specs.Frames.{isHouse, letterKind, letterRowKind, isCount, areCapitals, Frame, bad, letter, key, dump, move, letterRow, frameOf}
-use Rattle.hexadecimal.specs.Digits.{hexes}
+use Rattle.hexadecimal.specs.Digits.{hexes, bytesOf}
 use Rattle.hexadecimal.specs.Lines.{lineOf}
 use Rattle.answers.specs.Answer.{letterRowBytes, smallestBuffer}
 use Rattle.protocol.specs.declared.Desk.{Desk}
-use Rattle.protocol.specs.Answers.{validDesk, answerOf}
+use Rattle.protocol.specs.Answers.{badOutcome, validDesk, answerOf}
 use Rattle.protocol.specs.Streams.{Lent, deskAfter, madeIn, numbersIn}
 
 -- ---- which lines are rows: "A frame of kind 04 shall carry a count from 1 to 32 and that many letters."
@@ -27,6 +28,12 @@ rowLine house cs = hexes (house ∷ letterRowKind ∷ length cs ∷ cs)
 
 unfoldable pub RowsAreRead : Type 0
 RowsAreRead = (house : ℕ) (cs : List ℕ) → RightRow house cs → frameOf (rowLine house cs) ≡ letterRow house cs
+
+-- "22 for a wrong count or letter, before any press is tried": any other line of kind 04 is a bad frame, which leaves the desk as it was and calls nothing
+unfoldable pub WrongRows : Type 0
+WrongRows =
+    (t : Tables) (d : Desk) → validDesk t d ≡ true → (line : List ℕ) (house : ℕ) (rest : List ℕ) → bytesOf line ≡ some (house ∷ letterRowKind ∷ rest)
+    → ((cs : List ℕ) → rest ≡ length cs ∷ cs → RightRow house cs → ⊥) → (room : ℕ) → smallestBuffer ≤ room → answerOf t d line room ≡ badOutcome d
 
 -- ---- a row, and its presses sent singly
 
