@@ -140,8 +140,8 @@ fn press_at(frame: Decoded, letters: [u8; MOST_PRESSES], i: usize) -> Decoded
     Decoded::Letter { house, letter }
 }
 
-// The presses of a frame one after the other, each from the desk that the one before it left. (One way for a letter, a key and a row: the compiler then
-// keeps the desk in its place.)
+// The presses of a frame one after the other, each from the desk that the one before it left. (One way for a letter, a key and a row: with two the compiler
+// copies the desk at every call.)
 pub fn press_all(
     numbers: &[i32],
     codes: &[u16],
