@@ -20,7 +20,7 @@ use Rattle.frames.specs.Frames.{Frame, bad, letter, key, dump, move, letterRow,
 use Rattle.status.specs.Status.{done, letterUnbound}
 use Rattle.protocol.specs.declared.Desk.{Desk}
 use Rattle.protocol.specs.Triggers.{Sought, itself, matching, actionAt, struck}
-use Rattle.protocol.specs.Steps.{withActive, withKeys, Made, byAction, callOn, deskFrom, madeFrom, Step, triggered, letterStep, Pressed, pressedInTurn, chordOn, analysed, keyMoved, moveStep}
+use Rattle.protocol.specs.Steps.{withActive, withKeys, Made, byAction, callOn, deskFrom, madeFrom, Step, triggered, letterStep, pressedInTurn, chordOn, analysed, keyMoved, moveStep}
 use Rattle.protocol.specs.Answers.{Outcome, letterOutcome, moveOutcome, letterRowOutcome, keyOutcome, frameOutcome, answerOf}
 use Rattle.protocol.specs.Streams.{Lent, deskAfter, madeIn}
 use Rattle.protocol.proofs.Ways.{by-outcome}

@@ -1,6 +1,6 @@
 -- Worked streams of document 02, 3/13: rows of letters. The lines are those of the second program (reference/).
 use mathlib.Core.Path.{_≡_}
-use mathlib.Core.List.{List, [], _∷_, _++_, map}
+use mathlib.Core.List.{List, [], _∷_, map}
 use Prim.Native.Nat.{ℕ}
 use lib.ListN.{replicate}
 use Rattle.ascii.specs.Ascii.{bytes}

@@ -1,5 +1,5 @@
 -- The letters of a row, read from their digits one after the other.
-use Prim.Native.Nat.{ℕ, suc, _+_, _*_, _<_}
+use Prim.Native.Nat.{ℕ, _+_, _*_, _<_}
 use mathlib.Core.Path.{_≡_, refl, sym, ap, _∙_}
 use mathlib.Core.Bool.{Bool, true, false, _&&_, false≢true}
 use mathlib.Core.List.{List, [], _∷_, _++_, append-nil}
@@ -9,7 +9,6 @@ use native.Mathlib.Omega.{arith}
 use lib.ListN.{length, take, drop, getD, set, length-set, drop-of-length-le}
 use lib.Seq.{take-suc-set, append-snoc}
 use Rattle.hexadecimal.specs.Digits.{ofBoth, byteOf, bytesOf}
-use Rattle.frames.specs.declared.Letters.{Letters}
 use Rattle.frames.specs.Frames.{isCapital, areCapitals, mostPresses}
 use Rattle.frames.specs.Inner.{areLetters, Reads}
 use Rattle.frames.proofs.Lines.{next-byte}

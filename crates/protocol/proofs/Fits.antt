@@ -22,8 +22,8 @@ use Rattle.answers.specs.Answer.{stateBytes, changeBytes, letterRowBytes, keyBy
 use Rattle.answers.proofs.Lines.{length-tones}
 use Rattle.protocol.specs.declared.Desk.{Desk}
 use Rattle.protocol.specs.Steps.{letterStep, pressedInTurn, moveStep}
-use Rattle.protocol.specs.Answers.{Outcome, letterOutcome, moveOutcome, letterRowOutcome, soundAt, keyNumber, keyOutcome, frameOutcome, answerOf}
-use Rattle.protocol.specs.Fits.{longestRowAnswer, longestAnswer, Fits, AnswersFit}
+use Rattle.protocol.specs.Answers.{Outcome, letterOutcome, moveOutcome, letterRowOutcome, soundAt, keyNumber, keyOutcome, frameOutcome}
+use Rattle.protocol.specs.Fits.{longestRowAnswer, longestAnswer, AnswersFit}
 use Rattle.protocol.proofs.Ways.{by-outcome, state-right}
 
 -- a line has two digits for each byte, and a line feed

@@ -1,7 +1,7 @@
 -- A row of letters does what its presses do that are sent singly. Assumes nothing.
 use mathlib.Core.Path.{_≡_, refl, sym, ap, ap₂, _∙_}
 use mathlib.Core.Bool.{Bool, true, false, cond, _&&_, false≢true}
-use mathlib.Core.List.{List, [], _∷_, _++_, map, getLastD, append-assoc, append-nil}
+use mathlib.Core.List.{List, [], _∷_, _++_, getLastD, append-assoc, append-nil}
 use mathlib.Core.Option.{some, Option·elim}
 use Prim.Native.Nat.{ℕ, _≤_, _<_}
 use native.Mathlib.Decide.{decLt}
@@ -23,10 +23,10 @@ use Rattle.frames.proofs.Ranges.{frame-inside, RowRanges, row-ranges}
 use Rattle.answers.specs.Answer.{letterRowBytes, smallestBuffer}
 use Rattle.protocol.specs.declared.Desk.{Desk}
 use Rattle.protocol.specs.Triggers.{itself}
-use Rattle.protocol.specs.Steps.{Made, Pressed, letterStep, pressedInTurn}
+use Rattle.protocol.specs.Steps.{Made, letterStep, pressedInTurn}
 use Rattle.protocol.specs.Answers.{Outcome, letterOutcome, letterRowOutcome, frameOutcome, validDesk, unchanged, answerOf}
 use Rattle.protocol.specs.Streams.{Lent, deskAfter, madeIn, numbersIn}
-use Rattle.protocol.specs.Singly.{RightRow, rowLine, RowsAreRead, WrongRows, single, singly, SameAsSingly, RowsAreSingles, sentAs, allSingly, SentSingly, StreamsOfRows}
+use Rattle.protocol.specs.Singly.{RightRow, RowsAreRead, WrongRows, single, singly, SameAsSingly, RowsAreSingles, sentAs, allSingly, SentSingly, StreamsOfRows}
 use Rattle.protocol.proofs.Ways.{by-outcome, tables-right, too-small, damaged, taken}
 use Rattle.protocol.proofs.InTurn.{last-of}
 use Rattle.protocol.proofs.Stays.{right-valid, step-right, frame-right, valid-right}

@@ -1,5 +1,5 @@
 -- The ways through a frame. Assumes nothing.
-use mathlib.Core.Path.{_≡_, refl, sym, ap, ap₂, _∙_, subst}
+use mathlib.Core.Path.{_≡_, refl, sym, ap, _∙_, subst}
 use mathlib.Core.Bool.{Bool, true, false, cond, _&&_, false≢true}
 use mathlib.Core.List.{List, [], _∷_}
 use Prim.Native.Nat.{ℕ, _≤_, _<_}
@@ -11,7 +11,7 @@ use lib.Dec.{ltb}
 use lib.ListN.{length}
 use Rattle.status.specs.Status.{bufferTooSmall, tableDamaged}
 use Rattle.tuning.specs.Desk.{playable}
-use Rattle.tuning.specs.State.{held, heard, toneOf, validState}
+use Rattle.tuning.specs.State.{heard, toneOf, validState}
 use Rattle.tuning.specs.declared.Tone.{Tone}
 use Rattle.tuning.proofs.Lists.{both}
 use Rattle.tuning.proofs.Held.{heard-tone}
@@ -26,13 +26,11 @@ use Rattle.hexadecimal.specs.Lines.{lineOf}
 use Rattle.frames.specs.declared.Way.{Way}
 use Rattle.frames.proofs.LetterRows.{noRow}
 use Rattle.frames.proofs.Ranges.{move-ranges, row-ranges}
-use Rattle.answers.specs.Answer.{changeBytes, keyBytes, smallestBuffer}
+use Rattle.answers.specs.Answer.{keyBytes, smallestBuffer}
 use Rattle.protocol.specs.declared.Desk.{Desk}
 use Rattle.protocol.specs.declared.Answered.{Answered}
 use Rattle.protocol.specs.declared.Told.{Told}
-use Rattle.protocol.specs.declared.Stepped.{Stepped}
-use Rattle.protocol.specs.declared.presses.Head.{Head}
-use Rattle.protocol.specs.Answers.{Outcome, letterOutcome, moveOutcome, letterRowOutcome, soundAt, keyNumber, keyOutcome, frameOutcome}
+use Rattle.protocol.specs.Answers.{Outcome, soundAt, keyNumber, keyOutcome, frameOutcome}
 use Rattle.protocol.specs.Answers.{activeRight, validDesk, unchanged, answerOf, Gives}
 use Rattle.protocol.specs.Inner.{Ready, FrameInside, mayChange, toldOutcome, Tells}
 

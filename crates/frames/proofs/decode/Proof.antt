@@ -10,7 +10,7 @@ use borrow.Author.Tests.{ne-eqb}
 use lib.ListN.{drop}
 use Rattle.frames.specs.declared.Decoded.{Decoded}
 use Rattle.hexadecimal.specs.Digits.{byteOf, bytesOf}
-use Rattle.frames.specs.Frames.{letterRowKind, bad, framed, frameOf, decodedAs, inside}
+use Rattle.frames.specs.Frames.{bad, framed, frameOf, decodedAs, inside}
 use Rattle.frames.specs.Inner.{rowBehind}
 use Rattle.hexadecimal.proofs.Values.{found, lacking}
 use Rattle.frames.proofs.Lines.{too-short, first-three, behind, nothing-behind, more-behind}

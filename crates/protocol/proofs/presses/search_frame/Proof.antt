@@ -1,5 +1,5 @@
 -- `protocol::presses::search_frame` meets its contract, by the frame's kind. Assumes nothing.
-use mathlib.Core.Path.{_≡_, refl, sym, subst}
+use mathlib.Core.Path.{refl, sym, subst}
 use borrow.Author.Needs.{needs}
 use Rattle.status.specs.Status.{done}
 use Rattle.frames.specs.declared.Decoded.{Decoded}
