@@ -1,4 +1,6 @@
 // Answers: the line that each kind of frame gets, written into a lent buffer. Places are counted in bytes of the answer, two digits each.
+#![tactic(auto)]
+
 ghost use Rattle.std.specs.Prelude.{◌≡◌, true, ◌+◌, ◌*◌, ◌≤◌, length, set};
 ghost use Rattle.tuning.specs.State.{held, heard, valid_state};
 ghost use Rattle.frames.specs.Frames.{most_presses};

@@ -1,4 +1,6 @@
 // Bytes and the ranges that they lie in.
+#![tactic(auto)]
+
 ghost use Rattle.std.specs.Prelude.{◌≡◌};
 ghost use Rattle.ascii.specs.Ascii.{between};
 

@@ -20,6 +20,8 @@
 // - buffers of 0 to 511 bytes, which get 19; the 6 beginnings of a frame of 6 digits; a key of 2 houses down and up;
 // - unplayable keys: 4 states at the ends of what a state may hold, each with 15, 23 and 19;
 // - rows of letters: 3 rows, each with damaged tables, a damaged state and a small buffer; 10 bad ones, which leave the desk as it was.
+#![tactic(auto)]
+
 mod desk;
 mod kinds;
 mod lent;

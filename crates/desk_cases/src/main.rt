@@ -3,6 +3,8 @@
 // pitch, for 03 anchor, width, period and each tone. "Pitch and period are four bytes, high first".
 // The start is anchor 60 (3C), width 12 (0C), period 1,200,000 (00124F80), t(0) = 6,000,000 (005B8D80) and each further tone 100,000 (000186A0)
 // above the one before. From document 01's list: 2 : 1 is 1,200,000, 1200 ROOT 2 is 1,000, and 440 stands at 6,900,000 (00694920).
+#![tactic(auto)]
+
 mod chords;
 mod first_muted;
 mod letter_rows;

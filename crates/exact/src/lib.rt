@@ -1,1 +1,2 @@
 // The exact book: definitions and theorems; no code.
+#![tactic(auto)]

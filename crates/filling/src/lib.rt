@@ -1,4 +1,6 @@
 // The tables of a program, written row by row from the items of its text.
+#![tactic(auto)]
+
 mod harmony;
 mod lists;
 mod readers;

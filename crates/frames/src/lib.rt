@@ -1,4 +1,6 @@
 // Frames: a line of capital hexadecimal digits, and what it asks of the desk.
+#![tactic(auto)]
+
 ghost use Rattle.std.specs.Prelude.{◌≡◌, true, [], ◌∷◌, ◌*◌, ◌≤◌, length};
 ghost use Rattle.frames.specs.Frames.{letter_frame, key_frame, dump_frame, way_kind, move_frame, framed, frame_of, decoded_as, inside, most_presses};
 ghost use Rattle.frames.specs.Inner.{Reads, head_digits, row_behind, HasLetters};

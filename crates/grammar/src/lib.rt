@@ -1,4 +1,6 @@
 // The syntax of a text: its symbols are read one by one into items, the parts of its declarations in the order of the text.
+#![tactic(auto)]
+
 mod actions;
 pub mod items;
 mod moves;

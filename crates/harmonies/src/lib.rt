@@ -1,4 +1,6 @@
 // Chords and harmonies: the positions that the held keys are projected to, and whether a harmony matches them.
+#![tactic(auto)]
+
 ghost use Rattle.std.specs.Prelude.{◌≡◌, cond, ◌+◌, ◌*◌, ◌%◌, ◌^◌, ◌≤◌, ◌<◌, eqb};
 ghost use Rattle.limits.specs.Limits.{most_anchor, most_positions};
 ghost use Rattle.sets.specs.Sets.{added};

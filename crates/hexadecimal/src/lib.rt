@@ -1,4 +1,6 @@
 // Bytes as capital hexadecimal digits, written into a lent buffer.
+#![tactic(auto)]
+
 pub mod digits;
 
 ghost use Rattle.std.specs.Prelude.{◌≡◌, [], ◌∷◌, ◌+◌, ◌*◌, ◌≤◌, ◌<◌, length, set};

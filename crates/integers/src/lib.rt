@@ -1,1 +1,2 @@
 // Laws of whole numbers, for proofs; no code.
+#![tactic(auto)]

@@ -1,4 +1,6 @@
 // The held keys of both houses, as a value: which are held, and a key that goes down or up.
+#![tactic(auto)]
+
 ghost use Rattle.std.specs.Prelude.{◌≡◌, ◌*◌, ◌≤◌, ◌<◌};
 ghost use Rattle.keys.specs.Keys.{Place, place, key_count, word_size, no_keys, is_held, went_down, went_up};
 ghost use Rattle.keys.specs.Inner.{HeldFrom};

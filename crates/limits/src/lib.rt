@@ -1,5 +1,6 @@
 // Document 01's table "Numbers allowed", in its order, and then what a request allows: each number once for the code. specs/Limits.antt has the same
 // numbers for definitions, and the contracts of those who read them here tie the two.
+#![tactic(auto)]
 
 pub const MOST_BYTES: usize = 32_768;
 

@@ -1,6 +1,8 @@
 // A test program: measures of the cases on standard input, to be compared with those of the second program.
 // A case is nine bytes: 0 for L(n), 1 for a ratio, 2 for a root, 3 for a frequency, and two numbers of four bytes, high first.
 // Its value is eight bytes, high first, two's complement.
+#![tactic(auto)]
+
 ghost use Rattle.std.specs.Prelude.{◌≤◌};
 
 use cents::{logarithm, measure};

@@ -1,4 +1,6 @@
 // The reader: a text becomes tables, or a number and a place, with every lent table zero.
+#![tactic(auto)]
+
 ghost use Rattle.std.specs.Prelude.{◌≡◌, List, ◌<◌};
 ghost use Rattle.status.specs.Status.{done};
 ghost use Rattle.grammar.specs.declared.Item.{Item};

@@ -1,4 +1,6 @@
 // Names: each use of a name is replaced by the number of its declaration.
+#![tactic(auto)]
+
 ghost use Rattle.std.specs.Prelude.{◌≡◌, ◌&&◌, List, [], ◌+◌, ◌%◌, ◌≤◌, ◌<◌, length, take, eqb};
 ghost use Rattle.symbols.specs.Bytes.{same};
 ghost use Rattle.symbols.specs.Names.{name_at};

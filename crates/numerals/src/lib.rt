@@ -1,4 +1,6 @@
 // The values of numbers.
+#![tactic(auto)]
+
 ghost use Rattle.std.specs.Prelude.{◌≡◌, ℕ, ◌-◌, ◌≤◌, ◌<◌, ◌^◌, min, length};
 ghost use Rattle.std.proofs.Math.Seq.{slice};
 ghost use Rattle.numerals.specs.Numbers.{digit_of, numeral, before_point, places, ranged, point_of, decimal_of, whole_of};

@@ -1,4 +1,6 @@
 // What a program does with a text before its first frame.
+#![tactic(auto)]
+
 ghost use Rattle.std.specs.Prelude.{◌≡◌, true, length};
 ghost use Rattle.status.specs.Status.{done};
 ghost use Rattle.tables.specs.Layout.{tables_in};

@@ -1,4 +1,6 @@
 // Order records, and the search for the first with a trigger in a lent slice of them.
+#![tactic(auto)]
+
 ghost use Rattle.std.specs.Prelude.{◌≡◌};
 ghost use Rattle.orders.specs.Orders.{first_match};
 

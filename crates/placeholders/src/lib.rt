@@ -1,4 +1,6 @@
 // Retunings with placeholders: what is wrong with the names and numbers in brackets (24), and calls with their numbers written in.
+#![tactic(auto)]
+
 mod brackets;
 mod faults;
 pub mod writing;

@@ -1,1 +1,2 @@
 // What a text declares: definitions, and theorems on them; no code.
+#![tactic(auto)]

@@ -1,4 +1,6 @@
 // The frame call: a frame, the tables, the desk and a lent buffer give an answer and the next desk.
+#![tactic(auto)]
+
 mod chords;
 mod presses;
 mod triggers;

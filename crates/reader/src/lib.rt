@@ -1,4 +1,6 @@
 // A thin reader: it holds the text and a place, over the function on a slice and a number that finds the next symbol.
+#![tactic(auto)]
+
 ghost use Rattle.std.specs.Prelude.{◌≡◌};
 ghost use Rattle.symbols.specs.Symbols.{next_symbol};
 

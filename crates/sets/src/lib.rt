@@ -1,4 +1,6 @@
 // A set of numbers 0 to 63 as a word: number r is in it when bit r is 1.
+#![tactic(auto)]
+
 ghost use Rattle.std.specs.Prelude.{◌≡◌, ◌<◌, ◌^◌};
 ghost use Rattle.sets.specs.Sets.{has, added, removed};
 

@@ -1,5 +1,7 @@
 // The program: the text of `logic.mut`, then frames from standard input, one a line, and their answers on standard output.
 // What is answered is written before more input is waited for.
+#![tactic(auto)]
+
 ghost use Rattle.std.specs.Prelude.{◌≡◌, true, false, [], ◌≤◌, length, take};
 ghost use Rattle.libc.specs.Io.{Moved};
 ghost use Rattle.tables.specs.Layout.{tables_in};

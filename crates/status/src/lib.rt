@@ -1,4 +1,6 @@
 // The numbers that calls return: document 01, "Numbers returned", and what document 02 adds to it.
+#![tactic(auto)]
+
 pub const DONE: u8 = 0;
 
 // Of a text.

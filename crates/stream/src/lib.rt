@@ -1,4 +1,6 @@
 // Bytes of standard input cut into lines, each line a frame, and the answers to it.
+#![tactic(auto)]
+
 ghost use Rattle.std.specs.Prelude.{◌≡◌, true, [], ◌∷◌, ◌++◌, ◌≤◌, ◌<◌, length, get_or, take, drop};
 ghost use Rattle.hexadecimal.specs.Lines.{line_feed};
 ghost use Rattle.frames.specs.Frames.{enough};

@@ -1,4 +1,6 @@
 // The symbols of a text: names, numbers and marks, each with its place.
+#![tactic(auto)]
+
 pub mod bytes;
 mod runs;
 pub mod spelling;

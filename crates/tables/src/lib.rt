@@ -1,4 +1,6 @@
 // The tables that a text is read into: a row for each declaration and for each call whose numbers are written in, and what the rows refer to.
+#![tactic(auto)]
+
 pub mod clear;
 pub mod decode;
 pub mod encode;

@@ -22,6 +22,8 @@
 //   05 00000005 00000000 00000000 00000000, 05 00000005 00000002 00000000 00000000, 0041 0001, 0042 0004
 // RETUNING a = x [ ]
 //   18 0000000D: x is not named, at byte 13; the tables are zero again.
+#![tactic(auto)]
+
 ghost use Rattle.std.specs.Prelude.{◌≡◌, ◌+◌, ◌*◌, ◌≤◌, length};
 ghost use Rattle.text_tables.specs.Within.{Within};
 

@@ -1,4 +1,6 @@
 // The tuning state: anchor, width, tones and period, as a value; the pitch of a key; which states are valid.
+#![tactic(auto)]
+
 pub mod calls;
 
 ghost use Rattle.std.specs.Prelude.{◌≡◌, true, not, map, ◌≤◌, ◌<◌, ◌+◌, nat_abs, drop, take};

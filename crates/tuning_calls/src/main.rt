@@ -5,6 +5,8 @@
 // Opcodes: 0 the start state again; 1 to 4 anchor `n`, `@`, `@+n`, `@-n`; 5 to 10 width `n`, `@`, `@+n`, `@-n`, `@*n`, `@/n`;
 // 11 period, 12 period `@` plus the value; 13 tones; 14 a tone system, its anchor as n, its period as value.
 // Kinds of a position: 0 muted, 1 a tone at the value, 2 `@` plus the value.
+#![tactic(auto)]
+
 ghost use Rattle.std.specs.Prelude.{◌≡◌, true, ◌≤◌};
 ghost use Rattle.tuning.specs.State.{valid_state};
 

@@ -1,5 +1,7 @@
 // Whether tables are valid. It is tested at every frame: long runs of zeros go a block at a time. Within a block there is no way out, so that its
 // numbers go many at once.
+#![tactic(auto)]
+
 ghost use Rattle.std.specs.Prelude.{◌≡◌, false, ◌&&◌, ◌≢◌, ◌+◌, ◌*◌, ◌≤◌, ◌<◌, length, drop, take};
 ghost use Rattle.std.proofs.Math.Seq.{slice};
 ghost use Rattle.tuning.specs.Desk.{between, is_tone};

@@ -1,4 +1,6 @@
 // The values of a text's declarations: what each value starts from and its terms are gathered from the items, then resolved.
+#![tactic(auto)]
+
 ghost use Rattle.std.specs.Prelude.{◌≡◌, List, map, suc, ◌<◌, length, get_or, take};
 ghost use Rattle.std.proofs.lemmas.List.Edits.{sets};
 ghost use Rattle.names.specs.Parts.{part};

@@ -12,8 +12,8 @@ use mir.Syntax.{w8, w32}
 use mir.Val.{Fits, SFits, to_z, of_z}
 use Rattle.integers.proofs.Signed.{signed, abs}
 use Rattle.cents.specs.Passages.{key_shift}
-use Rattle.cents.proofs.KeyNumber.shift.Statement.{statement}
-use Rattle.cents.proofs.KeyNumber.shift.Tie as tie
+use Rattle.cents.proofs.KeyNumber.shift.Goals.{Start}
+use Rattle.cents.proofs.KeyNumber.shift.Goals as goal
 
 module _ (a : ℕ) (z : ℤ) (byte : a < 256) (held : SFits w32 z) where
   whole : to_z w32 a +ℤ to_z w32 (of_z w32 z) ≡ key_shift a z
@@ -35,26 +35,20 @@ module _ (a : ℕ) (z : ℤ) (byte : a < 256) (held : SFits w32 z) where
     key : pos (nat_abs (key_shift a z)) ≡ key_shift a z
     key = omega (signed, abs (key_shift a z))
 
-cast-t3 : tie.Need-overflow-cast-t3
-cast-t3 c = search rules
-
-add-t4 : tie.Need-overflow-add-t4
-add-t4 c =
-    let start = c.before.before.before in
+pub overflow_add-result : goal.overflow_add-result
+overflow_add-result c =
+    let start = (goal.at.overflow_add-result c).Start in
     fits start.args.self.0 start.args.by.0 (search rules) (search rules) start.requires.0 start.requires.1
 
-cast-t5 : tie.Need-overflow-cast-t5
-cast-t5 c =
-    let start = c.before.before.before in
+pub overflow_cast-result-2 : goal.overflow_cast-result-2
+overflow_cast-result-2 c =
+    let start = (goal.at.overflow_cast-result-2 c).Start in
     rw (stored start.args.self.0 start.args.by.0 (search rules) (search rules) start.requires.0 start.requires.1)
     (casts start.args.self.0 start.args.by.0 (search rules) (search rules) start.requires.0 start.requires.1)
 
-returns : tie.Need-returns
+pub returns : goal.returns
 returns c =
-    let start = c.before.before.before in
+    let start = (goal.at.returns c).Start in
     let a = start.args.self.0 in
     let z = start.args.by.0 in
     rw (stored a z (search rules) (search rules) start.requires.0 start.requires.1) (key a z (search rules) (search rules) start.requires.0 start.requires.1)
-
-pub shift-spec : {M : Type 1} → statement M
-shift-spec = tie.close (tie.spec cast-t3 add-t4 cast-t5 returns)
