@@ -68,7 +68,7 @@ module _ {s : State} {x : ℕ} (a : Asked s x) where
   place_found e f = f ∙ ap (λ (y : ℤ). located_at y s.width) e
 
   pub place_word : {l : Located} → l ≡ place → to_z w32 (of_z w32 l.periods) ≡ place.periods
-  place_word e = ap (λ (p : Located). to_z w32 (of_z w32 p.periods)) e ∙ to_z-of_z (omega (signed, place_periods))
+  place_word e = ap (λ (p : Located). to_z w32 (of_z w32 p.periods)) e ∙ to_z-of_z {w = w32} (omega (signed, place_periods))
 
   -- the period as often as it goes up or down
   pub place_shift : nat_abs (place.periods *ℤ s.period.0) ≤ 1_524_000_000
