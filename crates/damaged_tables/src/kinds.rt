@@ -44,7 +44,7 @@ const ROW_COUNT: usize = 0;
 
 const TONE_COUNT: usize = 1;
 
-#[derive(Drop)]
+#[derive(Clone, Copy)]
 enum Kind {
     Interval,
     Tone,

@@ -59,7 +59,7 @@ const ZERO_AND_LAST: u64 = 1 + (1 << 59);
 const ZERO_FOUR_AND_LAST: u64 = ZERO_AND_LAST + (1 << 4);
 
 // The tables that the two slices hold.
-#[derive(Drop)]
+#[derive(Clone, Copy)]
 pub enum Table {
     Rows,
     Sounding,
@@ -83,7 +83,7 @@ pub const TOO_LONG: [usize; SLICES] = [NUMBERS + 1, CODES + 1];
 const NOWHERE: usize = 20_000;
 
 // Each slice has a place more than its full size, so that it can be lent too long: `sizes` says how much of each is lent.
-#[derive(Drop)]
+#[derive(Clone, Copy)]
 pub struct Lent {
     pub numbers: [i32; NUMBERS + 1],
     pub codes: [u16; CODES + 1],

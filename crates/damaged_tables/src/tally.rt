@@ -20,7 +20,7 @@ const ABOVE_FORMS: i32 = PATTERN_FORM as i32 + 1;
 // How many wrong numbers a row is given besides those of its form: two for each of its other four numbers.
 const WRONG: usize = 8;
 
-#[derive(Drop)]
+#[derive(Clone, Copy)]
 pub struct Tally {
     pub right: u64,
     pub tried: u64,

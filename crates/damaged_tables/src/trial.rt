@@ -8,7 +8,7 @@ use protocol::{Active, Answered, Desk};
 use tuning::{PLACES, State, Tone};
 
 // The number that a frame gets, whether the desk is as it was, and whether the buffer is, too.
-#[derive(Drop)]
+#[derive(Clone, Copy)]
 pub struct Outcome {
     pub number: u8,
     pub kept: bool,

@@ -16,21 +16,21 @@ use tables::encode;
 use tuning::{Tone, ToneChange};
 
 // A tone of a tone system, where an item is one of its positions.
-#[derive(Drop)]
+#[derive(Clone, Copy)]
 enum ToneHere {
     Nothing,
     Tone(Tone),
 }
 
 // A change of a tones retuning, where one of its positions begins.
-#[derive(Drop)]
+#[derive(Clone, Copy)]
 enum ChangeHere {
     Nothing,
     Change(ToneChange),
 }
 
 // An order of a logic, where one begins: its trigger, and what it calls.
-#[derive(Drop)]
+#[derive(Clone, Copy)]
 enum OrderHere {
     Nothing,
     Order(Trigger, u32),

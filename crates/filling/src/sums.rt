@@ -20,7 +20,7 @@ const LOWEST: i64 = -HIGHEST;
 const HIGHEST: i64 = FARTHEST_SUM as i64;
 
 // A sum of terms, in thousandths of a cent: it may be wider than an interval of the tables.
-#[derive(Drop)]
+#[derive(Clone, Copy)]
 pub struct Sum(pub i64);
 
 impl Sum {

@@ -9,14 +9,14 @@ use grammar::Item;
 use tables::HARMONY_BASE;
 
 // A letter, as its capital, or a harmony, by the number of its declaration.
-#[derive(Drop)]
+#[derive(Clone, Copy)]
 pub enum Trigger {
     Letter(u32),
     Harmony(u32),
 }
 
 // A trigger, where an item is one.
-#[derive(Drop)]
+#[derive(Clone, Copy)]
 pub enum TriggerHere {
     Nothing,
     Trigger(Trigger),

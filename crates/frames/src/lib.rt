@@ -44,14 +44,14 @@ pub const MOST_PRESSES: usize = 32;
 pub const ENOUGH: usize = HEAD_DIGITS + 2 * MOST_PRESSES + 1;
 
 // How a key moves.
-#[derive(Drop)]
+#[derive(Clone, Copy)]
 pub enum Way {
     Down,
     Up,
 }
 
 // What a line asks: its frame, as far as code needs it.
-#[derive(Drop)]
+#[derive(Clone, Copy)]
 pub enum Decoded {
     Bad,
     Letter { house: u8, letter: u8 },
@@ -62,7 +62,7 @@ pub enum Decoded {
 }
 
 // Whether digits write letters, and these.
-#[derive(Drop)]
+#[derive(Clone, Copy)]
 struct Letters {
     pub good: bool,
     pub codes: [u8; MOST_PRESSES],

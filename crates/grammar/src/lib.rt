@@ -8,7 +8,7 @@ pub mod reading;
 mod terminals;
 
 // What is counted: declarations by their kind, and orders.
-#[derive(Drop)]
+#[derive(Clone, Copy)]
 pub enum Kind {
     Interval,
     Tone,
@@ -20,7 +20,7 @@ pub enum Kind {
 }
 
 // The forms of anchor and width retunings that have an n: n itself, or `@` with an operator and n.
-#[derive(Drop)]
+#[derive(Clone, Copy)]
 pub enum Form {
     AnchorTo,
     AnchorUp,
@@ -33,7 +33,7 @@ pub enum Form {
 }
 
 // What a number is for.
-#[derive(Drop)]
+#[derive(Clone, Copy)]
 pub enum NumberUse {
     RatioFirst,
     RatioSecond,
@@ -51,14 +51,14 @@ pub enum NumberUse {
 }
 
 // The numbers that a use allows: 0.0001 to 429496.7295 with at most four places, or whole ones from the first to the second.
-#[derive(Drop)]
+#[derive(Clone, Copy)]
 pub enum NumberRange {
     Decimal,
     Whole(u32, u32),
 }
 
 // What a name is used for.
-#[derive(Drop)]
+#[derive(Clone, Copy)]
 pub enum NameUse {
     Term,
     Base,
@@ -74,7 +74,7 @@ pub enum NameUse {
 }
 
 // What a mark stands for, where it says more than that the syntax goes on.
-#[derive(Drop)]
+#[derive(Clone, Copy)]
 pub enum MarkUse {
     MutedPosition,
     KeptPosition,
@@ -86,7 +86,7 @@ pub enum MarkUse {
 }
 
 // What is done at a symbol.
-#[derive(Drop)]
+#[derive(Clone, Copy)]
 pub enum Action {
     Pass,
     Declare(Kind),
@@ -102,7 +102,7 @@ pub enum Action {
 }
 
 // A part of a declaration. A name is given by its place in the text.
-#[derive(Drop)]
+#[derive(Clone, Copy)]
 pub enum Item {
     Declared(Kind, u32),
     Ratio(u32, u32),
@@ -144,7 +144,7 @@ pub enum Item {
 }
 
 // How many declarations and orders there are so far.
-#[derive(Drop)]
+#[derive(Clone, Copy)]
 pub struct Counts {
     pub intervals: u16,
     pub tones: u16,
@@ -156,7 +156,7 @@ pub struct Counts {
 }
 
 // An interval's first number: its place, the place after it, and its value once it is judged.
-#[derive(Drop)]
+#[derive(Clone, Copy)]
 pub struct FirstNumber {
     pub start: u32,
     pub end: u32,
@@ -164,7 +164,7 @@ pub struct FirstNumber {
 }
 
 // The sign and the factor of the term under way, and how many terms stand before it.
-#[derive(Drop)]
+#[derive(Clone, Copy)]
 pub struct NextTerm {
     pub minus: bool,
     pub factor: u32,
@@ -172,7 +172,7 @@ pub struct NextTerm {
 }
 
 // What reading keeps of the symbols before.
-#[derive(Drop)]
+#[derive(Clone, Copy)]
 pub struct Progress {
     pub first: FirstNumber,
     pub term: NextTerm,
@@ -186,14 +186,14 @@ pub struct Progress {
 }
 
 // A symbol's place, and the place after it.
-#[derive(Drop)]
+#[derive(Clone, Copy)]
 pub struct Span {
     pub start: u32,
     pub end: u32,
 }
 
 // What an action leads to: a refusal, or more progress, perhaps with an item.
-#[derive(Drop)]
+#[derive(Clone, Copy)]
 pub enum Outcome {
     Refuse { number: u8, place: u32 },
     Go(Progress),

@@ -185,7 +185,7 @@ pub const ACTIONS: [u8; 2573] = *b"\
     \x00\x00\x00\x00\x00\x00\x00\x00\x00\x00\x00\x00\x00\x00\x00\x00\x00\x00\x00\x00\x00\x00\x00\x00\x00\x00\x00\x00\x00\x00\x00";
 
 // What may be done at a symbol: nothing, or an action and then the next node.
-#[derive(Drop)]
+#[derive(Clone, Copy)]
 pub enum Move {
     Missing,
     To(Action, u8),

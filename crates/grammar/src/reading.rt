@@ -22,7 +22,7 @@ const BEGIN: u8 = 0;
 const FINISH: u8 = 1;
 
 // How many items were read, and the refusal's number and place, or 0 and 0.
-#[derive(Drop)]
+#[derive(Clone, Copy)]
 pub struct Reading {
     pub count: usize,
     pub number: u8,

@@ -18,7 +18,7 @@ const LOWER: KeyNumber = KeyNumber(0);
 const UPPER: KeyNumber = KeyNumber(64);
 
 // A harmony: the positions that must be held, and all that it names. The others of these have a star.
-#[derive(Drop)]
+#[derive(Clone, Copy)]
 pub struct Harmony {
     pub needed: u64,
     pub named: u64,

@@ -8,7 +8,7 @@ use ascii::is_between;
 pub const RADIX: u8 = 16;
 
 // What a digit, or two of them, write.
-#[derive(Drop)]
+#[derive(Clone, Copy)]
 pub enum Value {
     Missing,
     Of(u8),

@@ -16,13 +16,13 @@ const WORD: usize = 64;
 const WORDS: usize = 2 * KEYS / WORD;
 
 // The sets of held keys: the first house's keys, then the second's.
-#[derive(Drop)]
+#[derive(Clone, Copy)]
 pub struct HeldKeys {
     words: [u64; WORDS],
 }
 
 // The held keys after a key has gone down or up, and the number.
-#[derive(Drop)]
+#[derive(Clone, Copy)]
 pub struct Changed {
     pub held: HeldKeys,
     pub number: u8,

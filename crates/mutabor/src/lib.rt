@@ -36,7 +36,7 @@ const ITEM_SIZE: usize = 3;
 const ITEM_PLACE: usize = 2;
 
 // The number, and the place of a refusal.
-#[derive(Drop)]
+#[derive(Clone, Copy)]
 pub struct TextReading {
     pub number: u8,
     pub place: u32,

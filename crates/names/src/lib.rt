@@ -35,14 +35,14 @@ const BUCKETS: usize = 1024;
 const DECLARATIONS: usize = MOST_DECLARATIONS;
 
 // The row of a declaration that was looked for.
-#[derive(Drop)]
+#[derive(Clone, Copy)]
 pub enum Bearer {
     Nothing,
     Row(usize),
 }
 
 // What a used name may mean.
-#[derive(Drop)]
+#[derive(Clone, Copy)]
 enum Scope {
     Intervals,
     Tones,
@@ -52,7 +52,7 @@ enum Scope {
 }
 
 // What an item does with a name, and the name's place.
-#[derive(Drop)]
+#[derive(Clone, Copy)]
 enum Role {
     Nothing,
     Declares(Kind, u32),
@@ -60,7 +60,7 @@ enum Role {
 }
 
 // What the names of a text come to: the refusal's number and place, or 0 and 0, and how many declarations are kept.
-#[derive(Drop)]
+#[derive(Clone, Copy)]
 pub struct Naming {
     pub number: u8,
     pub place: u32,

@@ -9,7 +9,7 @@ use limits::{LEAST_PART, MOST_PART, MOST_PLACES};
 use symbols::bytes;
 
 // A number's value, where it is one that is allowed.
-#[derive(Drop)]
+#[derive(Clone, Copy)]
 pub enum WrittenNumber {
     Outside,
     Value(u32),

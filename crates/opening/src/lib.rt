@@ -13,7 +13,7 @@ use protocol::Desk;
 use status::{BUFFER_TOO_SMALL, DONE};
 
 // The number of the text, the desk for its frames, and how many bytes of the buffer are the line of a refusal.
-#[derive(Drop)]
+#[derive(Clone, Copy)]
 pub struct Opened {
     pub number: u8,
     pub desk: Desk,

@@ -8,7 +8,7 @@ ghost use Rattle.orders.specs.Orders.{first_match};
 pub const PART: usize = 16;
 
 // The kind of a declaration that is called. Nothing where it can't be called.
-#[derive(Drop)]
+#[derive(Clone, Copy)]
 pub enum Kind {
     Nothing,
     System,
@@ -17,14 +17,14 @@ pub enum Kind {
 }
 
 // A trigger, the kind of what it calls, and the number of the declaration that is called.
-#[derive(Drop)]
+#[derive(Clone, Copy)]
 pub struct Order {
     pub trigger: u16,
     pub kind: Kind,
     pub number: u16,
 }
 
-#[derive(Drop)]
+#[derive(Clone, Copy)]
 pub enum Found {
     Nothing,
     At(usize),

@@ -17,7 +17,7 @@ use grammar::{Form, Item};
 use status::{DONE, PLACEHOLDER_WRONG};
 
 // An item as placeholders see it. A call has the place of the called name, and the number of its declaration.
-#[derive(Drop)]
+#[derive(Clone, Copy)]
 pub enum Seen {
     Other,
     Declares,
@@ -28,21 +28,21 @@ pub enum Seen {
 }
 
 // Where a name is wrong.
-#[derive(Drop)]
+#[derive(Clone, Copy)]
 pub enum Fault {
     Nothing,
     At(u32),
 }
 
 // The form of the n for which a placeholder stands, and the place of its name.
-#[derive(Drop)]
+#[derive(Clone, Copy)]
 pub enum Wanting {
     Nothing,
     Amount(Form, u32),
 }
 
 // What the placeholders of a text come to: the refusal's number and place, or 0 and 0, and how many items and declarations there are then.
-#[derive(Drop)]
+#[derive(Clone, Copy)]
 pub struct Settling {
     pub number: u8,
     pub place: u32,

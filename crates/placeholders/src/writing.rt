@@ -11,7 +11,7 @@ use grammar::{Form, Item, Kind, items};
 use status::DONE;
 
 // A call to be written in: the place of the called name, the form of the n, and the number.
-#[derive(Drop)]
+#[derive(Clone, Copy)]
 pub enum WrittenCall {
     Nothing,
     Amount(u32, Form, u32),

@@ -23,7 +23,7 @@ use tables::{
 };
 
 // A trigger's code, where there is one.
-#[derive(Drop)]
+#[derive(Clone, Copy)]
 enum Code {
     Nothing,
     Trigger(u16),

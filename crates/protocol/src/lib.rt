@@ -29,14 +29,14 @@ use validity::valid_tables;
 pub const INDEX_SIZE: usize = HARMONY_BASE as usize + ROWS + 1;
 
 // The active logic, by the number of its declaration.
-#[derive(Drop)]
+#[derive(Clone, Copy)]
 pub enum Active {
     Nothing,
     Logic(u32),
 }
 
 // What the desk holds from frame to frame, for both houses.
-#[derive(Drop)]
+#[derive(Clone, Copy)]
 pub struct Desk {
     pub tuning: State,
     pub active: Active,
@@ -44,14 +44,14 @@ pub struct Desk {
 }
 
 // The held keys as triggers see them: the positions that they are projected to, and the width.
-#[derive(Drop)]
+#[derive(Clone, Copy)]
 pub struct Chord {
     pub positions: u64,
     pub width: u8,
 }
 
 // The desk after a frame, the number, and how many bytes of the buffer are the answer.
-#[derive(Drop)]
+#[derive(Clone, Copy)]
 pub struct Answered {
     pub desk: Desk,
     pub number: u8,
@@ -59,21 +59,21 @@ pub struct Answered {
 }
 
 // The number of an answer that changes nothing, and how many bytes of the buffer it is.
-#[derive(Drop)]
+#[derive(Clone, Copy)]
 pub struct Told {
     pub number: u8,
     pub length: usize,
 }
 
 // The desk after a call or a step, and its number.
-#[derive(Drop)]
+#[derive(Clone, Copy)]
 pub struct Stepped {
     pub desk: Desk,
     pub number: u8,
 }
 
 // What a frame finds, before that is called: the keys that are held then, what is called, and the number where that is nothing.
-#[derive(Drop)]
+#[derive(Clone, Copy)]
 pub struct Search {
     pub keys: HeldKeys,
     pub found: Called,
@@ -81,7 +81,7 @@ pub struct Search {
 }
 
 // A declaration's number, where there is one.
-#[derive(Drop)]
+#[derive(Clone, Copy)]
 pub enum Callee {
     Nothing,
     Row(u32),

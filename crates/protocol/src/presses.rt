@@ -15,7 +15,7 @@ use status::DONE;
 use tuning::State;
 
 // The desk after the presses of a frame, the last one's number, and the numbers of all of them.
-#[derive(Drop)]
+#[derive(Clone, Copy)]
 pub struct PressedAll {
     pub desk: Desk,
     pub number: u8,
@@ -23,7 +23,7 @@ pub struct PressedAll {
 }
 
 // The bytes of a frame of three.
-#[derive(Drop)]
+#[derive(Clone, Copy)]
 struct Head {
     pub house: u8,
     pub kind: u8,

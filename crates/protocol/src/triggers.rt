@@ -23,7 +23,7 @@ use tuning::{Reply, State};
 const NO_TRIGGER: u32 = HARMONY_BASE as u32 + ROWS as u32;
 
 // What is found: nothing, a logic, or a declaration that is called itself.
-#[derive(Drop)]
+#[derive(Clone, Copy)]
 pub enum Called {
     Nothing,
     Logic(u32),
@@ -31,7 +31,7 @@ pub enum Called {
 }
 
 // What comes of it: the logic that is active then, and the declaration that is called.
-#[derive(Drop)]
+#[derive(Clone, Copy)]
 struct Press {
     pub active: Active,
     pub called: Callee,

@@ -6,7 +6,7 @@ ghost use Rattle.symbols.specs.Symbols.{next_symbol};
 
 use symbols::Symbol;
 
-#[derive(Drop)]
+#[derive(Clone, Copy)]
 pub struct Reader<'a> {
     pub text: &'a [u8],
     pub at: usize,

@@ -25,21 +25,21 @@ use tables::{CODES, NUMBERS};
 const TEXT_ROOM: usize = 32_769;
 
 // What could be read of the text: nothing, for a reason that was told, or so many bytes.
-#[derive(Drop)]
+#[derive(Clone, Copy)]
 enum Loaded {
     Failed,
     Bytes(usize),
 }
 
 // How many bytes of the input there are to serve, and whether there may be more of it.
-#[derive(Drop)]
+#[derive(Clone, Copy)]
 struct Input {
     bytes: usize,
     more: bool,
 }
 
 // The desk, how many bytes are held of a line that has not ended, and whether all answers were written.
-#[derive(Drop)]
+#[derive(Clone, Copy)]
 struct Served {
     desk: Desk,
     held: usize,

@@ -18,7 +18,7 @@ use protocol::{Desk, INDEX_SIZE, answer_changing, index_logics, is_valid, may_ch
 
 // How far a chunk is served: the desk, how many bytes are held of a line that has not ended, the next byte of the chunk, and how many bytes
 // of the output are answers.
-#[derive(Drop)]
+#[derive(Clone, Copy)]
 pub struct Filled {
     pub desk: Desk,
     pub held: usize,
@@ -27,7 +27,7 @@ pub struct Filled {
 }
 
 // How many bytes are held of a line that has not ended, and the next byte of the chunk.
-#[derive(Drop)]
+#[derive(Clone, Copy)]
 pub struct Cursor {
     pub held: usize,
     pub next: usize,

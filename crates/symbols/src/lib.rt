@@ -14,7 +14,7 @@ ghost use Rattle.symbols.specs.declared.Symbol.TheVariants.{Bad};
 use runs::Run;
 
 // The marks `= : + - * / [ ] , @ { } << >> ->`.
-#[derive(Drop)]
+#[derive(Clone, Copy)]
 pub enum MarkKind {
     Equals,
     Colon,
@@ -36,14 +36,14 @@ pub enum MarkKind {
 }
 
 // A mark, where there is one.
-#[derive(Drop)]
+#[derive(Clone, Copy)]
 enum Sign {
     Missing,
     Kind(MarkKind),
 }
 
 // Places count the bytes of the text from 0; `end` is the place after the symbol.
-#[derive(Drop)]
+#[derive(Clone, Copy)]
 pub enum Symbol {
     // No symbol begins at the place, or a number or a comment there lacks its end.
     Bad(usize),

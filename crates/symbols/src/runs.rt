@@ -6,7 +6,7 @@ ghost use Rattle.symbols.specs.Inner.{in_run};
 use crate::bytes;
 
 // Bytes that stand together.
-#[derive(Drop)]
+#[derive(Clone, Copy)]
 pub enum Run {
     Digits,
     HexDigits,

@@ -7,7 +7,7 @@ ghost use Rattle.symbols.specs.Inner.{first};
 
 use crate::bytes;
 
-#[derive(Drop)]
+#[derive(Clone, Copy)]
 pub enum Letter {
     Missing,
     // The capital's byte, `A` to `Z`.

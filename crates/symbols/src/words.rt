@@ -9,7 +9,7 @@ ghost use Rattle.symbols.specs.Inner.{row_of, row_word_step, row_kind};
 use crate::bytes;
 
 // What a name is: a reserved word, or plain.
-#[derive(Drop)]
+#[derive(Clone, Copy)]
 pub enum Word {
     Plain,
     Interval,

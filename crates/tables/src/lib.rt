@@ -102,7 +102,7 @@ pub const MOVE_CODE: u16 = 1;
 pub const SET_CODE: u16 = 2;
 
 // A row's numbers: its form, two numbers of its own, and from where to where what belongs to it stands. A harmony's are four of its own.
-#[derive(Drop)]
+#[derive(Clone, Copy)]
 pub struct Numbers {
     pub form: u32,
     pub first: i32,
@@ -112,7 +112,7 @@ pub struct Numbers {
 }
 
 // A row, taken apart. `from` and `to` bound the tones, changes or orders that belong to it.
-#[derive(Drop)]
+#[derive(Clone, Copy)]
 pub enum Row {
     Unused,
     Interval(Interval),
@@ -145,7 +145,7 @@ pub enum Row {
 }
 
 // How many rows, tones, changes and orders are used.
-#[derive(Drop)]
+#[derive(Clone, Copy)]
 pub struct Counts {
     pub rows: u32,
     pub tones: u32,

@@ -56,7 +56,7 @@ const PAIR_BYTES: usize = 5;
 const ORDER_BYTES: usize = 4;
 
 // The end of the input, or a text of so many bytes.
-#[derive(Drop)]
+#[derive(Clone, Copy)]
 enum Next {
     End,
     Text(usize),

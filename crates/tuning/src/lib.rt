@@ -34,19 +34,19 @@ const OCTAVE: Interval = Interval(1_200_000);
 const SEMITONE: Interval = Interval(100_000);
 
 // A tone of a state: a pitch, or muted.
-#[derive(Drop)]
+#[derive(Clone, Copy)]
 pub enum Tone {
     Muted,
     At(Pitch),
 }
 
 // A position of the scale. (A field cannot be an array of enums, so the enum is in a struct.)
-#[derive(Drop)]
+#[derive(Clone, Copy)]
 pub struct Position {
     pub tone: Tone,
 }
 
-#[derive(Drop)]
+#[derive(Clone, Copy)]
 pub struct State {
     pub anchor: KeyNumber,
     pub width: u8,
@@ -55,20 +55,20 @@ pub struct State {
 }
 
 // A state, and the number of the call that left it.
-#[derive(Drop)]
+#[derive(Clone, Copy)]
 pub struct Reply {
     pub state: State,
     pub number: u8,
 }
 
 // Where a key stands: its position, and how many periods up.
-#[derive(Drop)]
+#[derive(Clone, Copy)]
 pub struct Located {
     pub position: usize,
     pub periods: i32,
 }
 
-#[derive(Drop)]
+#[derive(Clone, Copy)]
 pub enum Operator {
     Plus,
     Minus,
@@ -77,7 +77,7 @@ pub enum Operator {
 }
 
 // An anchor or a width: a number, `@`, or `@` with an operator and a number.
-#[derive(Drop)]
+#[derive(Clone, Copy)]
 pub enum Amount {
     Kept,
     Absolute(u16),
@@ -85,34 +85,34 @@ pub enum Amount {
 }
 
 // A new period, or an interval onto the old one.
-#[derive(Drop)]
+#[derive(Clone, Copy)]
 pub enum PeriodChange {
     Fresh(Interval),
     Onward(Interval),
 }
 
 // What a position of a tones retuning says of the tone there.
-#[derive(Drop)]
+#[derive(Clone, Copy)]
 pub enum ToneChange {
     Mute,
     Move(Interval),
     Set(Pitch),
 }
 
-#[derive(Drop)]
+#[derive(Clone, Copy)]
 pub struct PositionChange {
     pub change: ToneChange,
 }
 
 // The positions of a tones retuning.
-#[derive(Drop)]
+#[derive(Clone, Copy)]
 pub struct ToneChanges {
     pub count: u8,
     pub positions: [PositionChange; PLACES],
 }
 
 // The four kinds. (An enum holds no array: the positions of a tones retuning are beside it.)
-#[derive(Drop)]
+#[derive(Clone, Copy)]
 pub enum Retuning {
     Anchor(Amount),
     Width(Amount),
@@ -121,7 +121,7 @@ pub enum Retuning {
 }
 
 // How far the key at the other end lies above position 0.
-#[derive(Drop)]
+#[derive(Clone, Copy)]
 pub enum Reach {
     Silent,
     By(Interval),

@@ -50,7 +50,7 @@ const FIRST_HARMONY: i32 = HARMONY_BASE as i32;
 const MOST_HALF: u32 = HALF_SET as u32 - 1;
 
 // How many rows there are of each kind.
-#[derive(Drop)]
+#[derive(Clone, Copy)]
 struct Kinds {
     intervals: u32,
     tones: u32,
@@ -118,7 +118,7 @@ impl Kinds {
 }
 
 // Where the tones, changes and orders of some rows end.
-#[derive(Drop)]
+#[derive(Clone, Copy)]
 struct Ends {
     tones: u32,
     changes: u32,

@@ -23,7 +23,7 @@ use values::{
 };
 
 // What an item has for the value of its declaration.
-#[derive(Drop)]
+#[derive(Clone, Copy)]
 enum Content {
     Ratio(u32, u32),
     Root(u32, u32),
@@ -35,7 +35,7 @@ enum Content {
 }
 
 // How a row has what a value starts from.
-#[derive(Drop)]
+#[derive(Clone, Copy)]
 struct OriginCode {
     form: u8,
     number: i32,

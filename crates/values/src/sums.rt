@@ -9,7 +9,7 @@ use crate::{FACTORS, Origin, PER_DECLARATION, PERIOD_FORM, Value};
 use limits::{FARTHEST_TONE, LONGEST_PERIOD};
 
 // What a value starts from, and the sum of its terms.
-#[derive(Drop)]
+#[derive(Clone, Copy)]
 pub struct Parts {
     pub start: Value,
     pub sum: Value,

@@ -8,7 +8,7 @@ use crate::{BASE_FORM, Origin, PER_DECLARATION, PITCH_FORM, TERMS_PER_ROW};
 use cents::{Interval, Pitch};
 
 // What stands at a place of a row: nothing, the declaration that is its base, or the number of a term.
-#[derive(Drop)]
+#[derive(Clone, Copy)]
 pub enum Use {
     Nothing,
     Base(usize),
