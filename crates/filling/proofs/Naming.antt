@@ -35,7 +35,7 @@ naming_small {y} s k h = record { needed = go k.starred; named = added_below (mo
 
 all_small : {y : Harmony} → Small y → (ks : List HarmonyKey) → Each FitKey ks → Small (naming_all y ks)
 all_small s [] h = s
-all_small s (k ∷ ks) h = all_small (naming_small s k h.0) ks h.1
+all_small {y} s (k ∷ ks) h = all_small {y = naming y k} (naming_small s k h.0) ks h.1
 
 pub harmony_small : (ks : List HarmonyKey) → Each FitKey ks → Small (harmony_of ks)
 harmony_small ks h = all_small (record { needed = omega arith; named = omega arith }) ks h

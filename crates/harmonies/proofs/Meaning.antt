@@ -110,6 +110,7 @@ names_gives (k ∷ ks) r e = go (eqb r k.key) refl e (names_gives ks r)
     go false p q more = later k (more q)
 
 gives_names : (k : HarmonyKey) (ks : List HarmonyKey) → Memᴰ k ks → names ks k.key ≡ true
+gives_names k [] m = elim m [ ]
 gives_names k (j ∷ ks) (Memᴰ.head e) = either_left (eqb k.key j.key) _ (eq-eqb k.key j.key (ap (λ (i : HarmonyKey). i.key) e))
 gives_names k (j ∷ ks) (Memᴰ.tail m) = either_right (eqb k.key j.key) _ (gives_names k ks m)
 
@@ -134,6 +135,7 @@ needs_gives (k ∷ ks) r e = go k.starred refl (eqb r k.key) refl e (needs_gives
     go false p false o q more = after (more q)
 
 gives_needs : (k : HarmonyKey) (ks : List HarmonyKey) → Memᴰ k ks → k.starred ≡ false → needs ks k.key ≡ true
+gives_needs k [] m p = elim m [ ]
 gives_needs k (j ∷ ks) (Memᴰ.head e) p =
     ap (λ (s : Bool). cond s (needs ks k.key) (eqb k.key j.key || needs ks k.key)) (sym (ap (λ (i : HarmonyKey). i.starred) e) ∙ p)
     ∙ either_left (eqb k.key j.key) _ (eq-eqb k.key j.key (ap (λ (i : HarmonyKey). i.key) e))

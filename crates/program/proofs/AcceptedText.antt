@@ -72,6 +72,7 @@ fits_at {p} w i h = each_at (λ (d : Placed). Fits p d.is) p w.each i nothing h
 -- ---- the references of a value are to declarations of the program
 
 terms_within : (p : Program) (ts : List Term) {r : ℕ} → Uses (map (λ (t : Term). t.of) ts) r → Each (FitTerm p) ts → r < length p
+terms_within p [] x w = elim x [ ]
 terms_within p (t ∷ ts) (here e) w = rw e at w.0.of.within
 terms_within p (t ∷ ts) (there u) w = terms_within p ts u w.1
 

@@ -163,12 +163,14 @@ period_of_holds (add_term h w) = refl
 period_of_holds (subtract_term h w) = refl
 
 pub tones_of_holds : {n : ℕ} {is : List Item} → PositionItems n is → Some is → declaration_of is ≡ tones (grouped is).positions
+tones_of_holds no_position x = elim x [ ]
 tones_of_holds (muted_position w) something = refl
 tones_of_holds (kept_position t w) something = refl
 tones_of_holds (tone_position t w) something = refl
 
 pub harmony_of_holds : {set n : ℕ} {is : List Item} → KeyItems set n is → Some is → declaration_of is ≡ harmony (keys_of is)
 unfolding keys_of
+harmony_of_holds no_key x = elim x [ ]
 harmony_of_holds (plain_key l e w) something = refl
 harmony_of_holds (starred_key_case l e w) something = refl
 
@@ -182,6 +184,7 @@ keys_each (starred_key_case l e w) = let k = keys_each w in (omega (arith, k.0),
 
 some_key : {set n : ℕ} {is : List Item} → KeyItems set n is → Some is → 1 ≤ length (keys_of is)
 unfolding keys_of
+some_key no_key x = elim x [ ]
 some_key (plain_key l e w) something = omega arith
 some_key (starred_key_case l e w) something = omega arith
 
@@ -279,6 +282,7 @@ module _ (p : Program) where
 
     some_place : {n : ℕ} {is : List Item} → PlaceItems n is → Some is → 1 ≤ length (system_positions_of (is ++ ts))
     unfolding system_positions_of
+    some_place no_place x = elim x [ ]
     some_place (muted_place w) something = omega arith
     some_place (tone_place w) something = omega arith
 
@@ -300,6 +304,7 @@ module _ (p : Program) where
 
   some_position : {n : ℕ} {is : List Item} → PositionItems n is → Some is → 1 ≤ length (grouped is).positions
   unfolding grouped
+  some_position no_position x = elim x [ ]
   some_position (muted_position w) something = omega arith
   some_position (kept_position t w) something = omega arith
   some_position (tone_position t w) something = omega arith

@@ -246,6 +246,7 @@ fillings_mean ds none_filled = tt
 fillings_mean ds (one_filled h w) = (tt, (tt, fillings_mean ds w))
 
 widened : {k j : Kind} {ks : List Kind} → Memᴰ k (Retuning ∷ []) → Memᴰ k (Retuning ∷ j ∷ ks)
+widened (Memᴰ.tail x) = elim x [ ]
 widened (Memᴰ.head e) = Memᴰ.head e
 
 -- `top` is one more than the last number, from `low` on each is a retuning's

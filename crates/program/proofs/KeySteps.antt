@@ -51,10 +51,10 @@ unfolding Smaller
 more_keys s h no_key = no_key
 more_keys {m = zero} s h (plain_key l e ks) = absurd (omega arith)
 more_keys {few} {many} {m = suc m} s h (plain_key {v = v} l e ks) =
-    plain_key l (s v e) (more_keys (smaller_added few many v s) (le_of_suc-le-suc h) ks)
+    plain_key l (s v e) (more_keys {few = added few v} {many = added many v} (smaller_added few many v s) (le_of_suc-le-suc h) ks)
 more_keys {m = zero} s h (starred_key_case l e ks) = absurd (omega arith)
 more_keys {few} {many} {m = suc m} s h (starred_key_case {v = v} l e ks) =
-    starred_key_case l (s v e) (more_keys (smaller_added few many v s) (le_of_suc-le-suc h) ks)
+    starred_key_case l (s v e) (more_keys {few = added few v} {many = added many v} (smaller_added few many v s) (le_of_suc-le-suc h) ks)
 
 alike : (set : ℕ) → Smaller set set
 unfolding Smaller

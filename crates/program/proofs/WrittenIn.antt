@@ -74,6 +74,7 @@ module _ (text : List ℕ) (b : List Item) (ns : List ℕ) where
 
   tones_unwanted : {n : ℕ} {is : List Item} (rest : List Item) → PositionItems n is → Some is → wanted_by (is ++ rest) ≡ wanting.Nothing
   unfolding wanted_by
+  tones_unwanted rest no_position x = elim x [ ]
   tones_unwanted rest (muted_position w) something = refl
   tones_unwanted rest (kept_position t w) something = refl
   tones_unwanted rest (tone_position t w) something = refl
