@@ -1,6 +1,6 @@
 -- What the contracts of private functions cite: no part of the rules.
 use Rattle.std.specs.Prelude.{◌≡◌, Bool, true, false, List, ◌∷◌, ℕ, length, take, drop}
-use Rattle.std.proofs.Math.Option.{Option, none, some, Option·elim}
+use Rattle.std.proofs.Math.Option.{Option, none, some, Option-elim}
 use Rattle.hexadecimal.specs.Digits.{bytes_of}
 use Rattle.frames.specs.declared.Letters.{Letters}
 use Rattle.frames.specs.Frames.{are_capitals, letter_row_kind, Frame, bad, letter, key, dump, move, letter_row, framed}
@@ -21,7 +21,7 @@ head_digits = 6
 
 -- the frame of a row, by what stands behind its head
 abbrev pub row_behind : ℕ → ℕ → List ℕ → Frame
-row_behind house count line = Option·elim (bytes_of (drop head_digits line)) bad (λ (cs : List ℕ). framed (house ∷ letter_row_kind ∷ count ∷ cs))
+row_behind house count line = Option-elim (bytes_of (drop head_digits line)) bad (λ (cs : List ℕ). framed (house ∷ letter_row_kind ∷ count ∷ cs))
 
 -- the letters of a row stand at the start of an array
 abbrev pub HasLetters : List ℕ → Frame → Type 0
