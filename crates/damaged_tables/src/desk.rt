@@ -7,6 +7,7 @@ use crate::report::report;
 use crate::tally::Tally;
 use cents::{Interval, KeyNumber, Pitch};
 use keys::{HeldKeys, KEYS};
+use std::io;
 use tuning::{PLACES, Position, State, Tone};
 
 const WIDTH_AT_START: u8 = 12;
@@ -45,7 +46,7 @@ fn far_state(anchor: KeyNumber, tone: Tone) -> State {
 
 // The farthest tones of a state, at both ends of the keyboard: keys 127 and 0 as far above and below as a key can be, at 1,624,000,000 either way, and
 // keys 0 and 127 at the tones themselves.
-pub fn report_unplayable() {
+pub fn report_unplayable(rt: &impl Print) -> io::Result<()> {
     let first = KeyNumber(0);
     let last = KeyNumber(KEYS as u8 - 1);
     let high = Tone::At(Pitch(ABOVE_TONES - 1));
@@ -55,11 +56,11 @@ pub fn report_unplayable() {
         .try_unplayable(far_state(last, low), b"010200")
         .try_unplayable(far_state(first, low), b"020200")
         .try_unplayable(far_state(last, high), b"02027F");
-    report(b"unplayable keys", keys);
+    report(rt, b"unplayable keys", keys)
 }
 
 // At width 11 the last tone of the start is one past the width.
-pub fn report_state() {
+pub fn report_state(rt: &impl Print) -> io::Result<()> {
     let anchors = Tally::new()
         .try_tuning(start_at(ABOVE_KEYS as u8))
         .try_tuning(start_at(u8::MAX));
@@ -78,20 +79,20 @@ pub fn report_state() {
         .try_tones(0, used, Tone::At(Pitch(BELOW_TONES)))
         .try_tones(0, used, Tone::At(Pitch(ABOVE_TONES)));
     let past = Tally::new().try_tones(used, PLACES, Tone::At(Pitch(0)));
-    report(b"state, anchor out of range", anchors);
-    report(b"state, width out of range", widths);
-    report(b"state, period out of range", periods);
-    report(b"state, tone out of range", tones);
-    report(b"state, tone past the width", past);
+    report(rt, b"state, anchor out of range", anchors)?;
+    report(rt, b"state, width out of range", widths)?;
+    report(rt, b"state, period out of range", periods)?;
+    report(rt, b"state, tone out of range", tones)?;
+    report(rt, b"state, tone past the width", past)
 }
 
 // A row that is no logic, the first one past the count, and the greatest number.
-pub fn report_active() {
+pub fn report_active(rt: &impl Print) -> io::Result<()> {
     let active = Tally::new()
         .try_first_active(LOGIC as u32)
         .try_active(USED_ROWS as u32)
         .try_active(u32::MAX);
-    report(b"active logic", active);
+    report(rt, b"active logic", active)
 }
 
 // All keys of a house go down.
@@ -110,7 +111,7 @@ fn press_all(held: HeldKeys, house: u8) -> HeldKeys
 }
 
 // Held keys cannot be out of range: none, all of the one house, of the other, and of both are right.
-pub fn report_keys() {
+pub fn report_keys(rt: &impl Print) -> io::Result<()> {
     let none = HeldKeys::none();
     let first = press_all(none, 1);
     let held = Tally::new()
@@ -118,31 +119,33 @@ pub fn report_keys() {
         .try_held(first)
         .try_held(press_all(none, 2))
         .try_held(press_all(first, 2));
-    report(b"held keys", held);
+    report(rt, b"held keys", held)
 }
 
 // "For a frame: 19, 23, 22, then the rest." With the keys of house 1 held, one of either house goes down or up: 23 before 17 and 18, and the same
 // keys are held.
-pub fn report_order_of_checks() {
+pub fn report_order_of_checks(rt: &impl Print) -> io::Result<()> {
     report(
+        rt,
         b"damaged tables, buffer under 512 bytes",
         Tally::new().try_buffers(),
-    );
+    )?;
     report(
+        rt,
         b"damaged tables, bad frame",
         Tally::new().try_beginnings(b"010245"),
-    );
+    )?;
     let first = press_all(HeldKeys::none(), 1);
     let moves = Tally::new()
         .try_move(first, b"01053C")
         .try_move(first, b"01063C")
         .try_move(first, b"02053C")
         .try_move(first, b"02063C");
-    report(b"damaged tables, key down or up", moves);
+    report(rt, b"damaged tables, key down or up", moves)
 }
 
 // Rows of one letter and of 32, from either house. M is the sample's logic and U its order: a row that is bad behind them has pressed neither.
-pub fn report_letter_rows() {
+pub fn report_letter_rows(rt: &impl Print) -> io::Result<()> {
     let damaged = start_at(ABOVE_KEYS as u8);
     let longest = b"0204204D55555555555555555555555555555555555555555555555555555555555555";
     let rows = Tally::new()
@@ -162,6 +165,6 @@ pub fn report_letter_rows() {
         .try_bad_letter_row(
             b"0104214D5555555555555555555555555555555555555555555555555555555555555555",
         );
-    report(b"rows of letters, damage or a small buffer", rows);
-    report(b"rows of letters, bad", bad);
+    report(rt, b"rows of letters, damage or a small buffer", rows)?;
+    report(rt, b"rows of letters, bad", bad)
 }

@@ -6,6 +6,7 @@ use crate::lent::{LOGIC, LONG_SYSTEM, LONG_TONES, Lent, POSITIONS, Table, USED_O
 use crate::report::report;
 use crate::tally::Tally;
 use cents::{Interval, KeyNumber, Pitch};
+use std::io;
 use tables::{ROW_WIDTH, Row, encode};
 use tuning::{Amount, Retuning};
 
@@ -145,38 +146,42 @@ fn with_rows(kind: Kind, more: usize) -> Lent
 }
 
 // So many more are right, and one more than that is damage.
-fn report_kind(name: &[u8], kind: Kind, more: usize)
+fn report_kind(rt: &impl Print, name: &[u8], kind: Kind, more: usize) -> io::Result<()>
     requires { more < most_rows }
 {
     let tally = Tally::new()
         .try_right(with_rows(kind, more))
         .try_damaged(with_rows(kind, more + 1));
-    report(name, tally);
+    report(rt, name, tally)
 }
 
-pub fn report_kinds() {
+pub fn report_kinds(rt: &impl Print) -> io::Result<()> {
     report_kind(
+        rt,
         b"intervals, 256 and 257",
         Kind::Interval,
         MOST_INTERVALS - INTERVALS,
-    );
-    report_kind(b"tones, 256 and 257", Kind::Tone, MOST_TONES - TONES);
+    )?;
+    report_kind(rt, b"tones, 256 and 257", Kind::Tone, MOST_TONES - TONES)?;
     report_kind(
+        rt,
         b"tone systems, 32 and 33",
         Kind::System,
         MOST_SYSTEMS - SYSTEMS,
-    );
+    )?;
     report_kind(
+        rt,
         b"retunings, 672 and 673",
         Kind::Retuning,
         MOST_RETUNINGS - RETUNINGS,
-    );
-    report_kind(b"logics, 32 and 33", Kind::Logic, MOST_LOGICS - LOGICS);
+    )?;
+    report_kind(rt, b"logics, 32 and 33", Kind::Logic, MOST_LOGICS - LOGICS)?;
     report_kind(
+        rt,
         b"harmonies, 64 and 65",
         Kind::Harmony,
         MOST_HARMONIES - HARMONIES,
-    );
+    )
 }
 
 // A row whose part stands elsewhere.
@@ -206,18 +211,20 @@ fn with_shared_orders() -> Lent {
         .with_number(Table::Rows, at + TO, USED_ORDERS as i32)
 }
 
-pub fn report_parts() {
+pub fn report_parts(rt: &impl Print) -> io::Result<()> {
     report(
+        rt,
         b"tone systems, positions shared or left over",
         try_parts(LONG_SYSTEM),
-    );
+    )?;
     report(
+        rt,
         b"tones retunings, positions shared or left over",
         try_parts(LONG_TONES),
-    );
+    )?;
     let orders = Tally::new()
         .try_damaged(with_shared_orders())
         .try_damaged(with_part(LOGIC, 1, USED_ORDERS))
         .try_damaged(with_part(LOGIC, 0, USED_ORDERS - 1));
-    report(b"logics, orders shared or left over", orders);
+    report(rt, b"logics, orders shared or left over", orders)
 }

@@ -8,6 +8,7 @@ use crate::limits::{
 };
 use crate::report::report;
 use crate::tally::Tally;
+use std::io;
 use tables::{CHANGES, COUNTS, ORDERS, ROWS, TONES};
 
 // Where the counts stand.
@@ -19,7 +20,7 @@ const CHANGE_COUNT: usize = 2;
 
 const ORDER_COUNT: usize = 3;
 
-pub fn report_tones() {
+pub fn report_tones(rt: &impl Print) -> io::Result<()> {
     let codes = Tally::new().try_places(Table::Sounding, 0, POSITIONS, ABOVE_SOUNDING);
     let pitches = Tally::new()
         .try_places(Table::Tones, 0, POSITIONS, BELOW_TONES)
@@ -31,13 +32,13 @@ pub fn report_tones() {
     let unused = Tally::new()
         .try_places(Table::Sounding, POSITIONS, TONES, 1)
         .try_places(Table::Tones, POSITIONS, TONES, 1);
-    report(b"tones, neither muted nor sounding", codes);
-    report(b"tones, pitch out of range", pitches);
-    report(b"tones, muted with a pitch", muted);
-    report(b"tones, unused places", unused);
+    report(rt, b"tones, neither muted nor sounding", codes)?;
+    report(rt, b"tones, pitch out of range", pitches)?;
+    report(rt, b"tones, muted with a pitch", muted)?;
+    report(rt, b"tones, unused places", unused)
 }
 
-pub fn report_changes() {
+pub fn report_changes(rt: &impl Print) -> io::Result<()> {
     let kinds = Tally::new().try_places(Table::Kinds, 0, POSITIONS, ABOVE_KINDS);
     let sums = Tally::new()
         .try_places(Table::Changes, 0, POSITIONS, BELOW_SUMS)
@@ -49,13 +50,13 @@ pub fn report_changes() {
     let unused = Tally::new()
         .try_places(Table::Kinds, POSITIONS, CHANGES, 1)
         .try_places(Table::Changes, POSITIONS, CHANGES, 1);
-    report(b"changes, kind out of range", kinds);
-    report(b"changes, sum out of range", sums);
-    report(b"changes, muted with a number", muted);
-    report(b"changes, unused places", unused);
+    report(rt, b"changes, kind out of range", kinds)?;
+    report(rt, b"changes, sum out of range", sums)?;
+    report(rt, b"changes, muted with a number", muted)?;
+    report(rt, b"changes, unused places", unused)
 }
 
-pub fn report_orders() {
+pub fn report_orders(rt: &impl Print) -> io::Result<()> {
     let letters = Tally::new()
         .try_places(Table::Triggers, 0, USED_ORDERS, BELOW_LETTERS)
         .try_places(Table::Triggers, 0, USED_ORDERS, ABOVE_LETTERS);
@@ -72,17 +73,18 @@ pub fn report_orders() {
     let unused = Tally::new()
         .try_places(Table::Triggers, USED_ORDERS, ORDERS, 1)
         .try_places(Table::Calls, USED_ORDERS, ORDERS, 1);
-    report(b"orders, letter out of range", letters);
-    report(b"orders, trigger of no letter and no harmony", triggers);
+    report(rt, b"orders, letter out of range", letters)?;
+    report(rt, b"orders, trigger of no letter and no harmony", triggers)?;
     report(
+        rt,
         b"orders, call of nothing, of an interval, a tone, a harmony or a retuning with a placeholder",
         calls,
-    );
-    report(b"orders, unused places", unused);
+    )?;
+    report(rt, b"orders, unused places", unused)
 }
 
 // One more than there is room for, one less than is referred to, and the greatest number; a row or an order more than there are is an unused one.
-pub fn report_counts() {
+pub fn report_counts(rt: &impl Print) -> io::Result<()> {
     let counts = Tally::new()
         .try_number(Table::Counts, ROW_COUNT, ROWS as i32 + 1)
         .try_number(Table::Counts, ROW_COUNT, USED_ROWS as i32 - 1)
@@ -95,6 +97,10 @@ pub fn report_counts() {
         .try_number(Table::Counts, ORDER_COUNT, USED_ORDERS as i32 - 1)
         .try_number(Table::Counts, ORDER_COUNT, USED_ORDERS as i32 + 1)
         .try_places(Table::Counts, 0, COUNTS, -1);
-    report(b"counts", counts);
-    report(b"slices too short or too long", Tally::new().try_sizes());
+    report(rt, b"counts", counts)?;
+    report(
+        rt,
+        b"slices too short or too long",
+        Tally::new().try_sizes(),
+    )
 }

@@ -47,6 +47,7 @@ use rows::{
     report_systems, report_values,
 };
 use status::{BAD_FRAME, DONE};
+use std::io;
 use tally::Tally;
 use trial::send_frame;
 
@@ -59,25 +60,25 @@ fn try_right() -> Tally {
         .add(bad.number == BAD_FRAME)
 }
 
-fn main() {
-    report(b"right tables", try_right());
-    report_values();
-    report_systems();
-    report_retunings();
-    report_placeholders();
-    report_harmony();
-    report_logic();
-    report_rows();
-    report_tones();
-    report_changes();
-    report_orders();
-    report_counts();
-    report_kinds();
-    report_parts();
-    report_state();
-    report_active();
-    report_keys();
-    report_order_of_checks();
-    report_unplayable();
-    report_letter_rows();
+fn main(rt: HostRuntime) -> io::Result<()> {
+    report(&rt, b"right tables", try_right())?;
+    report_values(&rt)?;
+    report_systems(&rt)?;
+    report_retunings(&rt)?;
+    report_placeholders(&rt)?;
+    report_harmony(&rt)?;
+    report_logic(&rt)?;
+    report_rows(&rt)?;
+    report_tones(&rt)?;
+    report_changes(&rt)?;
+    report_orders(&rt)?;
+    report_counts(&rt)?;
+    report_kinds(&rt)?;
+    report_parts(&rt)?;
+    report_state(&rt)?;
+    report_active(&rt)?;
+    report_keys(&rt)?;
+    report_order_of_checks(&rt)?;
+    report_unplayable(&rt)?;
+    report_letter_rows(&rt)
 }

@@ -3,20 +3,18 @@ ghost use Rattle.std.specs.Prelude.{◌≤◌};
 ghost use Rattle.tables.specs.Layout.{most_rows};
 
 use crate::tally::Tally;
-use libc::STDOUT_FILENO;
+use std::io;
 
-pub fn report(name: &[u8], tally: Tally) {
-    io::write_all(STDOUT_FILENO, name);
-    io::write_all(STDOUT_FILENO, b": ");
-    io::print_decimal(STDOUT_FILENO, tally.right);
-    io::write_all(STDOUT_FILENO, b" of ");
-    io::print_decimal(STDOUT_FILENO, tally.tried);
-    io::write_all(STDOUT_FILENO, b"\n");
+pub fn report(rt: &impl Print, name: &[u8], tally: Tally) -> io::Result<()> {
+    let right = tally.right;
+    let tried = tally.tried;
+    rt.write_all(name)?;
+    println!(rt; ": {right} of {tried}")
 }
 
 // `wrong` has one number below and one above the range of the row's first, its second, `from` and `to`.
-pub fn report_row(name: &[u8], row: usize, wrong: [i32; 8])
+pub fn report_row(rt: &impl Print, name: &[u8], row: usize, wrong: [i32; 8]) -> io::Result<()>
     requires { row ≤ most_rows }
 {
-    report(name, Tally::new().try_row(row, wrong));
+    report(rt, name, Tally::new().try_row(row, wrong))
 }

@@ -10,6 +10,7 @@ use crate::limits::{
 };
 use crate::report::{report, report_row};
 use crate::tally::Tally;
+use std::io;
 use tables::ROW_WIDTH;
 
 // Where a row has its two own numbers and its bounds.
@@ -21,14 +22,14 @@ const FROM: usize = 3;
 
 const TO: usize = 4;
 
-pub fn report_values() {
+pub fn report_values(rt: &impl Print) -> io::Result<()> {
     let wrong = [BELOW_TONES, ABOVE_TONES, -1, 1, -1, 1, -1, 1];
-    report_row(b"interval", INTERVAL, wrong);
-    report_row(b"tone", TONE, wrong);
+    report_row(rt, b"interval", INTERVAL, wrong)?;
+    report_row(rt, b"tone", TONE, wrong)
 }
 
 // Bounds of lists: below 0, at no positions, at 61 of them, and past the used ones.
-pub fn report_systems() {
+pub fn report_systems(rt: &impl Print) -> io::Result<()> {
     let short = [
         -1,
         ABOVE_KEYS,
@@ -49,11 +50,11 @@ pub fn report_systems() {
         SHORT_END,
         LONG_END + 1,
     ];
-    report_row(b"tone system of 2 tones", SHORT_SYSTEM, short);
-    report_row(b"tone system of 60 tones", LONG_SYSTEM, long);
+    report_row(rt, b"tone system of 2 tones", SHORT_SYSTEM, short)?;
+    report_row(rt, b"tone system of 60 tones", LONG_SYSTEM, long)
 }
 
-pub fn report_retunings() {
+pub fn report_retunings(rt: &impl Print) -> io::Result<()> {
     let anchor = [-1, ABOVE_ANCHORS, -1, ABOVE_AMOUNTS, -1, 1, -1, 1];
     let width = [-1, ABOVE_WIDTHS, -1, ABOVE_AMOUNTS, -1, 1, -1, 1];
     let period = [-1, ABOVE_CHANGES, BELOW_SUMS, ABOVE_SUMS, -1, 1, -1, 1];
@@ -68,24 +69,24 @@ pub fn report_retunings() {
         SHORT_END,
         LONG_END + 1,
     ];
-    report_row(b"anchor retuning", ANCHOR, anchor);
-    report_row(b"width retuning", WIDTH, width);
-    report_row(b"period retuning", PERIOD, period);
-    report_row(b"tones retuning of 2 positions", SHORT_TONES, short);
-    report_row(b"tones retuning of 60 positions", LONG_TONES, long);
+    report_row(rt, b"anchor retuning", ANCHOR, anchor)?;
+    report_row(rt, b"width retuning", WIDTH, width)?;
+    report_row(rt, b"period retuning", PERIOD, period)?;
+    report_row(rt, b"tones retuning of 2 positions", SHORT_TONES, short)?;
+    report_row(rt, b"tones retuning of 60 positions", LONG_TONES, long)
 }
 
 // A retuning whose n is a placeholder has no numbers. Where a call hands 0 to `/`, the width's row has it, and the call gets 25.
-pub fn report_placeholders() {
+pub fn report_placeholders(rt: &impl Print) -> io::Result<()> {
     let wrong = [-1, 1, -1, 1, -1, 1, -1, 1];
     let n = ROW_WIDTH * WIDTH + SECOND;
     let divided = Tally::new().try_right_places(Table::Rows, n, n + 1, 0);
-    report_row(b"retuning with a placeholder", PATTERN, wrong);
-    report(b"width divided by 0", divided);
+    report_row(rt, b"retuning with a placeholder", PATTERN, wrong)?;
+    report(rt, b"width divided by 0", divided)
 }
 
 // A harmony's four numbers are its needed key numbers, and all that it names, each in two halves: one with a number past the half's last.
-pub fn report_harmony() {
+pub fn report_harmony(rt: &impl Print) -> io::Result<()> {
     let wrong = [
         -1, ABOVE_SETS, -1, ABOVE_SETS, -1, ABOVE_SETS, -1, ABOVE_SETS,
     ];
@@ -93,12 +94,12 @@ pub fn report_harmony() {
     let all = Tally::new()
         .try_right_places(Table::Rows, at, at + 4, 0)
         .try_right_places(Table::Rows, at, at + 4, ABOVE_SETS - 1);
-    report_row(b"harmony", HARMONY, wrong);
-    report(b"harmony, sets with no key number and with all", all);
+    report_row(rt, b"harmony", HARMONY, wrong)?;
+    report(rt, b"harmony, sets with no key number and with all", all)
 }
 
 // A start past the count; orders turned round, and past the used ones.
-pub fn report_logic() {
+pub fn report_logic(rt: &impl Print) -> io::Result<()> {
     let past = USED_ORDERS as i32 + 1;
     let wrong = [
         BELOW_LETTERS,
@@ -110,7 +111,7 @@ pub fn report_logic() {
         -1,
         past,
     ];
-    report_row(b"logic", LOGIC, wrong);
+    report_row(rt, b"logic", LOGIC, wrong)
 }
 
 // Bounds turned round.
@@ -145,19 +146,20 @@ fn try_logic_triggers() -> Tally {
     Tally::new().try_triggers(Table::Rows, ROW_WIDTH * LOGIC + FIRST)
 }
 
-pub fn report_rows() {
+pub fn report_rows(rt: &impl Print) -> io::Result<()> {
     let used = ROW_WIDTH * USED_ROWS;
     let extremes = Tally::new()
         .try_places(Table::Rows, 0, used, i32::MIN)
         .try_places(Table::Rows, 0, used, i32::MAX);
     let unused = Tally::new().try_places(Table::Rows, used, ROW_NUMBERS, 1);
-    report(b"rows, least and greatest number", extremes);
-    report(b"rows, bounds turned round", try_turned());
-    report(b"rows, start at what no start may call", try_starts());
+    report(rt, b"rows, least and greatest number", extremes)?;
+    report(rt, b"rows, bounds turned round", try_turned())?;
+    report(rt, b"rows, start at what no start may call", try_starts())?;
     report(
+        rt,
         b"rows, trigger of no letter and no harmony",
         try_logic_triggers(),
-    );
-    report(b"rows, bare @ with a number", try_bare());
-    report(b"rows, unused places", unused);
+    )?;
+    report(rt, b"rows, bare @ with a number", try_bare())?;
+    report(rt, b"rows, unused places", unused)
 }

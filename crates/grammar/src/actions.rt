@@ -4,7 +4,7 @@ ghost use Rattle.std.proofs.Math.Seq.{slice};
 ghost use Rattle.status.specs.Status.{item_too_many};
 ghost use Rattle.limits.specs.Limits.{most_harmony_key};
 ghost use Rattle.grammar.specs.Terminals.{letter_at};
-ghost use Rattle.grammar.specs.Reading.{allowed_amount, allowed, judged, limit, so_far, one_more_holds, held_first, judged_first, no_term, next_term, counted, signed, termed, positioned, named, marked, used, numbered, order_counted, with_order, key_counted, key_named, in_brackets, called, acted};
+ghost use Rattle.grammar.specs.Reading.{allowed_amount, allowed, judged, limit, so_far, one_more, held_first, judged_first, no_term, next_term, counted, signed, termed, positioned, named, marked, used, numbered, order_counted, with_order, key_counted, key_named, in_brackets, called, acted};
 ghost use Rattle.grammar.specs.Inner.{room_for_term, in_range};
 
 use crate::{
@@ -61,7 +61,7 @@ fn is_full(counts: Counts, kind: Kind) -> bool
 
 fn count_one_more(mut counts: Counts, kind: Kind) -> Counts
     requires { so_far kind counts < limit kind }
-    ensures { result ≡ one_more_holds kind counts }
+    ensures { result ≡ one_more kind counts }
 {
     match kind {
         Kind::Interval => counts.intervals += 1,

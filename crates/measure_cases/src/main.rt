@@ -6,7 +6,8 @@
 ghost use Rattle.std.specs.Prelude.{◌≤◌};
 
 use cents::{logarithm, measure};
-use libc::{STDIN_FILENO, STDOUT_FILENO};
+use std::io;
+use std::io::{ErrorKind, Read, Write};
 
 const CASE: usize = 9;
 
@@ -77,7 +78,7 @@ fn complement(v: i64) -> u64 {
     v as u64
 }
 
-fn write_value(v: i64) -> bool {
+fn write_value(output: &mut impl Write, v: i64) -> io::Result<()> {
     let n = complement(v);
     let bytes = [
         (n / 72057594037927936 % 256) as u8,
@@ -89,26 +90,30 @@ fn write_value(v: i64) -> bool {
         (n / 256 % 256) as u8,
         (n % 256) as u8,
     ];
-    io::write_all(STDOUT_FILENO, &bytes)
+    output.write_all(&bytes)
 }
 
 // One case; false at the end of the input.
-fn answer_case() -> bool {
-    let mut case = [0u8; 9];
-    if io::read_full(STDIN_FILENO, &mut case) < CASE {
-        return false;
+fn answer_case(input: &mut impl Read, output: &mut impl Write) -> io::Result<bool> {
+    let mut case = [0u8; CASE];
+    match input.read_exact(&mut case) {
+        Ok(()) => {}
+        Err(e) if e.kind() == ErrorKind::UnexpectedEof => return Ok(false),
+        Err(e) => return Err(e),
     }
     let first = four_bytes(case[1], case[2], case[3], case[4]);
     let second = four_bytes(case[5], case[6], case[7], case[8]);
-    write_value(value_of(case[0], first, second))
+    write_value(output, value_of(case[0], first, second))?;
+    Ok(true)
 }
 
-fn main() {
-    let mut left = u64::MAX;
-    while 0 < left {
-        if !answer_case() {
-            return;
+fn main(rt: HostRuntime) -> io::Result<()> {
+    let mut input = rt.stdin();
+    let mut output = rt.stdout();
+    for _ in 0..u64::MAX {
+        if !answer_case(&mut input, &mut output)? {
+            break;
         }
-        left -= 1;
     }
+    Ok(())
 }

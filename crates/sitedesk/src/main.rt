@@ -3,7 +3,8 @@
 #![tactic(auto)]
 
 ghost use Rattle.std.specs.Prelude.{◌≡◌, true, false, [], ◌≤◌, length, take};
-ghost use Rattle.libc.specs.Io.{Moved};
+ghost use Rattle.std.specs.Io.{ReadsAtMost};
+ghost use Rattle.std.specs.Io.KnownBytes.{ReadConsumes};
 ghost use Rattle.tables.specs.Layout.{tables_in};
 ghost use Rattle.frames.specs.Frames.{enough};
 ghost use Rattle.answers.specs.Answer.{smallest_buffer};
@@ -14,15 +15,21 @@ ghost use Rattle.sitedesk.specs.Serving.{Within, Ending, Came};
 use answers::SMALLEST_BUFFER;
 use frames::ENOUGH;
 use hexadecimal::LINE_FEED;
-use libc::{EINTR, ENOENT, STDIN_FILENO, STDOUT_FILENO};
 use opening::open_text;
 use protocol::{Desk, INDEX_SIZE, index_logics, is_valid};
 use status::DONE;
+use std::fs::File;
+use std::io;
+use std::io::{ErrorKind, Read, Write};
+use std::rt::Files;
 use stream::{Cursor, fill_ready};
 use tables::{CODES, NUMBERS};
 
 // The longest text, and a byte more, which shows that a text is too long.
 const TEXT_ROOM: usize = 32_769;
+
+// The room for a chunk of the input, and for answers that are written together.
+const CHUNK_ROOM: usize = 65_536;
 
 // What could be read of the text: nothing, for a reason that was told, or so many bytes.
 #[derive(Clone, Copy)]
@@ -47,70 +54,56 @@ struct Served {
 }
 
 // A read, again where a signal broke it off.
-fn read_some(file: i32, buffer: &mut [u8]) -> isize
-    ensures { Moved (length buffer.old) result }
+fn read_some<R: Read>(file: &mut R, buffer: &mut [u8]) -> io::Result<usize>
+    ensures bound { ReadsAtMost result buffer.new }
+    ensures bytes { ReadConsumes (R.remaining file.old) (R.remaining file.new) result buffer.new }
 {
-    let mut tries = u64::MAX;
-    while 0 < tries {
-        let got = libc::read(file, buffer);
-        if 0 <= got {
-            return got;
+    for _ in 0..u64::MAX {
+        match file.read(buffer) {
+            Err(e) if e.kind() == ErrorKind::Interrupted => {}
+            got => return got,
         }
-        if os::errno() != EINTR {
-            return got;
-        }
-        tries -= 1;
     }
-    -1
+    Err(io::Error::from(ErrorKind::Interrupted))
 }
 
-fn fail_to_load() -> Loaded
+fn fail_to_load(rt: &impl Eprint, e: io::Error) -> Loaded
     ensures { result ≡ Loaded.Failed }
 {
-    os::fail(b"logic.mut");
+    let _ = eprintln!(rt; "logic.mut: {e}");
     Loaded::Failed
 }
 
 // Reads the file to its end, or until the room is full.
-fn load_from(file: i32, text: &mut [u8]) -> Loaded
+fn load_from(rt: &impl Eprint, file: &mut impl Read, text: &mut [u8]) -> Loaded
     ensures { Within result text.old }
 {
     let mut n: usize = 0;
     while n < text.len() {
-        let rest = &mut text[n..];
-        let got = read_some(file, rest);
-        if got < 0 {
-            return fail_to_load();
+        match read_some(file, &mut text[n..]) {
+            Ok(0) => return Loaded::Bytes(n),
+            Ok(more) => n += more,
+            Err(e) => return fail_to_load(rt, e),
         }
-        let more = io::count(got, rest);
-        if more == 0 {
-            return Loaded::Bytes(n);
-        }
-        n += more;
     }
     Loaded::Bytes(n)
 }
 
 // "reads the text from `logic.mut` (if absent, empty)"
-fn load(text: &mut [u8]) -> Loaded
+fn load(rt: &(impl Files + Eprint), text: &mut [u8]) -> Loaded
     ensures { Within result text.old }
 {
-    let file = os::open_read(b"logic.mut");
-    if 0 <= file {
-        let loaded = load_from(file, text);
-        libc::close(file);
-        return loaded;
+    match File::open(rt, "logic.mut") {
+        Ok(mut file) => load_from(rt, &mut file, text),
+        Err(e) if e.kind() == ErrorKind::NotFound => Loaded::Bytes(0),
+        Err(e) => fail_to_load(rt, e),
     }
-    if os::errno() == ENOENT {
-        return Loaded::Bytes(0);
-    }
-    fail_to_load()
 }
 
-fn fail_to_write(desk: Desk) -> Served
+fn fail_to_write(rt: &impl Eprint, e: io::Error, desk: Desk) -> Served
     ensures { (result.held ≡ 0) × (result.written ≡ false) }
 {
-    os::fail(b"standard output");
+    let _ = eprintln!(rt; "standard output: {e}");
     Served {
         desk,
         held: 0,
@@ -120,6 +113,8 @@ fn fail_to_write(desk: Desk) -> Served
 
 // Serves a chunk to its end: answers are written whenever the output has no more room, and at the end.
 fn serve_chunk(
+    rt: &impl Eprint,
+    output: &mut impl Write,
     numbers: &[i32],
     codes: &[u16],
     index: &[u32; INDEX_SIZE],
@@ -145,8 +140,8 @@ fn serve_chunk(
         n = r.held;
         i = r.next;
         let used = r.used;
-        if !io::write_all(STDOUT_FILENO, &out[..used]) {
-            return fail_to_write(d);
+        if let Err(e) = output.write_all(&out[..used]) {
+            return fail_to_write(rt, e, d);
         }
     }
     Served {
@@ -170,31 +165,36 @@ fn close_line(chunk: &mut [u8], held: usize) -> usize
 }
 
 // Reads once, and closes the last line at the end of the input.
-fn take_input(chunk: &mut [u8], held: usize) -> Input
+fn take_input(rt: &impl Eprint, input: &mut impl Read, chunk: &mut [u8], held: usize) -> Input
     requires { 1 ≤ length chunk.old }
     ensures { result.bytes ≤ length chunk.old }
 {
-    let got = read_some(STDIN_FILENO, chunk);
-    if got < 0 {
-        os::fail(b"standard input");
-        return Input {
-            bytes: 0,
+    match read_some(input, chunk) {
+        Ok(0) => Input {
+            bytes: close_line(chunk, held),
             more: false,
-        };
-    }
-    let bytes = io::count(got, chunk);
-    if 0 < bytes {
-        return Input { bytes, more: true };
-    }
-    Input {
-        bytes: close_line(chunk, held),
-        more: false,
+        },
+        Ok(bytes) => Input { bytes, more: true },
+        Err(e) => {
+            let _ = eprintln!(rt; "standard input: {e}");
+            Input {
+                bytes: 0,
+                more: false,
+            }
+        }
     }
 }
 
 // Serves the input to its end. Tables and desk are tested once, before the first frame. A proved loop has to end, and nothing says that the input does: it
-// counts down from a number that no run uses up.
-fn serve_all(numbers: &[i32], codes: &[u16], start: Desk) {
+// counts up to a number that no run comes to.
+fn serve_all(
+    rt: &impl Eprint,
+    input: &mut impl Read,
+    output: &mut impl Write,
+    numbers: &[i32],
+    codes: &[u16],
+    start: Desk,
+) {
     let mut desk = start;
     if !is_valid(numbers, codes, desk) {
         return;
@@ -202,13 +202,14 @@ fn serve_all(numbers: &[i32], codes: &[u16], start: Desk) {
     let index = index_logics(numbers, codes);
     let mut held = [0u8; ENOUGH];
     let mut count: usize = 0;
-    let mut chunk = io::large_buffer();
-    let mut out = io::large_buffer();
-    let mut turns = u64::MAX;
-    while 0 < turns {
-        let input = take_input(&mut chunk, count);
-        let n = input.bytes;
+    let mut chunk = [0u8; CHUNK_ROOM];
+    let mut out = [0u8; CHUNK_ROOM];
+    for _ in 0..u64::MAX {
+        let taken = take_input(rt, input, &mut chunk, count);
+        let n = taken.bytes;
         let r = serve_chunk(
+            rt,
+            output,
             numbers,
             codes,
             &index,
@@ -220,39 +221,38 @@ fn serve_all(numbers: &[i32], codes: &[u16], start: Desk) {
         );
         desk = r.desk;
         count = r.held;
-        if !(input.more & r.written) {
+        if !(taken.more & r.written) {
             return;
         }
-        turns -= 1;
     }
 }
 
-fn write_line(line: &[u8]) {
-    if !io::write_all(STDOUT_FILENO, line) {
-        os::fail(b"standard output");
+fn write_line(rt: &impl Eprint, output: &mut impl Write, line: &[u8]) {
+    if let Err(e) = output.write_all(line) {
+        let _ = eprintln!(rt; "standard output: {e}");
     }
 }
 
 // Opens the text, and serves the input by its tables, or writes the line of its refusal.
-fn run(text: &[u8]) {
+fn run(rt: &impl Eprint, input: &mut impl Read, output: &mut impl Write, text: &[u8]) {
     let mut numbers = [0i32; NUMBERS];
     let mut codes = [0u16; CODES];
     let mut line = [0u8; SMALLEST_BUFFER];
     let opened = open_text(text, &mut numbers, &mut codes, &mut line);
     let n = opened.length;
     if opened.number != DONE {
-        write_line(&line[..n]);
+        write_line(rt, output, &line[..n]);
         return;
     }
     let desk = opened.desk;
-    serve_all(&numbers, &codes, desk);
+    serve_all(rt, input, output, &numbers, &codes, desk);
 }
 
-fn main() {
+fn main(rt: HostRuntime) {
     let mut text = [0u8; TEXT_ROOM];
-    let loaded = load(&mut text);
+    let loaded = load(&rt, &mut text);
     let Loaded::Bytes(n) = loaded else {
         return;
     };
-    run(&text[..n]);
+    run(&rt, &mut rt.stdin(), &mut rt.stdout(), &text[..n]);
 }

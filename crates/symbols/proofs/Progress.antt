@@ -3,9 +3,9 @@
 use Prim.Native.Nat.{ℕ, zero, suc, ◌+◌, ◌-◌, ◌<◌, ◌≤◌, min}
 use mathlib.Core.Path.{◌≡◌, refl, sym, ◌∙◌, ap, subst}
 use mathlib.Core.List.{List, [], ◌∷◌}
-use mathlib.Core.Bool.{Bool, true, false, cond, ◌&&◌, ◌||◌, and-eq-true_iff, false≢true}
+use mathlib.Core.Bool.{Bool, true, false, cond}
 use mathlib.Core.Option.{Option, none, some, none-ne-some, some-injective}
-use native.Mathlib.Nat.{le_refl, zero-add, add-zero}
+use native.Mathlib.Nat.{le_refl}
 use native.Mathlib.Numerals.{add-one}
 use native.Mathlib.Omega.{arith}
 use borrow.Author.Tests.{ltb-true}
@@ -16,7 +16,7 @@ use Rattle.symbols.specs.declared.MarkKind.{MarkKind}
 use Rattle.symbols.specs.declared.Symbol.{Symbol}
 use Rattle.symbols.specs.declared.Symbol.TheVariants.{Bad, End, Name, Number, Mark}
 use Rattle.symbols.specs.Bytes.{quote, point, hash, is_blank, is_digit, is_hex_digit, is_letter, in_name, take_while}
-use Rattle.symbols.specs.Symbols.{marks, mark_in, mark_or, mark_at, run_end, digits_to, pointed, decimal_at, hex_at, symbol_at, symbol_from, after_comment, next_symbol, after, cut, symbols_from, symbols}
+use Rattle.symbols.specs.Symbols.{marks, mark_in, mark_or, mark_at, run_end, digits_to, pointed, decimal_at, hex_at, symbol_at, symbol_from, after_comment, next_symbol, after, cut, symbols_from}
 use Rattle.symbols.specs.Names.{spelled, name_at}
 use Rattle.symbols.proofs.Parts.{part_window}
 use Rattle.symbols.proofs.Scan.{while_front}

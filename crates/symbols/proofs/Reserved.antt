@@ -8,7 +8,7 @@ use mathlib.Core.Bool.{Bool, true, false, cond, ◌&&◌, and-eq-true_iff, false
 use native.Mathlib.Omega.{arith}
 use borrow.Author.Tests.{leb-true, ltb-true, eq-eqb, ne_eqb}
 use lib.ListN.{length, get_or, take, drop, replicate, drop_of_length-le, length-map, get_or-map}
-use lib.Dec.{leb, ltb, eqb}
+use lib.Dec.{leb, ltb}
 use Rattle.symbols.specs.declared.words.Word.{Word}
 use Rattle.symbols.specs.declared.words.Word.TheVariants.{Plain}
 use Rattle.ascii.specs.Ascii.{bytes}
@@ -18,7 +18,7 @@ use Rattle.symbols.specs.Words.{words, word_in, word_of}
 use Rattle.symbols.specs.Inner.{row_word, row_kind, rows, row_of}
 use Rattle.symbols.proofs.Scan.{drop_here}
 use Rattle.symbols.proofs.Letters.{same_true}
-use Rattle.symbols.proofs.Table.{values, each}
+use Rattle.symbols.proofs.Table.{each}
 
 -- the tables of the code
 

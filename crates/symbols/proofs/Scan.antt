@@ -1,17 +1,17 @@
 -- Laws of specs/Symbols.antt in the shape that the code meets them: at a place of a text, and at its end.
 -- Assumes nothing.
-use Prim.Native.Nat.{ℕ, suc, ◌+◌, ◌<◌, ◌≤◌}
+use Prim.Native.Nat.{ℕ, ◌+◌, ◌<◌, ◌≤◌}
 use mathlib.Core.Path.{◌≡◌, refl, sym, ◌∙◌, ap}
 use mathlib.Core.List.{List, [], ◌∷◌}
-use mathlib.Core.Bool.{Bool, true, false, not, cond, ◌&&◌, ◌||◌, and-true, and-false}
+use mathlib.Core.Bool.{Bool, true, false, not, cond, ◌&&◌, and-true, and-false}
 use mathlib.Core.Option.{Option, none, some}
 use native.Mathlib.Nat.{add-zero, add-suc, suc-add}
 use native.Mathlib.Numerals.{add-one}
 use native.Mathlib.Omega.{arith}
-use borrow.Author.Tests.{lt-ltb, le-ltb, lt-leb, le-leb, eq-eqb, ne_eqb, not-true, not-false}
+use borrow.Author.Tests.{lt-ltb, le-ltb, eq-eqb, ne_eqb}
 use lib.ListN.{length, get_or, take, drop, drop_of_length-le}
 use lib.Seq.{drop-cons, drop-drop}
-use lib.Dec.{ltb, leb, eqb}
+use lib.Dec.{eqb}
 use Rattle.symbols.specs.declared.MarkKind.{MarkKind}
 use Rattle.symbols.specs.declared.MarkKind.TheVariants.{WidthOpen, WidthClose, Arrow}
 use Rattle.symbols.specs.declared.Sign.{Sign}
@@ -20,8 +20,8 @@ use Rattle.symbols.specs.declared.Symbol.{Symbol}
 use Rattle.symbols.specs.declared.Symbol.TheVariants.{Bad, End, Name, Number, Mark}
 use Rattle.symbols.specs.declared.runs.Run.TheVariants.{Comment}
 use Rattle.ascii.specs.Ascii.{byte}
-use Rattle.symbols.specs.Bytes.{same, quote, point, hash, is_blank, is_digit, is_hex_digit, is_letter, in_name, take_while}
-use Rattle.symbols.specs.Symbols.{marks, mark_in, mark_or, mark_at, run_end, digits_to, pointed, decimal_at, hex_at, symbol_at, symbol_from, after_comment, next_symbol}
+use Rattle.symbols.specs.Bytes.{same, quote, point, hash, is_blank, is_digit, is_letter, in_name, take_while}
+use Rattle.symbols.specs.Symbols.{marks, mark_in, mark_or, mark_at, run_end, digits_to, pointed, decimal_at, hex_at, symbol_at, symbol_from, after_comment}
 use Rattle.symbols.specs.Inner.{in_run, as_sign}
 
 -- at a place of the text

@@ -1,6 +1,6 @@
 // How far bytes of a kind go.
 ghost use Rattle.std.specs.Prelude.{◌≡◌, drop};
-ghost use Rattle.symbols.specs.Symbols.{run_end_step};
+ghost use Rattle.symbols.specs.Symbols.{run_end};
 ghost use Rattle.symbols.specs.Inner.{in_run};
 
 use crate::bytes;
@@ -27,7 +27,7 @@ fn in_run(run: Run, b: u8) -> bool
 
 // The first place from `at` on whose byte is not of the run.
 pub fn run_end(run: Run, text: &[u8], at: usize) -> usize
-    ensures { result ≡ run_end_step (in_run run) at (drop at text.now) }
+    ensures { result ≡ run_end (in_run run) at (drop at text.now) }
 {
     let mut i = at;
     while i < text.len() {

@@ -4,7 +4,7 @@ ghost use Rattle.std.proofs.Math.Seq.{slice};
 ghost use Rattle.symbols.specs.Bytes.{same};
 ghost use Rattle.symbols.specs.Names.{spelled};
 ghost use Rattle.symbols.specs.Words.{word_of};
-ghost use Rattle.symbols.specs.Inner.{row_of, row_word_step, row_kind};
+ghost use Rattle.symbols.specs.Inner.{row_of, row_word, row_kind};
 
 use crate::bytes;
 
@@ -125,7 +125,7 @@ fn row_of(name: &[u8]) -> usize
 
 fn length_of(row: usize) -> usize
     requires { row < 26 }
-    ensures { (result ≡ length (row_word_step row)) × (12 * row + result ≤ 300) }
+    ensures { (result ≡ length (row_word row)) × (12 * row + result ≤ 300) }
 {
     LENGTHS[row] as usize
 }
@@ -139,8 +139,8 @@ fn kind_of(row: usize) -> Word
 
 // Whether the name is the word of the row, which is as long.
 fn is_word(row: usize, name: &[u8]) -> bool
-    requires { (row < 26) × (length (row_word_step row) ≡ length name.now) }
-    ensures { result ≡ same (row_word_step row) (spelled name.now) }
+    requires { (row < 26) × (length (row_word row) ≡ length name.now) }
+    ensures { result ≡ same (row_word row) (spelled name.now) }
 {
     let spellings = SPELLINGS;
     let from = ROW_SIZE * row;

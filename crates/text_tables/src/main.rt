@@ -24,18 +24,22 @@
 //   18 0000000D: x is not named, at byte 13; the tables are zero again.
 #![tactic(auto)]
 
-ghost use Rattle.std.specs.Prelude.{◌≡◌, ◌+◌, ◌*◌, ◌≤◌, length};
+ghost use Rattle.std.specs.Prelude.{◌≡◌, ◌+◌, ◌*◌, ◌≤◌, length, IfOk};
 ghost use Rattle.text_tables.specs.Within.{Within};
 
 use hexadecimal::{bits_of, put};
-use libc::{STDIN_FILENO, STDOUT_FILENO};
 use mutabor::read_text;
+use std::io;
+use std::io::{ErrorKind, Read, Write};
 use tables::{
     CHANGES, CHANGES_AT, CODES, Counts, KINDS_AT, NUMBERS, ORDER_WIDTH, ORDERS, ORDERS_AT,
     ROW_WIDTH, ROWS, SOUNDING_AT, TONES, TONES_AT,
 };
 
 const LENGTH_BYTES: usize = 4;
+
+// The room for a text.
+const TEXT_ROOM: usize = 65_536;
 
 // The room for an answer.
 const ROOM: usize = 73_728;
@@ -195,59 +199,68 @@ fn put_tables(out: &mut [u8], numbers: &[i32], codes: &[u16]) -> usize
     put_orders(out, after_changes, orders, clamp(used.orders, ORDERS))
 }
 
-fn send(out: &[u8], n: usize) -> bool
+fn send(output: &mut impl Write, out: &[u8], n: usize) -> io::Result<()>
     requires { n ≤ length out.now }
 {
-    io::write_all(STDOUT_FILENO, &out[..n])
+    output.write_all(&out[..n])
+}
+
+// Fills the bytes from the input; false where the input ends before.
+fn take_bytes(input: &mut impl Read, bytes: &mut [u8]) -> io::Result<bool> {
+    match input.read_exact(bytes) {
+        Ok(()) => Ok(true),
+        Err(e) if e.kind() == ErrorKind::UnexpectedEof => Ok(false),
+        Err(e) => Err(e),
+    }
 }
 
 // Takes the next text from the input, as far as it is there whole and there is room for it.
-fn take_text(text: &mut [u8]) -> Next
-    ensures { Within result text.old }
+fn take_text(input: &mut impl Read, text: &mut [u8]) -> io::Result<Next>
+    ensures { IfOk result (λ next. Within next text.old) }
 {
     let mut bytes = [0u8; LENGTH_BYTES];
-    if io::read_full(STDIN_FILENO, &mut bytes) < LENGTH_BYTES {
-        return Next::End;
+    if !take_bytes(input, &mut bytes)? {
+        return Ok(Next::End);
     }
     let n = length_of(&bytes);
     if text.len() < n {
-        return Next::End;
+        return Ok(Next::End);
     }
-    if io::read_full(STDIN_FILENO, &mut text[..n]) < n {
-        return Next::End;
+    if !take_bytes(input, &mut text[..n])? {
+        return Ok(Next::End);
     }
-    Next::Text(n)
+    Ok(Next::Text(n))
 }
 
 // Reads a text, and writes what is left in the tables.
 fn answer_text(
+    output: &mut impl Write,
     text: &[u8],
     out: &mut [u8; ROOM],
     numbers: &mut [i32; NUMBERS],
     codes: &mut [u16; CODES],
-) -> bool {
+) -> io::Result<()> {
     let reading = read_text(text, numbers, codes);
     put(out, 0, reading.number);
     put_four(out, PLACE_AT, reading.place);
     let end = put_tables(out, numbers, codes);
-    send(out, end)
+    send(output, out, end)
 }
 
 // The tables are never cleared here: that is the reader's part.
-fn main() {
-    let mut text = io::large_buffer();
+fn main(rt: HostRuntime) -> io::Result<()> {
+    let mut input = rt.stdin();
+    let mut output = rt.stdout();
+    let mut text = [0u8; TEXT_ROOM];
     let mut out = [0u8; ROOM];
     let mut numbers = [0i32; NUMBERS];
     let mut codes = [0u16; CODES];
-    let mut left = u64::MAX;
-    while 0 < left {
-        let next = take_text(&mut text);
+    for _ in 0..u64::MAX {
+        let next = take_text(&mut input, &mut text)?;
         let Next::Text(n) = next else {
-            return;
+            break;
         };
-        if !answer_text(&text[..n], &mut out, &mut numbers, &mut codes) {
-            return;
-        }
-        left -= 1;
+        answer_text(&mut output, &text[..n], &mut out, &mut numbers, &mut codes)?;
     }
+    Ok(())
 }

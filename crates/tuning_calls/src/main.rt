@@ -11,7 +11,8 @@ ghost use Rattle.std.specs.Prelude.{◌≡◌, true, ◌≤◌};
 ghost use Rattle.tuning.specs.State.{valid_state};
 
 use cents::{Interval, KeyNumber, Pitch};
-use libc::{STDIN_FILENO, STDOUT_FILENO};
+use std::io;
+use std::io::{ErrorKind, Read, Write};
 use tuning::{
     Amount, Operator, PeriodChange, Position, PositionChange, Reply, Retuning, State, Tone,
     ToneChange, ToneChanges,
@@ -210,11 +211,11 @@ fn put_tone(answer: &mut [u8; 308], at: usize, tone: Tone)
     put_four(answer, at + 1, p.0);
 }
 
-fn send(answer: &[u8; 308]) -> bool {
-    io::write_all(STDOUT_FILENO, answer)
+fn send(output: &mut impl Write, answer: &[u8; 308]) -> io::Result<()> {
+    output.write_all(answer)
 }
 
-fn write_reply(reply: Reply) -> bool {
+fn write_reply(output: &mut impl Write, reply: Reply) -> io::Result<()> {
     let state = reply.state;
     let mut answer = [0u8; 308];
     answer[0] = reply.number;
@@ -229,26 +230,34 @@ fn write_reply(reply: Reply) -> bool {
         i += 1;
     }
     answer[307] = LINE_FEED;
-    send(&answer)
+    send(output, &answer)
 }
 
-fn main() {
+// Takes the next case; false where the input ends before its last byte.
+fn take_case(input: &mut impl Read, case: &mut [u8; CASE]) -> io::Result<bool> {
+    match input.read_exact(case) {
+        Ok(()) => Ok(true),
+        Err(e) if e.kind() == ErrorKind::UnexpectedEof => Ok(false),
+        Err(e) => Err(e),
+    }
+}
+
+fn main(rt: HostRuntime) -> io::Result<()> {
+    let mut input = rt.stdin();
+    let mut output = rt.stdout();
     let mut state = State::start();
-    let mut left = u64::MAX;
-    while 0 < left {
-        let mut case = [0u8; 552];
-        if io::read_full(STDIN_FILENO, &mut case) < CASE {
-            return;
+    for _ in 0..u64::MAX {
+        let mut case = [0u8; CASE];
+        if !take_case(&mut input, &mut case)? {
+            break;
         }
         // A call asks for a valid state, and leaves one.
         if !state.is_valid() {
-            return;
+            break;
         }
         let reply = call(state, &case);
         state = reply.state;
-        if !write_reply(reply) {
-            return;
-        }
-        left -= 1;
+        write_reply(&mut output, reply)?;
     }
+    Ok(())
 }

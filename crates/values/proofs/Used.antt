@@ -3,6 +3,7 @@ use Prim.Native.Nat.{ℕ, zero, suc, ◌+◌, ◌-◌, ◌*◌, ◌≤◌, ◌<�
 use mathlib.Core.Path.{◌≡◌, refl, sym, ◌∙◌, ap}
 use mathlib.Core.List.{List, [], ◌∷◌, ◌++◌, map}
 use native.Mathlib.Omega.{arith}
+use borrow.Author.Rules.{rules}
 use borrow.Author.Tests.{ne_eqb}
 use lib.IntN.{ℤ, pos, nat_abs}
 use lib.ListN.{length, get_or}
@@ -66,6 +67,11 @@ pub a_use : (x : CodeUse) → OneOf something (tag_of variants.the_type x) → A
 a_use Nothing h = absurd (miss something 0 tt h)
 a_use (Base k) h = record { use' = base k; read = refl; of = refl; taking = λ s v. refl }
 a_use (ATerm c) h = record { use' = term (term_of c); read = refl; of = refl; taking = λ s v. refl }
+
+pub a_use_else : (x : CodeUse) → (x ≡ Nothing → ⊥) → AUse x
+a_use_else Nothing h = absurd (h refl)
+a_use_else (Base k) h = a_use (Base k) (search rules)
+a_use_else (ATerm c) h = a_use (ATerm c) (search rules)
 
 pub place_passed : (x : CodeUse) {all rest : List Use} → Nothing ≡ x → all ≡ use_in x ++ rest → all ≡ rest
 place_passed x {rest} n e = e ∙ ap (λ y. use_in y ++ rest) (sym n)

@@ -2,7 +2,7 @@
 ghost use Rattle.std.specs.Prelude.{◌≡◌, ◌+◌, ◌≤◌, ◌<◌, nat_abs, ◌+ℤ◌, ◌*ℤ◌};
 ghost use Rattle.values.specs.Values.{Range, farthest_tone, within, ranged, plus, shifted, weight};
 ghost use Rattle.values.specs.Rows.{per_declaration, term_of, range_of};
-ghost use Rattle.values.specs.Inner.{size, greatest_factor, largest_measure, largest_term, largest_sum, meant, starting_at, begun, taken_at_step, Small};
+ghost use Rattle.values.specs.Inner.{size, greatest_factor, largest_measure, largest_term, largest_sum, meant, starting_at, begun, taken_at, Small};
 
 use crate::uses::Use;
 use crate::{FACTORS, Origin, PER_DECLARATION, PERIOD_FORM, Value};
@@ -115,7 +115,7 @@ pub fn begin(origin: Origin) -> Parts
 // With one use more, whose declaration has the value v.
 pub fn take(parts: Parts, used: Use, v: Value) -> Parts
     requires { Small parts largest_term × (size v ≤ farthest_tone) }
-    ensures { (result ≡ taken_at_step parts used v) × (size result.start ≤ largest_measure) × (size result.sum ≤ size parts.sum + largest_term) }
+    ensures { (result ≡ taken_at parts used v) × (size result.start ≤ largest_measure) × (size result.sum ≤ size parts.sum + largest_term) }
 {
     let start = parts.start;
     let sum = parts.sum;

@@ -1,6 +1,5 @@
 -- By the two cases of a change.
 use mathlib.Core.Path.{ap, ◌∙◌}
-use borrow.Author.Rules.{rules}
 use lib.IntN.{ℤ, ◌+ℤ◌}
 use Rattle.integers.proofs.Signed.{signed, sum}
 use Rattle.tuning.proofs.PeriodChange.apply.Goals as goal

@@ -1,8 +1,6 @@
 -- `tuning::State::change_period` meets its contract, each return by the law of its outcome. Assumes nothing.
 use mathlib.Core.Path.{◌≡◌, sym, ap, ◌∙◌}
 use native.Mathlib.Omega.{arith}
-use borrow.Author.Rules.{rules}
-use borrow.Author.Tests.{not-true, not-false}
 use lib.IntN.{ℤ}
 use lib.ListN.{length}
 use Rattle.tuning.specs.Tuning.{period_to, new_period}

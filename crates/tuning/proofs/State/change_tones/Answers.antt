@@ -1,7 +1,7 @@
 -- `tuning::State::change_tones` meets its contract, each return by the law of its outcome. Assumes nothing.
-use mathlib.Core.Path.{◌≡◌, sym, ◌∙◌}
+use mathlib.Core.Path.{◌≡◌, sym, ap, ◌∙◌}
+use mathlib.Core.Bool.{not}
 use mathlib.Core.List.{map}
-use borrow.Author.Rules.{rules}
 use lib.ListN.{length}
 use Rattle.tuning.specs.Tuning.{tones_to}
 use Rattle.tuning.specs.Desk.{called}
@@ -25,8 +25,8 @@ same c = sym (capped_tones (held c.args.self) (valid_held c.args.self c.requires
 pub returns-then-not-has_allowed_tones : goal.returns-then-not-has_allowed_tones
 returns-then-not-has_allowed_tones c =
     let a = (goal.at.returns-then-not-has_allowed_tones c).Start in
-    reply_refused a.args.self _ a.requires (long a) 14 (same a ∙ tones_beyond _ _ (tones_tested _ c.with_tones-next.ensures c.has_allowed_tones.ensures ∙ c.if-not-has_allowed_tones.true))
+    reply_refused a.args.self _ a.requires (long a) 14 (same a ∙ tones_beyond _ _ (tones_tested _ c.with_tones-next.ensures c.has_allowed_tones.ensures ∙ ap not c.if-not-has_allowed_tones.true))
 
 pub returns : goal.returns
 returns c =
-    reply_taken c.args.self _ _ (same (goal.at.returns c).Start ∙ tones_taken _ _ (tones_tested _ c.with_tones-next.ensures c.has_allowed_tones.ensures ∙ c.if-not-has_allowed_tones.false)) _ c.with_tones-next.ensures
+    reply_taken c.args.self _ _ (same (goal.at.returns c).Start ∙ tones_taken _ _ (tones_tested _ c.with_tones-next.ensures c.has_allowed_tones.ensures ∙ ap not c.if-not-has_allowed_tones.false)) _ c.with_tones-next.ensures

@@ -3,10 +3,8 @@ use mathlib.Core.Logic.{◌⊎◌, inl, inr, ⊎_elim}
 use mathlib.Core.Path.{◌≡◌, refl, sym, ap, ◌∙◌}
 use mathlib.Core.Bool.{Bool, true, ◌&&◌}
 use mathlib.Core.List.{List}
-use Prim.Native.Nat.{ℕ, ◌+◌, ◌-◌, ◌≤◌, ◌<◌}
+use Prim.Native.Nat.{ℕ, ◌+◌, ◌≤◌, ◌<◌}
 use native.Mathlib.Omega.{arith}
-use borrow.Author.Rules.{rules}
-use borrow.Author.Tests.{not-true, not-false}
 use lib.ListN.{length, get_or, take, drop, length-take}
 use lib.Seq.{get_or-take}
 use Rattle.tuning.specs.declared.Position.{Position}
@@ -55,10 +53,10 @@ pub returns-then-not-is_allowed : goal.returns-then-not-is_allowed
 returns-then-not-is_allowed c =
     let e = tested (goal.at.returns-then-not-is_allowed c).After-is_allowed in
     let s = c.args.self in
-    (rw (not-true c.is_allowed.result c.if-not-is_allowed.true) at e) ∙ sym (in_range_holds (take s.width s.tones))
+    (rw c.if-not-is_allowed.true at e) ∙ sym (in_range_holds (take s.width s.tones))
 
 pub loop-i-preserved : goal.loop-i-preserved
-loop-i-preserved c = let e = tested (goal.at.loop-i-preserved c).After-is_allowed in rw (not-false c.is_allowed.result c.if-not-is_allowed.false) at e
+loop-i-preserved c = let e = tested (goal.at.loop-i-preserved c).After-is_allowed in rw c.if-not-is_allowed.false at e
 
 pub returns : goal.returns
 returns c =

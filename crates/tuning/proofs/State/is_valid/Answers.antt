@@ -2,8 +2,7 @@
 use mathlib.Core.Path.{◌≡◌, refl, sym, ap, ◌∙◌}
 use mathlib.Core.Bool.{Bool, true, false, not, false≢true}
 use native.Mathlib.Omega.{arith}
-use borrow.Author.Rules.{rules}
-use borrow.Author.Tests.{le-leb, not-true, not-false}
+use borrow.Author.Tests.{le-leb}
 use Rattle.tuning.specs.State.{valid_state}
 use Rattle.tuning.specs.declared.State.{State}
 use Rattle.tuning.proofs.Valid.{Valid, valid_of}
@@ -29,13 +28,13 @@ pub returns-then-not-is_period : goal.returns-then-not-is_period
 returns-then-not-is_period c =
     let p = c.is_period in
     refused c.args.self
-    (λ v. false≢true (sym (not-true p.result c.if-not-is_period.true) ∙ p.ensures ∙ v.period))
+    (λ v. false≢true (sym c.if-not-is_period.true ∙ p.ensures ∙ v.period))
 
 pub returns-then-not-has_allowed_tones : goal.returns-then-not-has_allowed_tones
 returns-then-not-has_allowed_tones c =
     let a = c.has_allowed_tones in
     refused c.args.self
-    (λ v. false≢true (sym (not-true a.result c.if-not-has_allowed_tones.true) ∙ a.ensures ∙ ap not v.tones))
+    (λ v. false≢true (sym c.if-not-has_allowed_tones.true ∙ a.ensures ∙ ap not v.tones))
 
 pub returns : goal.returns
 unfolding valid_state
@@ -43,8 +42,8 @@ returns c =
     let s = c.args.self in
     let a = c.has_allowed_tones in
     let p = c.is_period in
-    let allowed = sym a.ensures ∙ not-false a.result c.if-not-has_allowed_tones.false in
-    let period = sym p.ensures ∙ not-false p.result c.if-not-is_period.false in
+    let allowed = sym a.ensures ∙ c.if-not-has_allowed_tones.false in
+    let period = sym p.ensures ∙ c.if-not-is_period.false in
     simp (
       le-leb 0 s.anchor.0 (omega arith),
       le-leb s.anchor.0 127 (omega arith),

@@ -1,6 +1,5 @@
 -- `tuning::State::retune` meets its contract, by the four kinds. Assumes nothing.
 use mathlib.Core.Path.{◌≡◌}
-use borrow.Author.Rules.{rules}
 use Rattle.tuning.specs.declared.Retuning.{Retuning}
 use Rattle.tuning.specs.declared.Reply.{Reply}
 use Rattle.tuning.specs.State.{replied, meant}

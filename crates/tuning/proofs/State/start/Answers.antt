@@ -1,16 +1,14 @@
 -- The loop's invariant: the first i places hold the start's tones, and t is the next one.
 use mathlib.Core.Path.{◌≡◌, refl, sym, ap, ◌∙◌}
-use mathlib.Core.List.{List, ◌++◌}
-use Prim.Native.Nat.{ℕ, zero, suc, ◌+◌, ◌*◌, ◌-◌, ◌≤◌, ◌<◌}
+use mathlib.Core.List.{◌++◌}
+use Prim.Native.Nat.{ℕ, zero, suc, ◌+◌, ◌*◌, ◌<◌}
 use native.Mathlib.Nat.{zero-add, add-zero}
 use native.Mathlib.Numerals.{add-one}
 use native.Mathlib.Omega.{arith}
-use borrow.Author.Rules.{rules}
 use lib.IntN.{ℤ, pos, sub_ℕ, ◌+ℤ◌, ◌*ℤ◌}
 use lib.ListN.{length, get_or, set, replicate, get_or-map, get_or-append}
-use lib.Seq.{paste, paste-zero, paste-suc}
+use lib.Seq.{paste-zero, paste-suc}
 use Rattle.cents.specs.Passages.{shift}
-use Rattle.cents.specs.declared.Pitch.{Pitch}
 use Rattle.integers.proofs.Signed.{signed, sum, minus, times}
 use Rattle.tuning.specs.Scale.{muted, sounds}
 use Rattle.tuning.specs.Tuning.{start, start_tones}
@@ -20,7 +18,7 @@ use Rattle.tuning.specs.declared.State.{State}
 use Rattle.tuning.specs.declared.Position.{Position}
 use Rattle.tuning.specs.declared.Tone.TheVariants.{At}
 use Rattle.tuning.proofs.Valid.{none}
-use Rattle.tuning.proofs.State.start.Invariants.{scale, filled, with_tones_holds, Filled}
+use Rattle.tuning.proofs.State.start.Invariants.{scale, filled, with_tones_holds}
 use Rattle.tuning.proofs.State.start.Goals as goal
 
 abbrev sounding : ℤ → Position

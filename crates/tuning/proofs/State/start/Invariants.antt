@@ -1,24 +1,16 @@
 -- The loop's invariant: the first i places hold the start's tones, and t is the next one.
-use mathlib.Core.Path.{◌≡◌, refl, sym, ap, ◌∙◌}
-use mathlib.Core.List.{List, ◌++◌}
-use Prim.Native.Nat.{ℕ, zero, suc, ◌+◌, ◌*◌, ◌-◌, ◌≤◌, ◌<◌}
-use native.Mathlib.Nat.{zero-add, add-zero}
-use native.Mathlib.Numerals.{add-one}
-use native.Mathlib.Omega.{arith}
-use borrow.Author.Rules.{rules}
-use lib.IntN.{ℤ, pos, sub_ℕ, ◌+ℤ◌, ◌*ℤ◌}
-use lib.ListN.{length, get_or, set, replicate, get_or-map, get_or-append}
-use lib.Seq.{paste, paste-zero, paste-suc}
-use Rattle.cents.specs.Passages.{shift}
+use mathlib.Core.Path.{◌≡◌}
+use mathlib.Core.List.{List}
+use Prim.Native.Nat.{ℕ, ◌+◌, ◌*◌, ◌-◌, ◌≤◌}
+use lib.IntN.{pos}
+use lib.ListN.{replicate}
+use lib.Seq.{paste}
 use Rattle.cents.specs.declared.Pitch.{Pitch}
-use Rattle.integers.proofs.Signed.{signed, sum, minus, times}
-use Rattle.tuning.specs.Scale.{muted, sounds}
-use Rattle.tuning.specs.Tuning.{start, start_tones}
+use Rattle.tuning.specs.Tuning.{start}
 use Rattle.tuning.specs.Desk.{cents}
-use Rattle.tuning.specs.State.{coded, position_of, places}
+use Rattle.tuning.specs.State.{coded, places}
 use Rattle.tuning.specs.declared.State.{State}
 use Rattle.tuning.specs.declared.Position.{Position}
-use Rattle.tuning.specs.declared.Tone.TheVariants.{At}
 use Rattle.tuning.proofs.Valid.{none}
 use Rattle.tuning.proofs.State.start.Given as goal
 

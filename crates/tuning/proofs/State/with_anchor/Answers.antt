@@ -1,9 +1,8 @@
 -- `tuning::State::with_anchor` meets its contract. The loop's invariant: the first i places are shifted, and nothing else has changed.
 -- Assumes nothing.
 use mathlib.Core.Path.{◌≡◌, ap, ◌∙◌}
-use Prim.Native.Nat.{◌-◌, ◌≤◌}
+use Prim.Native.Nat.{◌≤◌}
 use native.Mathlib.Omega.{arith}
-use borrow.Author.Rules.{rules}
 use lib.ListN.{length, get_or}
 use Rattle.tuning.specs.declared.Tone.{Tone}
 use Rattle.tuning.specs.declared.Position.{Position}
@@ -11,7 +10,7 @@ use Rattle.tuning.specs.declared.State.{State}
 use Rattle.tuning.specs.Inner.{size}
 use Rattle.tuning.proofs.Lists.{length_mapped}
 use Rattle.tuning.proofs.Valid.{none, valid_of, tone_size}
-use Rattle.tuning.proofs.Changed.{changed, changed_none, changed_get, changed_next, shifted, anchored_state}
+use Rattle.tuning.proofs.Changed.{changed_none, changed_get, changed_next, shifted, anchored_state}
 use Rattle.tuning.proofs.State.with_anchor.Goals.{At-loop-i, Start}
 use Rattle.tuning.proofs.State.with_anchor.Goals as goal
 

@@ -2,9 +2,8 @@
 -- Assumes nothing.
 use mathlib.Core.Path.{◌≡◌, ap, ◌∙◌}
 use mathlib.Core.List.{map}
-use Prim.Native.Nat.{◌-◌, ◌≤◌, min}
+use Prim.Native.Nat.{◌≤◌, min}
 use native.Mathlib.Omega.{arith}
-use borrow.Author.Rules.{rules}
 use lib.ListN.{length, get_or}
 use Rattle.tuning.specs.declared.Tone.{Tone}
 use Rattle.tuning.specs.declared.Position.{Position}
@@ -15,7 +14,7 @@ use Rattle.tuning.specs.State.{held, coded, tones_meant}
 use Rattle.tuning.specs.Inner.{size}
 use Rattle.tuning.proofs.Lists.{length_mapped}
 use Rattle.tuning.proofs.Valid.{none, valid_of, tone_size}
-use Rattle.tuning.proofs.Changed.{changed, changed_none, changed_get, changed_next, retoned, retoned_state}
+use Rattle.tuning.proofs.Changed.{changed_none, changed_get, changed_next, retoned, retoned_state}
 use Rattle.tuning.proofs.State.with_tones.Goals.{At-loop-i, Start}
 use Rattle.tuning.proofs.State.with_tones.Goals as goal
 

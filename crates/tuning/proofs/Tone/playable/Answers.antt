@@ -1,6 +1,5 @@
 -- By the two cases of a tone, and the test of a pitch.
 use mathlib.Core.Path.{sym, ◌∙◌}
-use borrow.Author.Rules.{rules}
 use Rattle.tuning.proofs.Tone.playable.Goals as goal
 
 pub returns-then-is_playable : goal.returns-then-is_playable

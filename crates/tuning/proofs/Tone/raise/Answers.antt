@@ -1,6 +1,5 @@
 -- By the two cases of a tone.
 use mathlib.Core.Path.{ap}
-use borrow.Author.Rules.{rules}
 use lib.IntN.{ℤ}
 use Rattle.integers.proofs.Signed.{signed, sum}
 use Rattle.tuning.specs.Inner.{size}

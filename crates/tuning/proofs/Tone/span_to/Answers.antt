@@ -2,7 +2,6 @@
 use mathlib.Core.Path.{ap}
 use Prim.Native.Nat.{◌+◌, ◌≤◌}
 use native.Mathlib.Omega.{arith}
-use borrow.Author.Rules.{rules}
 use lib.IntN.{ℤ, nat_abs}
 use Rattle.integers.proofs.Signed.{signed, diff}
 use Rattle.tuning.specs.declared.Reach.TheVariants.{By}
@@ -13,7 +12,7 @@ use Rattle.tuning.proofs.Tone.span_to.Goals as goal
 -- the two ends are no farther than the tones
 sizes : (c : goal.In-At-key) → nat_abs c.in-At.t.0 + nat_abs c.in-At-key.p.0 ≤ farthest_reach
 sizes c =
-    let a = c.before.before.before.before.before.before in
+    let a = c in
     omega (arith, a.requires, ap size c.in-At.is, ap size c.in-At-key.is)
 
 pub distance-requires : goal.distance-requires
@@ -21,8 +20,8 @@ distance-requires c = omega (signed, sizes c, diff c.in-At-key.p.0 c.in-At.t.0)
 
 pub returns : goal.returns
 returns c =
-    let p = c.key-1.given in
-    let t = c.self-1.given in (
-      rw (p.1, t.1) (ap (λ (z : ℤ). By (record { 0 = z })) c.distance.ensures),
-      omega (arith, sizes (goal.at.returns c).In-At-key, (diff p.0.0.0 t.0.0.0).size, ap nat_abs c.distance.ensures),
+    let t = c.in-At in
+    let p = c.in-At-key in (
+      rw (p.is, t.is) (ap (λ (z : ℤ). By (record { 0 = z })) c.distance.ensures),
+      omega (arith, sizes (goal.at.returns c).In-At-key, (diff p.p.0 t.t.0).size, ap nat_abs c.distance.ensures),
     )

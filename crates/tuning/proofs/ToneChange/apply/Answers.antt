@@ -1,7 +1,6 @@
 -- By the three cases of a change.
 use mathlib.Core.Path.{ap, ◌∙◌}
 use lib.IntN.{ℤ}
-use borrow.Author.Rules.{rules}
 use Rattle.tuning.specs.Tuning.{raised}
 use Rattle.tuning.specs.Desk.{cents}
 use Rattle.tuning.specs.State.{heard, tone_of}

@@ -1,6 +1,5 @@
 -- By the three cases of an amount.
 use native.Mathlib.Omega.{arith}
-use borrow.Author.Rules.{rules}
 use mir.Syntax.{w32}
 use mir.ValLaws.{to_z_pos}
 use Rattle.tuning.proofs.Steps.{whole}
