@@ -3,6 +3,7 @@ use mathlib.Core.Path.{◌≡◌, refl}
 use mathlib.Core.List.{List, [], ◌∷◌}
 use Prim.Native.Nat.{ℕ}
 use types.Run.{OneOf, miss}
+use borrow.Enum.Refused.{opened}
 use denote.Enum.Declared.{tag_of}
 use Rattle.grammar.specs.declared.Item.{Item}
 use Rattle.grammar.specs.declared.Item.TheVariants as item
@@ -10,9 +11,7 @@ use Rattle.grammar.specs.contracts.Item as variants
 use Rattle.names.specs.declared.Role.TheVariants.{Nothing}
 use Rattle.names.specs.Parts.{part}
 use Rattle.names.specs.Inner.{role_of}
-use borrow.Author.Rules.{rules}
-use Rattle.names.proofs.role_of.Statement.{statement}
-use Rattle.names.proofs.role_of.Tie as tie
+use Rattle.names.proofs.role_of.Goals as goal
 
 nameless : List ℕ
 nameless = 1 ∷ 2 ∷ 5 ∷ 7 ∷ 8 ∷ 9 ∷ 11 ∷ 12 ∷ 13 ∷ 14 ∷ 15 ∷ 16 ∷ 20 ∷ 21 ∷ 22 ∷ 23 ∷ 24 ∷ []
@@ -45,76 +44,30 @@ without (item.AmountName a b) h = refl
 without (item.Placeholder a) h = refl
 without (item.Argument a) h = refl
 
-enum-known-item : tie.Need-enum-known-item
-enum-known-item c = search rules
+pub returns-in-Declared : goal.returns-in-Declared
+returns-in-Declared c = rw c.in-Declared.is
 
-enum-known-item-2 : tie.Need-enum-known-item-2
-enum-known-item-2 c = search rules
+pub returns-in-Add : goal.returns-in-Add
+returns-in-Add c = rw c.in-Add.is
 
-enum-known-item-3 : tie.Need-enum-known-item-3
-enum-known-item-3 c = search rules
+pub returns-in-Subtract : goal.returns-in-Subtract
+returns-in-Subtract c = rw c.in-Subtract.is
 
-enum-known-item-4 : tie.Need-enum-known-item-4
-enum-known-item-4 c = search rules
+pub returns-in-Base : goal.returns-in-Base
+returns-in-Base c = rw c.in-Base.is
 
-enum-known-item-5 : tie.Need-enum-known-item-5
-enum-known-item-5 c = search rules
+pub returns-in-TonePosition : goal.returns-in-TonePosition
+returns-in-TonePosition c = rw c.in-TonePosition.is
 
-enum-known-item-6 : tie.Need-enum-known-item-6
-enum-known-item-6 c = search rules
+pub returns-in-Start : goal.returns-in-Start
+returns-in-Start c = rw c.in-Start.is
 
-enum-known-item-7 : tie.Need-enum-known-item-7
-enum-known-item-7 c = search rules
+pub returns-in-Order : goal.returns-in-Order
+returns-in-Order c = rw c.in-Order.is
 
-enum-known-item-8 : tie.Need-enum-known-item-8
-enum-known-item-8 c = search rules
+pub returns-in-Trigger : goal.returns-in-Trigger
+returns-in-Trigger c = rw c.in-Trigger.is
 
-returns : tie.Need-returns
-returns c = rw c.before.item.given.1
-
-returns_2 : tie.Need-returns-2
-returns_2 c = rw c.before.item2.given.1
-
-returns_3 : tie.Need-returns-3
-returns_3 c = rw c.before.item3.given.1
-
-returns_4 : tie.Need-returns-4
-returns_4 c = rw c.before.item4.given.1
-
-returns-5 : tie.Need-returns-5
-returns-5 c = rw c.before.item5.given.1
-
-returns-6 : tie.Need-returns-6
-returns-6 c = rw c.before.item6.given.1
-
-returns-7 : tie.Need-returns-7
-returns-7 c = rw c.before.item7.given.1
-
-returns-8 : tie.Need-returns-8
-returns-8 c = rw c.before.item8.given.1
-
-returns-9 : tie.Need-returns-9
+pub returns-in_default : goal.returns-in_default
 unfolding nameless
-returns-9 c = without c.before.args.item c.match.keys9
-
-pub role-of-spec : {M : Type 1} → statement M
-role-of-spec =
-    tie.close
-    (tie.spec
-    enum-known-item
-    enum-known-item-2
-    enum-known-item-3
-    enum-known-item-4
-    enum-known-item-5
-    enum-known-item-6
-    enum-known-item-7
-    enum-known-item-8
-    returns
-    returns_2
-    returns_3
-    returns_4
-    returns-5
-    returns-6
-    returns-7
-    returns-8
-    returns-9)
+returns-in_default c = without c.args.item (opened c.in_default.in_default-own.keys9)
