@@ -9,9 +9,8 @@ use Rattle.grammar.specs.declared.Item.TheVariants as item
 use Rattle.grammar.specs.contracts.Item as variants
 use Rattle.placeholders.specs.declared.Seen.TheVariants.{Other}
 use Rattle.placeholders.specs.Placeholders.{seen}
-use borrow.Author.Rules.{rules}
-use Rattle.placeholders.proofs.see.Statement.{statement}
-use Rattle.placeholders.proofs.see.Tie as tie
+use borrow.Enum.Refused.{opened}
+use Rattle.placeholders.proofs.see.Goals as goal
 
 others : List ℕ
 others = 1 ∷ 2 ∷ 3 ∷ 4 ∷ 5 ∷ 6 ∷ 7 ∷ 8 ∷ 9 ∷ 10 ∷ 11 ∷ 12 ∷ 13 ∷ 14 ∷ 15 ∷ 16 ∷ 19 ∷ 20 ∷ 21 ∷ []
@@ -44,60 +43,24 @@ other (item.AmountName a b) h = absurd (miss others 22 tt h)
 other (item.Placeholder a) h = absurd (miss others 23 tt h)
 other (item.Argument a) h = absurd (miss others 24 tt h)
 
-enum_told : tie.Need-enum-told
-enum_told c = search rules
+pub returns-in-Declared : goal.returns-in-Declared
+returns-in-Declared c = rw c.in-Declared.is
 
-enum-known-item : tie.Need-enum-known-item
-enum-known-item c = search rules
+pub returns-in-Placeholder : goal.returns-in-Placeholder
+returns-in-Placeholder c = rw c.in-Placeholder.is
 
-enum-known-item-2 : tie.Need-enum-known-item-2
-enum-known-item-2 c = search rules
+pub returns-in-AmountName : goal.returns-in-AmountName
+returns-in-AmountName c = rw c.in-AmountName.is
 
-enum-known-item-3 : tie.Need-enum-known-item-3
-enum-known-item-3 c = search rules
+pub returns-in-Start : goal.returns-in-Start
+returns-in-Start c = rw c.in-Start.is
 
-enum-known-item-4 : tie.Need-enum-known-item-4
-enum-known-item-4 c = search rules
+pub returns-in-Order : goal.returns-in-Order
+returns-in-Order c = rw c.in-Order.is
 
-enum-known-item-5 : tie.Need-enum-known-item-5
-enum-known-item-5 c = search rules
+pub returns-in-Argument : goal.returns-in-Argument
+returns-in-Argument c = rw c.in-Argument.is
 
-returns : tie.Need-returns
-returns c = rw c.enum_told.given.1
-
-returns_2 : tie.Need-returns-2
-returns_2 c = rw c.before.item.given.1
-
-returns_3 : tie.Need-returns-3
-returns_3 c = rw c.before.item2.given.1
-
-returns_4 : tie.Need-returns-4
-returns_4 c = rw c.before.item3.given.1
-
-returns-5 : tie.Need-returns-5
-returns-5 c = rw c.before.item4.given.1
-
-returns-6 : tie.Need-returns-6
-returns-6 c = rw c.before.item5.given.1
-
-returns-7 : tie.Need-returns-7
+pub returns-in_default : goal.returns-in_default
 unfolding others
-returns-7 c = other c.before.args.item c.match.keys7
-
-pub see-spec : {M : Type 1} → statement M
-see-spec =
-    tie.close
-    (tie.spec
-    enum_told
-    enum-known-item
-    enum-known-item-2
-    enum-known-item-3
-    enum-known-item-4
-    enum-known-item-5
-    returns
-    returns_2
-    returns_3
-    returns_4
-    returns-5
-    returns-6
-    returns-7)
+returns-in_default c = other c.args.item (opened c.in_default.in_default-own.keys7)
