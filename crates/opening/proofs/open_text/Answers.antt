@@ -1,0 +1,63 @@
+-- `opening::open_text` meets its contract, by the buffer's size and the text's number. Assumes nothing.
+use mathlib.Core.Path.{◌≡◌, refl, sym, ap, ◌∙◌}
+use mathlib.Core.List.{List}
+use Prim.Native.Nat.{ℕ}
+use native.Mathlib.Omega.{arith}
+use lib.ListN.{length}
+use Rattle.hexadecimal.specs.Lines.{line_of, begun_with}
+use Rattle.answers.specs.Answer.{refusal_bytes}
+use Rattle.tables.specs.Layout.{Tables, tables_in}
+use Rattle.mutabor.specs.Reading.{Left, reading}
+use Rattle.protocol.specs.Answers.{valid_desk}
+use Rattle.opening.proofs.Ready.{ready, opens, opens_small, opens_read, accepted_line, refused_line}
+use Rattle.opening.proofs.open_text.Goals.{Start}
+use Rattle.opening.proofs.open_text.Goals as goal
+
+-- what is lent, and what the text leaves
+abbrev lent : goal.Start → Tables
+lent a = tables_in a.args.numbers.now a.args.codes.now
+
+abbrev left : goal.Start → Left
+left a = reading a.args.text.now (lent a)
+
+pub returns-then-buffer-lt-SMALLEST_BUFFER : goal.returns-then-buffer-lt-SMALLEST_BUFFER
+returns-then-buffer-lt-SMALLEST_BUFFER c =
+    let a = (goal.at.returns-then-buffer-lt-SMALLEST_BUFFER c).Start in
+    record {
+      opens = opens (opens_small a.args.text.now (lent a) _ c.if-buffer-lt-SMALLEST_BUFFER.true) (record { number = refl; desk = c.start-desk.ensures; size = refl; tables = refl; buffer = refl });
+      right = λ e. absurd (omega (arith, e));
+    }
+
+pub returns-then-number-eq-DONE : goal.returns-then-number-eq-DONE
+returns-then-number-eq-DONE c =
+    let a = (goal.at.returns-then-number-eq-DONE c).Start in
+    let g = c.read_text-reading.ensures in
+    let n : (left a).number ≡ 0 = sym g.number ∙ c.if-number-eq-DONE.true in
+    let e = accepted_line (left a) n in
+    record {
+      opens = opens (opens_read a.args.text.now (lent a) _ c.if-buffer-lt-SMALLEST_BUFFER.false) (record {
+        number = g.number;
+        desk = c.start-desk.ensures;
+        size = sym (ap length e);
+        tables = g.tables;
+        buffer = sym (ap (λ (x : List ℕ). begun_with x a.args.buffer.now) e);
+      });
+      right = λ k. (λ x. valid_desk (g.tables x) (c.start-desk.ensures x)) ∙ ready a.args.text.now (lent a) n;
+    }
+
+pub returns : goal.returns
+returns c =
+    let a = (goal.at.returns c).Start in
+    let g = c.read_text-reading.ensures in
+    let r = c.answer_refusal-length.ensures in
+    let e = (λ x. line_of (refusal_bytes (g.number x) (g.place x))) ∙ sym (refused_line (left a) (λ n. c.if-number-eq-DONE.false (g.number ∙ n))) in
+    record {
+      opens = opens (opens_read a.args.text.now (lent a) _ c.if-buffer-lt-SMALLEST_BUFFER.false) (record {
+        number = g.number;
+        desk = c.start-desk.ensures;
+        size = r.0 ∙ ap length e;
+        tables = g.tables;
+        buffer = r.1 ∙ ap (λ (x : List ℕ). begun_with x a.args.buffer.now) e;
+      });
+      right = λ k. absurd (c.if-number-eq-DONE.false k);
+    }
