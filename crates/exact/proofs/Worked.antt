@@ -24,6 +24,7 @@ pub data CallBoth {A B : Scale} (F : Follows A B) : Option (Action A) → Option
 
 -- the terms of a sequence, tone or expression are intervals
 pub terms_refer : (p : Program) (ts : List Term) → Each (FitTerm p) ts → {r : ℕ} → Uses (map (λ (t : Term). t.of) ts) r → Refers p (meant parts.add) r
+terms_refer p [] w x = elim x [ ]
 terms_refer p (t ∷ ts) w (here e) = subst (Refers p (meant parts.add)) e w.0.of
 terms_refer p (t ∷ ts) w (there u) = terms_refer p ts w.1 u
 

@@ -8,7 +8,7 @@ use lib.Dec.{eqb}
 use lib.IntN.{ℤ}
 use lib.ListN.{length, length-append, length-map}
 use Rattle.grammar.specs.declared.Kind.{Kind}
-use Rattle.grammar.specs.declared.Kind.TheVariants.{System, Retuning}
+use Rattle.grammar.specs.declared.Kind.TheVariants.{System}
 use Rattle.grammar.specs.Moves.{kind_number}
 use Rattle.grammar.specs.Reading.{most_positions}
 use Rattle.tables.specs.Layout.{most_rows, most_tones, most_changes, most_orders}

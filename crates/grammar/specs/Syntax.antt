@@ -1,6 +1,6 @@
 -- The syntax of a text as diagrams: for each node the symbols that may follow, the node that each leads to, and what it does.
 -- Document 01, "Declarations"; 001, the syntax diagrams; document 02, 5/13 and 1/13.
-use Rattle.std.specs.Prelude.{Bool, true, false, List, [], ◌∷◌, ◌++◌}
+use Rattle.std.specs.Prelude.{true, false, List, [], ◌∷◌, ◌++◌}
 use Rattle.grammar.specs.declared.Kind.{Kind}
 use Rattle.grammar.specs.declared.Kind.TheVariants.{Interval, Tone, System, Retuning, Logic, Harmony}
 use Rattle.grammar.specs.declared.Action.{Action}

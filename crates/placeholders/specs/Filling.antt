@@ -1,6 +1,6 @@
 -- Numbers written in: document 02, 1/13, of a call that gives numbers: "So called it must act as the same retuning with those numbers written in". A call of a
 -- retuning whose n is a placeholder calls a declaration of its own, which stands behind those of the text: that retuning, with the number for the placeholder.
-use Rattle.std.specs.Prelude.{Bool, true, false, List, [], ◌∷◌, ◌++◌, ℕ, suc, length}
+use Rattle.std.specs.Prelude.{true, false, List, [], ◌∷◌, ◌++◌, ℕ, suc, length}
 use Rattle.status.specs.Status.{done, placeholder_wrong}
 use Rattle.symbols.specs.Bytes.{same}
 use Rattle.symbols.specs.Names.{name_at}

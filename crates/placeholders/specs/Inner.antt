@@ -1,21 +1,19 @@
 -- What the contracts of private functions and of those who call cite: no part of the rules.
-use Rattle.std.specs.Prelude.{◌≡◌, Bool, true, false, List, [], ◌∷◌, ◌++◌, ℕ, suc, ◌+◌, ◌≤◌, eqb, length, get_or, take, drop}
+use Rattle.std.specs.Prelude.{◌≡◌, true, false, List, [], ◌∷◌, ℕ, suc, ◌≤◌, eqb, length, get_or, take, drop}
 use Rattle.symbols.specs.Names.{name_at}
 use Rattle.status.specs.Status.{done}
 use Rattle.grammar.specs.declared.Item.{Item}
 use Rattle.grammar.specs.Items.{most_items, holding}
-use Rattle.names.specs.Names.{declared}
 use Rattle.names.specs.Inner.{beginnings}
 use Rattle.placeholders.specs.declared.Seen.TheVariants.{Other, Declares, Names, Wants, Calls, Hands}
 use Rattle.placeholders.specs.declared.Fault.{Fault}
 use Rattle.placeholders.specs.declared.Fault.TheVariants.{Nothing, At}
-use Rattle.placeholders.specs.declared.Wanting.{Wanting}
 use Rattle.placeholders.specs.declared.Wanting.TheVariants as wanting
 use Rattle.placeholders.specs.declared.Settling.{Settling}
 use Rattle.placeholders.specs.declared.writing.WrittenCall.{WrittenCall}
 use Rattle.placeholders.specs.declared.writing.WrittenCall.TheVariants as call
 use Rattle.placeholders.specs.Placeholders.{seen, named, handed, is_among, fault_of}
-use Rattle.placeholders.specs.Filling.{wanted_by, written_for, filled_in, unless_faulty, settled}
+use Rattle.placeholders.specs.Filling.{wanted_by, written_for, filled_in, settled}
 
 -- ---- what the functions read
 

@@ -82,7 +82,7 @@ module _ (t : Tables) (v : valid_tables t ≡ true) where
   pub desk_valid : (house : ℕ) (d : Desk) (ks : List ℕ) → Within t ks → Right d → Right (desk_from t house d ks)
   unfolding desk_from
   desk_valid house d [] h r = r
-  desk_valid house d (k ∷ ks) h r = desk_valid house _ ks h.1 (call_right house d k h.0 r)
+  desk_valid house d (k ∷ ks) h r = desk_valid house (call_on t house d k).desk ks h.1 (call_right house d k h.0 r)
 
   pub step_right : (d : Desk) → Right d → (house : ℕ) (x : Sought) (unfound : ℕ) → Right (triggered t house d x unfound).desk
   unfolding triggered
@@ -132,7 +132,7 @@ module _ (t : Tables) (v : valid_tables t ≡ true) where
   pub stream_right : (d : Desk) → Right d → (ls : List Lent) → Right (desk_after t d ls)
   unfolding desk_after
   stream_right d r [] = r
-  stream_right d r (l ∷ ls) = stream_right _ (answer_right d r l.frame l.room) ls
+  stream_right d r (l ∷ ls) = stream_right (answer_of t d l.frame l.room).desk (answer_right d r l.frame l.room) ls
 
 -- the same of a desk that is known to be valid
 pub valid_right : (t : Tables) (d : Desk) (h : valid_desk t d ≡ true) → length d.tuning.tones ≡ places → Right t (tables_right t d h) d

@@ -47,6 +47,33 @@ stays (item.AmountName a b) is h = refl
 stays (item.Argument a) is h = refl
 stays (item.Placeholder a) is h = absurd (miss nameless 23 tt h)
 
+stays_else : (i : Item) (is : List Item) → ((p : ℕ) → i ≡ item.Placeholder p → ⊥) → i ∷ is ≡ unnamed (i ∷ is)
+stays_else (item.Declared a b) is h = refl
+stays_else (item.Ratio a b) is h = refl
+stays_else (item.Root a b) is h = refl
+stays_else (item.Add a b) is h = refl
+stays_else (item.Subtract a b) is h = refl
+stays_else (item.Frequency a) is h = refl
+stays_else (item.Base a) is h = refl
+stays_else (item.AnchorKey a) is h = refl
+stays_else item.MutedPosition is h = refl
+stays_else item.KeptPosition is h = refl
+stays_else (item.TonePosition a) is h = refl
+stays_else item.AnchorKept is h = refl
+stays_else item.WidthKept is h = refl
+stays_else (item.Amount a b) is h = refl
+stays_else item.Period is h = refl
+stays_else item.Onward is h = refl
+stays_else (item.Letter a) is h = refl
+stays_else (item.Start a b) is h = refl
+stays_else (item.Order a b) is h = refl
+stays_else (item.Trigger a) is h = refl
+stays_else (item.Key a) is h = refl
+stays_else (item.StarredKey a) is h = refl
+stays_else (item.AmountName a b) is h = refl
+stays_else (item.Argument a) is h = refl
+stays_else (item.Placeholder a) is h = absurd (h a refl)
+
 module _ (items : List ℕ) (i to : ℕ) {x : Item} (e : x ≡ item_at items i) (h : i < to) where
   here : items_between items i to ≡ x ∷ items_between items (i + 1) to
   here = between_here items i to h ∙ ap (λ (y : Item). y ∷ items_between items (i + 1) to) (sym e)
@@ -57,6 +84,9 @@ module _ (items : List ℕ) (i to : ℕ) {x : Item} (e : x ≡ item_at items i) 
 
   pub parts_begin : OneOf nameless (tag_of variants.the_type x) → items_between items i to ≡ unnamed (items_between items i to)
   parts_begin t = here ∙ stays x (items_between items (i + 1) to) t ∙ ap unnamed (sym here)
+
+  pub parts_begin_else : ((p : ℕ) → x ≡ item.Placeholder p → ⊥) → items_between items i to ≡ unnamed (items_between items i to)
+  parts_begin_else t = here ∙ stays_else x (items_between items (i + 1) to) t ∙ ap unnamed (sym here)
 
 pub no_parts : (items : List ℕ) (i to : ℕ) → to ≤ i → items_between items to to ≡ unnamed (items_between items i to)
 no_parts items i to h = between_none items to to (omega arith) ∙ ap unnamed (sym (between_none items i to h))

@@ -1,0 +1,20 @@
+-- The invariant: what is written and what is left of the orders (`Making`). The measure is the items that are left.
+use Prim.Native.Nat.{◌-◌}
+use Rattle.tables.specs.Layout.{triggers_in, calls_in}
+use Rattle.program.specs.Program.{Order, orders_of}
+use Rattle.names.specs.Inner.{items_between}
+use Rattle.filling.specs.Inner.{trigger_of, call_of, FitOrder}
+use Rattle.filling.proofs.Writing.{Making}
+use Rattle.filling.proofs.lists.write_orders.Given as goal
+
+-- an order is written as it is
+abbrev pub as_is : Order → Order
+as_is x = x
+
+abbrev pub invariant-loop-i : goal.invariant-loop-i
+invariant-loop-i l =
+    Making FitOrder as_is trigger_of call_of (orders_of (items_between l.items l.from l.to)) l.at (triggers_in l.initial.orders) (calls_in l.initial.orders)
+    (orders_of (items_between l.items l.i l.to)) (triggers_in l.orders) (calls_in l.orders) l.count
+
+abbrev pub decreases-loop-i : goal.decreases-loop-i
+decreases-loop-i l = l.to - l.i
