@@ -2,7 +2,7 @@
 use mathlib.Core.Path.{◌≡◌, refl, sym, ◌∙◌, ap, subst}
 use mathlib.Core.Bool.{Bool, true, false}
 use mathlib.Core.List.Memᴰ
-use mathlib.Core.List.{List, [], ◌∷◌, ◌++◌, map, append-nil, append_assoc, Memᴰ}
+use mathlib.Core.List.{List, [], ◌∷◌, ◌++◌, map, append_assoc, Memᴰ}
 use Prim.Native.Nat.{ℕ, zero, suc, ◌+◌, ◌-◌, ◌*◌, ◌≤◌, ◌<◌}
 use native.Mathlib.Omega.{arith}
 use borrow.Author.Tests.{eq-eqb}
@@ -25,11 +25,11 @@ use Rattle.names.specs.Inner.{beginnings}
 use Rattle.names.proofs.Searching.{OfKinds}
 use Rattle.names.proofs.Meanings.{Means, AllMean, accepted as meant-well}
 use Rattle.values.proofs.Cases.{or_right}
-use Rattle.program.specs.Program.{Declaration, ratio, root, sequence, frequency, from, system, anchor, width, fresh_period, onward_period, tones, pattern, logic, harmony, asking, Placed, Program, parts_of, program_of}
+use Rattle.program.specs.Program.{Declaration, ratio, root, sequence, frequency, from, system, anchor, width, fresh_period, onward_period, tones, pattern, logic, harmony, asking, Placed, Program, program_of}
 use Rattle.program.specs.Meaning.{nothing, declaration_at}
-use Rattle.program.specs.Allowed.{kind_of, is_kind, is_pattern, Refers, Callable, Each, Fits, if_kind, count_of, orders_in, tones_count, tones_in, most_of, Allowed}
+use Rattle.program.specs.Allowed.{kind_of, is_kind, is_pattern, Refers, Each, Fits, if_kind, count_of, orders_in, tones_count, tones_in, most_of, Allowed}
 use Rattle.program.specs.Text.{accepted, read_text}
-use Rattle.program.proofs.Formed.{Body, an_amount, Formed, no_more, declaration, names_of, order_items, start_items, starts_in, FormedText}
+use Rattle.program.proofs.Formed.{an_amount, Formed, no_more, declaration, names_of, order_items, start_items, starts_in, FormedText}
 use Rattle.placeholders.specs.Placeholders.{after}
 use Rattle.placeholders.specs.declared.Wanting.TheVariants as wanting
 use Rattle.placeholders.specs.Filling.{wanted_by, Filled, filled_from, filled_in}

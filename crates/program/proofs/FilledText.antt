@@ -4,7 +4,7 @@ use mathlib.Core.Path.{◌≡◌, refl, sym, ◌∙◌, ap, subst}
 use mathlib.Core.Bool.{Bool, true, false}
 use mathlib.Core.Logic.{⊎_elim}
 use mathlib.Core.List.{List, [], ◌∷◌, ◌++◌, append_assoc, Memᴰ}
-use Prim.Native.Nat.{ℕ, zero, suc, ◌+◌, ◌-◌, ◌*◌, ◌≤◌, ◌<◌}
+use Prim.Native.Nat.{ℕ, zero, suc, ◌+◌, ◌-◌, ◌≤◌, ◌<◌}
 use native.Mathlib.Omega.{arith}
 use mathlib.Core.Option.{Option, some, none}
 use lib.Dec.{eqb}
@@ -21,7 +21,7 @@ use Rattle.grammar.specs.declared.Item.TheVariants as item
 use Rattle.grammar.specs.Moves.{kind_number}
 use Rattle.names.specs.Parts as parts
 use Rattle.names.specs.Parts.{Part, declares, gives, uses, says, part}
-use Rattle.names.specs.Names.{Named, named_by, declared, meant}
+use Rattle.names.specs.Names.{Named, named_by, declared}
 use Rattle.names.proofs.Searching.{OfKinds}
 use Rattle.names.proofs.Meanings.{Means, AllMean}
 use Rattle.placeholders.specs.declared.Seen.{Seen}

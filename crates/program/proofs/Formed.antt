@@ -1,11 +1,10 @@
 -- The items of a text that is read to its end, with their shape and their numbers: whole declarations one after the other.
 use mathlib.Core.Path.{◌≡◌}
-use mathlib.Core.Bool.{Bool, true, false}
+use mathlib.Core.Bool.{false}
 use mathlib.Core.List.{List, [], ◌∷◌, ◌++◌}
 use mathlib.Core.Option.{Option, some, none}
-use Prim.Native.Nat.{ℕ, zero, suc, ◌+◌, ◌≤◌, ◌<◌}
+use Prim.Native.Nat.{ℕ, suc, ◌+◌, ◌≤◌}
 use lib.Dec.{eqb}
-use lib.ListN.{length}
 use Rattle.limits.specs.Limits.{most_amount, most_harmony_key, most_harmony_keys, most_placeholders}
 use Rattle.sets.specs.Sets.{has, added}
 use Rattle.grammar.specs.declared.Kind.{Kind}

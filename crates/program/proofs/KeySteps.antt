@@ -1,13 +1,13 @@
 -- What the actions of harmonies lead to, from stage to stage.
 -- Assumes nothing.
 use mathlib.Core.Bool.{Bool, true, false, cond, ◌||◌}
-use mathlib.Core.List.{List, [], ◌∷◌}
-use mathlib.Core.Path.{◌≡◌, refl, sym, ◌∙◌, ap}
+use mathlib.Core.List.{List, ◌∷◌}
+use mathlib.Core.Path.{◌≡◌, refl, sym, ◌∙◌}
 use Prim.Native.Nat.{ℕ, zero, suc, ◌+◌, ◌-◌, ◌≤◌, ◌<◌}
 use native.Mathlib.Nat.{le_of_suc-le-suc}
 use native.Mathlib.Omega.{arith}
 use lib.Dec.{eqb}
-use Rattle.limits.specs.Limits.{most_harmony_key, most_harmony_keys}
+use Rattle.limits.specs.Limits.{most_harmony_keys}
 use Rattle.status.specs.Status.{done, symbol_not_allowed}
 use Rattle.sets.specs.Sets.{has, added}
 use Rattle.sets.proofs.Members.{has_added, has_zero}
@@ -19,13 +19,12 @@ use Rattle.grammar.specs.declared.Item.{Item}
 use Rattle.grammar.specs.declared.Item.TheVariants as item
 use Rattle.grammar.specs.declared.Progress.{Progress}
 use Rattle.grammar.specs.declared.Span.{Span}
-use Rattle.grammar.specs.declared.Outcome.{Outcome}
 use Rattle.grammar.specs.declared.Outcome.TheVariants.{Give, Refuse}
 use Rattle.grammar.specs.Syntax.{Terminal}
 use Rattle.grammar.specs.Terminals.{span_of}
 use Rattle.grammar.specs.Reading.{with_key, key_counted, key_named, acted}
-use Rattle.program.proofs.Formed.{KeyItems, no_key, plain_key, starred_key_case, Some, something, Body, a_harmony}
-use Rattle.program.proofs.Ahead.{nothing, body, key, keys, SomeKeys, keys_left, Leads, refused, passed, given, Move}
+use Rattle.program.proofs.Formed.{KeyItems, no_key, plain_key, starred_key_case, something, a_harmony}
+use Rattle.program.proofs.Ahead.{body, key, keys, SomeKeys, keys_left, Leads, refused, passed, given, Move}
 use Rattle.program.proofs.Steps.{full, passing, numbering, Ending}
 
 -- ---- keys that none of a set is are keys that none of a smaller set is

@@ -20,7 +20,7 @@ use Rattle.placeholders.specs.Placeholders.{after}
 use Rattle.placeholders.specs.Filling.{wanted_by}
 use Rattle.placeholders.proofs.Beginnings.{beginnings_append}
 use Rattle.values.proofs.Cases.{impossible}
-use Rattle.program.specs.Program.{Declaration, asking, declaration_of, parts_of, Program, program_of}
+use Rattle.program.specs.Program.{asking, declaration_of, parts_of, Program, program_of}
 use Rattle.program.specs.Meaning.{declaration_at}
 use Rattle.program.specs.Allowed.{is_pattern, order_count}
 use Rattle.program.proofs.Formed.{Body, a_ratio, a_root, a_sequence, a_frequency, from_tone, a_system, a_tones, a_logic, a_harmony, by_letter_case, by_harmony_case, Formed, no_more, declaration}

@@ -17,8 +17,7 @@ use Rattle.grammar.specs.declared.Item.{Item}
 use Rattle.grammar.specs.declared.Item.TheVariants as item
 use Rattle.grammar.specs.Reading.{read_items}
 use Rattle.symbols.specs.Names.{name_at}
-use Rattle.names.specs.Parts.{part}
-use Rattle.names.specs.Names.{Named, declared, meanings}
+use Rattle.names.specs.Names.{Named, declared}
 use Rattle.names.specs.Inner.{beginnings}
 use Rattle.names.proofs.Meanings.{AllMean, accepted as meant-well}
 use Rattle.placeholders.specs.declared.Seen.{Seen}
@@ -28,7 +27,7 @@ use Rattle.placeholders.specs.declared.Wanting.{Wanting}
 use Rattle.placeholders.specs.declared.Wanting.TheVariants as wanting
 use Rattle.placeholders.specs.declared.writing.WrittenCall.{WrittenCall}
 use Rattle.placeholders.specs.declared.writing.WrittenCall.TheVariants as call
-use Rattle.placeholders.specs.Placeholders.{seen, after, named, handed, is_among, takes, fault_from, fault_of}
+use Rattle.placeholders.specs.Placeholders.{seen, after, handed, is_among, takes, fault_from, fault_of}
 use Rattle.placeholders.specs.Filling.{wanted_by, written_for, renamed, Filled, filled_from, filled_in}
 use Rattle.placeholders.proofs.Alike.{Alike, same, start, order, none, alike_drop, alike_beginnings, alike_declared}
 use Rattle.placeholders.proofs.FilledLaws.{if_wanted, filled_by, call_is, filled_step, filled_alike, filled_length, fillings, settled_done}
@@ -37,19 +36,18 @@ use Rattle.values.proofs.Cases.{impossible}
 use Rattle.program.specs.Program.{Declaration, ratio, root, sequence, frequency, from, system, anchor, width, fresh_period, onward_period, tones, pattern, logic, harmony, asking, declaration_of, parts_of, Placed, Program, program_of}
 use Rattle.program.specs.Meaning.{nothing, declaration_at}
 use Rattle.program.specs.Allowed.{Each, kind_of, order_count}
-use Rattle.program.specs.Text.{accepted, read_text}
-use Rattle.program.specs.WrittenIn.{written_in, written_retuning, meant_items, one_of, CallWritten, CallsWritten}
+use Rattle.program.specs.WrittenIn.{written_in, written_retuning, meant_items, one_of, CallsWritten}
 use Rattle.program.proofs.Formed.{TermItems, no_term_holds, add_term, subtract_term, PositionItems, no_position, muted_position, kept_position, tone_position}
 use Rattle.program.proofs.Formed.{NameItems, no_name_case, a_name, Some, something, Body, anchor_kept_case, width_kept_case, an_amount, an_amount_name, after_names, fresh_period_case, onward_period_case, a_tones}
-use Rattle.program.proofs.Formed.{Formed, FormedText, start_count}
-use Rattle.program.proofs.Declares.{names_past, Plain, Inside, no_item, plain, one_order, one_start, declares_fit}
-use Rattle.program.proofs.AlikeItems.{Split, split, formed_alike}
+use Rattle.program.proofs.Formed.{FormedText, start_count}
+use Rattle.program.proofs.Declares.{names_past, Inside, no_item, plain, declares_fit}
+use Rattle.program.proofs.AlikeItems.{split, formed_alike}
 use Rattle.program.proofs.Standing.{Stands, stands, names_wanted, parts_whole}
 use Rattle.program.proofs.ReadFormed.{read_formed}
 use Rattle.program.proofs.Numbered.{formed_meant}
 use Rattle.program.proofs.AcceptedText.{steps}
-use Rattle.program.proofs.FilledText.{formed_handy, Handy, Small, Fillings, none_filled, one_filled, fillings_formed, fillings_from, handed_small, written_small, BelowBy, Below, calls_below}
-use Rattle.program.proofs.AllowedText.{filling, filled, fills, alike, program_filled, items_program}
+use Rattle.program.proofs.FilledText.{formed_handy, Handy, Small, Fillings, fillings_formed, fillings_from, handed_small, written_small, BelowBy, Below, calls_below}
+use Rattle.program.proofs.AllowedText.{filling, filled, alike, program_filled, items_program}
 
 -- ---- the retuning's own items, with numbers written in
 

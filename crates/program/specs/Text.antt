@@ -4,7 +4,7 @@ use Rattle.std.specs.Prelude.{List, ℕ, zero, suc, get_or}
 use Rattle.status.specs.Status.{depends_on_itself, value_out_of_range}
 use Rattle.values.specs.declared.Outcome.{Outcome}
 use Rattle.values.specs.declared.Outcome.TheVariants.{Done, Circular, OutOfRange}
-use Rattle.grammar.specs.Reading.{Read, read_items}
+use Rattle.grammar.specs.Reading.{read_items}
 use Rattle.names.specs.Names.{Meant, meanings}
 use Rattle.placeholders.specs.Filling.{settled}
 use Rattle.program.specs.Program.{Program, program_of}
