@@ -2,7 +2,7 @@
 ghost use Rattle.std.specs.Prelude.{◌≤◌};
 
 use crate::lent::{LOGIC, USED_ROWS};
-use crate::limits::{ABOVE_KEYS, ABOVE_PERIODS, ABOVE_TONES, BELOW_TONES};
+use crate::ranges::{ABOVE_KEYS, ABOVE_PERIODS, ABOVE_TONES, BELOW_TONES};
 use crate::report::report;
 use crate::tally::Tally;
 use cents::{Interval, KeyNumber, Pitch};

@@ -25,8 +25,8 @@
 mod desk;
 mod kinds;
 mod lent;
-mod limits;
 mod lists;
+mod ranges;
 mod report;
 mod rows;
 mod tally;

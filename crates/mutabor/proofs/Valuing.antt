@@ -5,21 +5,20 @@ use mathlib.Core.Bool.{Bool, true, false}
 use mathlib.Core.List.{List}
 use Prim.Native.Nat.{ℕ, zero, suc, ◌+◌, ◌<◌}
 use native.Mathlib.Omega.{arith}
-use lib.IntN.{ℤ, pos}
-use lib.ListN.{length, get_or}
+use lib.IntN.{ℤ}
+use lib.ListN.{length}
 use Rattle.status.specs.Status.{depends_on_itself, value_out_of_range}
 use Rattle.values.specs.Values.{is_beyond, circular, first_from, verdict, value_at, outcome}
 use Rattle.values.specs.Rows.{rows, Resolved}
 use Rattle.values.specs.declared.Fault.{Fault}
 use Rattle.values.specs.declared.Fault.TheVariants.{Nothing, At}
-use Rattle.values.specs.declared.Value.{Value}
 use Rattle.values.specs.declared.Outcome.{Outcome}
 use Rattle.values.specs.declared.Outcome.TheVariants.{Done, Circular, OutOfRange}
 use Rattle.tables.specs.Layout.{Tables}
 use Rattle.grammar.specs.declared.Item.{Item}
 use Rattle.program.specs.Program.{Program, program_of}
 use Rattle.program.specs.Meaning.{own, exactly, value_of, valued}
-use Rattle.program.specs.Text.{Verdict, place_of, by_value}
+use Rattle.program.specs.Text.{place_of, by_value}
 use Rattle.valuation.specs.Inner.{Ready}
 use Rattle.filling.specs.Tables.{tables_of}
 use Rattle.filling.specs.Inner.{Valued, blank}

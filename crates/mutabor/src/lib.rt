@@ -11,7 +11,7 @@ ghost use Rattle.tables.specs.Layout.{tables_in};
 ghost use Rattle.program.specs.Program.{program_of};
 ghost use Rattle.program.specs.Meaning.{valued};
 ghost use Rattle.placeholders.specs.Filling.{settled};
-ghost use Rattle.program.specs.Text.{place_of, by_value_holds, by_settling, by_meaning, read_text};
+ghost use Rattle.program.specs.Text.{place_of, by_value, by_settling, by_meaning, read_text};
 ghost use Rattle.valuation.specs.Inner.{Ready};
 ghost use Rattle.filling.specs.Inner.{blank};
 ghost use Rattle.mutabor.specs.Reading.{by_verdict, reading, Leaves};
@@ -74,7 +74,7 @@ fn take_declarations(
     requires value { items_in count items.now ≡ is }
     requires ready { Ready is items.now count starts.now n }
     requires codes_value { tables_in numbers.old codes.old ≡ blank }
-    ensures { Leaves (by_verdict blank (by_value_holds (program_of is) (valued (program_of is)))) result (tables_in numbers.new codes.new) }
+    ensures { Leaves (by_verdict blank (by_value (program_of is) (valued (program_of is)))) result (tables_in numbers.new codes.new) }
 {
     let mut values = [0i64; ROWS];
     let outcome = value_declarations(items, count, starts, n, &mut values);

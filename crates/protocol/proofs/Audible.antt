@@ -1,23 +1,22 @@
 -- Chords as triggers: what valid tables have for them, and the search for an order. Assumes nothing.
-use mathlib.Core.Path.{◌≡◌, refl, sym, ap, ◌∙◌, subst}
+use mathlib.Core.Path.{◌≡◌, refl, sym, ap, ◌∙◌}
 use mathlib.Core.Bool.{Bool, true, false}
 use mathlib.Core.List.{List, [], ◌∷◌}
 use mathlib.Core.Option.{Option, some, none, none-ne-some, some-injective}
-use Prim.Native.Nat.{ℕ, suc, ◌+◌, ◌-◌, ◌^◌, ◌≤◌, ◌<◌}
+use Prim.Native.Nat.{ℕ, ◌+◌, ◌-◌, ◌≤◌, ◌<◌}
 use native.Mathlib.Numerals.{add-one}
 use native.Mathlib.Omega.{arith}
 use borrow.Author.Tests.{eq-eqb, ne_eqb, leb-true}
-use lib.Dec.{leb, eqb}
-use lib.IntN.{ℤ}
+use lib.Dec.{leb}
 use lib.ListN.{length, get_or}
 use lib.Seq.{slice, slice-cons}
 use Rattle.limits.specs.Limits.{first_letter, last_letter}
 use Rattle.tuning.proofs.Lists.{both}
 use Rattle.tables.specs.declared.Row.{Row as TableRow}
 use Rattle.tables.specs.declared.Row.TheVariants.{Unused, Interval, Tone, System, Retuning, Logic, Harmony, Pattern}
-use Rattle.tables.specs.Layout.{Tables, row_count, order_count, row_at, read_at, row_of, harmony_base, as_logic, as_harmony}
-use Rattle.validity.specs.Valid.{is_capital, valid_tables}
-use Rattle.validity.proofs.Laws.{valid_of, ValidRow, ValidTrigger, of_letter_case, of_harmony, row_valid, order_trigger}
+use Rattle.tables.specs.Layout.{Tables, row_count, order_count, row_at, harmony_base, as_logic, as_harmony}
+use Rattle.validity.specs.Valid.{valid_tables}
+use Rattle.validity.proofs.Laws.{ValidRow, ValidTrigger, of_letter_case, of_harmony, row_valid, order_trigger}
 use Rattle.protocol.specs.Triggers.{first_order}
 use Rattle.protocol.proofs.Records.{past}
 use Rattle.protocol.specs.Inner.{is_trigger, first_of, SetsFit, Audible, AudibleLogic, AudibleRows}

@@ -23,8 +23,8 @@ use Rattle.answers.specs.Answer.{smallest_buffer}
 use Rattle.tables.specs.Layout.{Tables}
 use Rattle.protocol.specs.declared.Desk.{Desk}
 use Rattle.protocol.specs.Triggers.{Sought, action_at, struck}
-use Rattle.protocol.specs.Steps.{with_active, with_keys, by_action, call_on, desk_from, Step, triggered, letter_step, pressed_in_turn, analysed, key_moved, if_moved, move_step}
-use Rattle.protocol.specs.Answers.{Outcome, letter_outcome, move_outcome, letter_row_outcome, key_outcome, frame_outcome, valid_desk, unchanged, answer_of}
+use Rattle.protocol.specs.Steps.{with_active, with_keys, by_action, call_on, desk_from, Step, triggered, letter_step, pressed_in_turn, analysed, key_moved, move_step}
+use Rattle.protocol.specs.Answers.{letter_outcome, move_outcome, letter_row_outcome, key_outcome, frame_outcome, valid_desk, unchanged, answer_of}
 use Rattle.protocol.specs.Streams.{Lent, desk_after}
 use Rattle.protocol.specs.KeysHeld.{Moved, move_by, moves_of, is_down, held_by, held_along, KeysAreHistory}
 

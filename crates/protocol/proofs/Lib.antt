@@ -17,3 +17,4 @@ pub mod Singly
 pub mod Fits
 pub mod KeysHeld
 pub mod Unplayable
+pub mod Others

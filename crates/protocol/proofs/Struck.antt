@@ -8,7 +8,6 @@ use borrow.Author.Tests.{eqb-true}
 use types.Run.{OneOf, miss}
 use denote.Enum.Declared.{tag_of}
 use lib.IntN.{ℤ}
-use Rattle.integers.specs.Parts.{up}
 use Rattle.orders.specs.declared.Kind.{Kind}
 use Rattle.orders.specs.declared.Kind.TheVariants as kind
 use Rattle.tables.specs.declared.Row.{Row as TableRow}
@@ -22,7 +21,7 @@ use Rattle.protocol.specs.declared.Callee.{Callee}
 use Rattle.protocol.specs.declared.Callee.TheVariants.{Nothing, Row}
 use Rattle.protocol.specs.declared.triggers.Called.{Called}
 use Rattle.protocol.specs.declared.triggers.Called.TheVariants as name
-use Rattle.protocol.specs.Triggers.{Sought, answers_to, passes, first_logic, order_by, order_of, else_order, Struck, start_calls, calls_as, called, struck}
+use Rattle.protocol.specs.Triggers.{Sought, answers_to, passes, first_logic, order_by, order_of, else_order, Struck, calls_as, called, struck}
 use Rattle.protocol.specs.Inner.{found, kind_of, kind_at, is_logic_kind, by_kind, called_in, struck_as}
 use Rattle.protocol.proofs.Forms.{logic_kind}
 

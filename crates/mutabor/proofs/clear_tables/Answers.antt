@@ -1,0 +1,18 @@
+-- Cleared slices are cleared tables.
+use mathlib.Core.Path.{◌∙◌, ap}
+use mathlib.Core.List.{List}
+use lib.IntN.{ℤ, pos}
+use lib.ListN.{length, replicate}
+use Rattle.tables.specs.Layout.{tables_in}
+use Rattle.tables.proofs.Sections.{cleared}
+use Rattle.mutabor.proofs.clear_tables.Goals as goal
+
+pub returns : goal.returns
+returns c = let ns = c.args.numbers.now in
+    let cs = c.args.codes.now in
+    record {
+      zeros =
+          ap (λ (l : List ℤ). tables_in l c.clear_codes.new.table) c.clear_numbers.ensures
+          ∙ ap (tables_in (replicate (length ns) (pos 0))) c.clear_codes.ensures
+          ∙ cleared ns cs;
+    }
