@@ -3,10 +3,10 @@
 use mathlib.Core.Path.{◌≡◌, refl, ap, ap₂}
 use mathlib.Core.List.{List, [], ◌∷◌, map}
 use mathlib.Core.Option.{Option, some, none}
-use Prim.Native.Nat.{ℕ, ◌*◌}
-use lib.IntN.{ℤ, ◌+ℤ◌, ◌*ℤ◌, *ℤ_comm}
+use Prim.Native.Nat.{ℕ}
+use lib.IntN.{ℤ, ◌+ℤ◌, *ℤ_comm}
 use Rattle.values.specs.Values.{Term, weight}
-use Rattle.tuning.specs.Tuning.{Tuning, mute, Action, system}
+use Rattle.tuning.specs.Tuning.{Tuning, Action, system}
 use Rattle.tuning.specs.Desk.{cents, called}
 use Rattle.tuning.proofs.Held.{ValidTuning}
 use Rattle.tuning.proofs.Capped.{Alike, capped_alike, PositionAlike, both_mute, both_move, both_set, PositionsAlike, no_position, position_and, fresh_alike, onward_alike, list_alike}

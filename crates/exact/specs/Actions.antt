@@ -1,15 +1,14 @@
 -- What a declaration calls, worked out at any scale: at thousandths of a cent for the desk, at entries for the exact book.
 -- Document 01: "An entry gives a whole power to each of these ..; sequences and tones add entries, by factor and sign."
-use Rattle.std.specs.Prelude.{List, [], ◌∷◌, map, ℕ, zero, suc, ℤ, pos, length}
+use Rattle.std.specs.Prelude.{List, [], ◌∷◌, map, ℕ, zero, suc, length}
 use Rattle.std.proofs.Math.Option.{Option, some, none}
 use Rattle.values.specs.Values.{Term, weight}
 use Rattle.tuning.specs.Scale.{Scale, Sound, muted, sounds}
-use Rattle.tuning.specs.Tuning.{Tuning, PeriodTo, fresh, onward, PositionTo, mute, move, set_to, Action, anchor_to, width_to, period_to, tones_to, system}
+use Rattle.tuning.specs.Tuning.{fresh, onward, PositionTo, mute, move, set_to, Action, anchor_to, width_to, period_to, tones_to, system}
 use Rattle.program.specs.Program as text
 use Rattle.program.specs.Program.{Declaration, Placed, Program, Position}
 use Rattle.program.specs.Meaning.{declaration_at}
-use Rattle.exact.specs.Book as book
-use Rattle.exact.specs.Book.{Declared, frequency, ratio, root, Powers, declared, once, entries, Made}
+use Rattle.exact.specs.Book.{Declared, frequency, ratio, root, Powers, declared, once, entries}
 
 module _ (S : Scale) (step : ℕ → S.Step) (tone : ℕ → S.Tone) where
   -- "Sequences add factor times measure": each term its factor, with its sign, times its interval

@@ -1,5 +1,5 @@
 -- An entry: whole powers of numbers, and the exact value that it stands for. Document 01, "Exact comparison for demand 3".
-use Rattle.std.specs.Prelude.{List, [], ◌∷◌, ℕ, zero, suc, ◌+◌, ◌-◌, ◌*◌, ◌^◌, ℤ, pos, negsuc, nat_abs, ◌+ℤ◌, ◌*ℤ◌}
+use Rattle.std.specs.Prelude.{List, [], ◌∷◌, ℕ, zero, suc, ◌+◌, ◌*◌, ◌^◌, ℤ, pos, negsuc, nat_abs}
 use Rattle.cents.specs.Distance.{Compared, Sharply}
 
 -- A number: the degree-th root of over / under, in hertz where `hertz` is 1, and a bare ratio where it is 0. `counts` is 1 for a declared number, and 0
