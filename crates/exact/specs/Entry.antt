@@ -38,7 +38,7 @@ unfoldable pub part : ℤ → ℕ → ℕ → ℕ
 part (pos k) p q = p ^ k
 part (negsuc k) p q = q ^ suc k
 
--- the exact value to the power `degrees l`, as a fraction: of x^e·r, with x^A and r^D whole fractions, the power A-as-D is ((x^A)^e)^D·(r^D)^A
+-- the exact value to the power `degrees l`, as a fraction: of x^e·r, with x^A and r^D whole fractions, the power A·D is ((x^A)^e)^D·(r^D)^A
 unfoldable pub above : Entry → ℕ
 above [] = 1
 above (f ∷ l) = part f.power f.of.over f.of.under ^ degrees l * above l ^ degree_of f.power f.of.degree

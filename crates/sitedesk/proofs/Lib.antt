@@ -1,2 +1,3 @@
 -- What several proofs cite.
+pub mod Texts
 pub mod Ways
