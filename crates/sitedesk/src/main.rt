@@ -2,7 +2,8 @@
 // What is answered is written before more input is waited for.
 #![tactic(auto)]
 
-ghost use Rattle.std.specs.Prelude.{◌≡◌, true, false, [], ◌≤◌, length, take};
+ghost use Rattle.std.specs.Prelude.{◌≡◌, ◌≢◌, true, false, [], ◌≤◌, length, take, IfErr};
+ghost use Rattle.std.specs.IoError.{error_kind};
 ghost use Rattle.std.specs.Io.{ReadsAtMost};
 ghost use Rattle.std.specs.Io.KnownBytes.{ReadConsumes};
 ghost use Rattle.tables.specs.Layout.{tables_in};
@@ -57,6 +58,7 @@ struct Served {
 fn read_some<R: Read>(file: &mut R, buffer: &mut [u8]) -> io::Result<usize>
     ensures bound { ReadsAtMost result buffer.new }
     ensures bytes { ReadConsumes (R.remaining file.old) (R.remaining file.new) result buffer.new }
+    ensures retried { IfErr result (λ e. error_kind e ≢ ErrorKind.Interrupted) }
 {
     for _ in 0..u64::MAX {
         match file.read(buffer) {
@@ -64,7 +66,7 @@ fn read_some<R: Read>(file: &mut R, buffer: &mut [u8]) -> io::Result<usize>
             got => return got,
         }
     }
-    Err(io::Error::from(ErrorKind::Interrupted))
+    Err(io::Error::from(ErrorKind::TimedOut))
 }
 
 fn fail_to_load(rt: &impl Eprint, e: io::Error) -> Loaded

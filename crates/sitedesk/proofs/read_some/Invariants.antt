@@ -1,5 +1,4 @@
 -- A read that was broken off has taken no byte.
-use Rattle.std.proofs.Common.{◌≡◌, length}
 use Rattle.std.specs.Io.KnownBytes.{Keeps}
 use Rattle.sitedesk.proofs.read_some.Given as goal
 
