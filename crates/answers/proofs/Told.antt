@@ -3,7 +3,7 @@
 use Prim.Native.Nat.{ℕ, ◌-◌, ◌^◌, ◌<◌}
 use mathlib.Core.Path.{◌≡◌, refl, ap, ◌∙◌}
 use mathlib.Core.List.{List, [], ◌∷◌}
-use mathlib.Core.Option.{some}
+use Rattle.std.specs.Prelude.{Some}
 use native.Mathlib.Omega.{arith}
 use borrow.Author.Tests.{ne_eqb}
 use lib.IntN.{ℤ, pos, negsuc, nat_abs}
@@ -43,9 +43,9 @@ sound_back muted h = refl
 sound_back (sounds z) h = rw (ne_eqb (twos z) muted_bits (not_muted z h)) (ap sounds (twos_back z (omega (signed, abs z))))
 
 pub key_told : (house key number : ℕ) → house < 256 → key < 256 → number < 256 → (t : Sound ℤ) → Told t
-    → told_by (line_of (key_bytes house key number t)) ≡ some (record { number = number; sound = t })
+    → told_by (line_of (key_bytes house key number t)) ≡ Some (record { number = number; sound = t })
 unfolding told_by
 key_told house key number a b c t h =
     let bs = key_bytes house key number t in
     rw (feed_gone bs, bytes_back bs (a, (omega arith, (b, (c, four_bytes (bits_of t))))))
-    (ap (λ (x : Sound ℤ). some (record { number = number; sound = x })) (ap sound_by (four_back (bits_of t) (bits_small t h)) ∙ sound_back t h))
+    (ap (λ (x : Sound ℤ). Some (record { number = number; sound = x })) (ap sound_by (four_back (bits_of t) (bits_small t h)) ∙ sound_back t h))

@@ -1,7 +1,6 @@
 -- What the line of an answer to a key's frame tells, for those who read lines: "An answer repeats the frame, then the number, then: .. key: pitch", "four bytes, high
 -- first, two's complement", "muted is 80000000".
-use Rattle.std.specs.Prelude.{cond, List, ℕ, ◌-◌, eqb, ℤ, length, take, drop, get_or}
-use Rattle.std.proofs.Math.Option.{Option, map}
+use Rattle.std.specs.Prelude.{cond, List, ℕ, ◌-◌, eqb, ℤ, length, take, drop, get_or, Option, option_map}
 use Rattle.tuning.specs.Scale.{Sound, muted, sounds}
 use Rattle.hexadecimal.specs.Digits.{bytes_of}
 use Rattle.hexadecimal.specs.Numbers.{number_of, signed_of}
@@ -29,4 +28,4 @@ head_bytes = 4
 
 unfoldable pub told_by : List ℕ → Option KeyTold
 told_by line =
-    map (λ (bs : List ℕ). record { number = get_or bs number_place 0; sound = sound_by (number_of 0 (drop head_bytes bs)) }) (bytes_of (without_feed line))
+    option_map (λ (bs : List ℕ). record { number = get_or bs number_place 0; sound = sound_by (number_of 0 (drop head_bytes bs)) }) (bytes_of (without_feed line))

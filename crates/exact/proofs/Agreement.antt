@@ -1,6 +1,6 @@
 -- Where what is near by one comparison is near by a wider one, all that is claimed of streams by the one is claimed by the other.
 use mathlib.Core.List.{List}
-use mathlib.Core.Option.{Option}
+use Rattle.std.specs.Prelude.{Option}
 use lib.IntN.{ℤ}
 use Rattle.cents.proofs.Near.{suffices}
 use Rattle.tuning.specs.Scale.{Sound}

@@ -2,7 +2,7 @@
 use mathlib.Core.Path.{◌≡◌, refl, sym, ◌∙◌, ap, ap₂, subst}
 use mathlib.Core.Bool.{Bool, true, false}
 use mathlib.Core.List.{List, [], ◌∷◌}
-use mathlib.Core.Option.{Option, some, none}
+use Rattle.std.specs.Prelude.{Option, Some, None}
 use Prim.Native.Nat.{ℕ, zero, suc, ◌+◌, ◌≤◌}
 use native.Mathlib.Omega.{arith}
 use lib.IntN.{ℤ, pos, ◌+ℤ◌, ◌-ℤ◌, ◌*ℤ◌, *ℤ-zero, zero-*ℤ, +ℤ_idl, +ℤ_idr}
@@ -40,10 +40,10 @@ swap_subℤ : (a b c d : ℤ) → (a -ℤ b) +ℤ (c -ℤ d) ≡ (a +ℤ c) -ℤ
 swap_subℤ a b c d = omega (signed, lin (one a ⊖ one b ⊕ (one c ⊖ one d)), lin (one a ⊕ one c ⊖ (one b ⊕ one d)))
 
 is_none : Option Declared → Bool
-is_none none = true
-is_none (some d) = false
+is_none None = true
+is_none (Some d) = false
 
-no_some : (d : Declared) → ◌≡◌ {A = Option Declared} none (some d) → ⊥
+no_some : (d : Declared) → ◌≡◌ {A = Option Declared} None (Some d) → ⊥
 unfolding is_none
 no_some d h = subst T (ap is_none h) tt
 
@@ -90,26 +90,26 @@ module _ (f : Number → ℤ) where
   numbered_none : (n : Name) (i : ℕ) (l : List (Option Declared)) → ((j : ℕ) → i ≤ j → same_name n (declared j) ≡ false) → along f (numbered i l) (once n) ≡ pos 0
   unfolding along numbered
   numbered_none n i [] h = refl
-  numbered_none n i (some d ∷ l) h =
+  numbered_none n i (Some d ∷ l) h =
       ap₂ (λ (a b : ℤ). a +ℤ b) (other n (declared i) (number d) (h i (omega arith))) (numbered_none n (suc i) l (λ j k. h j (omega arith)))
-  numbered_none n i (none ∷ l) h = numbered_none n (suc i) l (λ j k. h j (omega arith))
+  numbered_none n i (None ∷ l) h = numbered_none n (suc i) l (λ j k. h j (omega arith))
 
-  numbered_at : (l : List (Option Declared)) (m i k : ℕ) (d : Declared) → k ≡ i + m → get_or l m none ≡ some d
+  numbered_at : (l : List (Option Declared)) (m i k : ℕ) (d : Declared) → k ≡ i + m → get_or l m None ≡ Some d
       → along f (numbered i l) (once (declared k)) ≡ f (number d)
   unfolding along numbered
   numbered_at [] m i k d e h = absurd (no_some d h)
-  numbered_at (some x ∷ l) zero i k d e h =
+  numbered_at (Some x ∷ l) zero i k d e h =
       ap₂ (λ (a b : ℤ). a +ℤ b)
       (it (declared k) (declared i) (number x) (eq-eqb k i (omega arith)))
       (numbered_none (declared k) (suc i) l (λ j q. ne_eqb k j (λ z. omega arith)))
       ∙ +ℤ_idr (f (number x)) ∙ ap (λ (y : Declared). f (number y)) (cc)
-  numbered_at (none ∷ l) zero i k d e h = absurd (no_some d h)
-  numbered_at (some x ∷ l) (suc m) i k d e h =
+  numbered_at (None ∷ l) zero i k d e h = absurd (no_some d h)
+  numbered_at (Some x ∷ l) (suc m) i k d e h =
       ap₂ (λ (a b : ℤ). a +ℤ b)
       (other (declared k) (declared i) (number x) (ne_eqb k i (λ z. omega arith)))
       (numbered_at l m (suc i) k d (omega arith) h)
       ∙ +ℤ_idl (f (number d))
-  numbered_at (none ∷ l) (suc m) i k d e h = numbered_at l m (suc i) k d (omega arith) h
+  numbered_at (None ∷ l) (suc m) i k d e h = numbered_at l m (suc i) k d (omega arith) h
 
   module _ (ds : List (Option Declared)) where
     three : (e : Powers) (a b c : ℤ) → e the440 *ℤ f start440 ≡ a → e the_root *ℤ f start_root ≡ b → along f (numbered 0 ds) e ≡ c
@@ -127,7 +127,7 @@ module _ (f : Number → ℤ) where
         three (once the_root) (pos 0) (f start_root) (pos 0) (other the_root the440 start440 refl) (it the_root the_root start_root refl) (numbered_none the_root 0 ds (λ j h. refl))
         ∙ +ℤ_idl _ ∙ +ℤ_idr (f start_root)
 
-    pub once_declared : (i : ℕ) (d : Declared) → get_or ds i none ≡ some d → along f (numbers_of ds) (once (declared i)) ≡ f (number d)
+    pub once_declared : (i : ℕ) (d : Declared) → get_or ds i None ≡ Some d → along f (numbers_of ds) (once (declared i)) ≡ f (number d)
     once_declared i d h =
         three (once (declared i)) (pos 0) (pos 0) (f (number d)) (other (declared i) the440 start440 refl) (other (declared i) the_root start_root refl)
         (numbered_at ds i 0 i d (omega arith) h)

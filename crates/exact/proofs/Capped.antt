@@ -2,7 +2,7 @@
 -- the sums themselves.
 use mathlib.Core.Path.{◌≡◌, refl, ap, ap₂}
 use mathlib.Core.List.{List, [], ◌∷◌, map}
-use mathlib.Core.Option.{Option, some, none}
+use Rattle.std.specs.Prelude.{Option, Some, None}
 use Prim.Native.Nat.{ℕ}
 use lib.IntN.{ℤ, ◌+ℤ◌, *ℤ_comm}
 use Rattle.values.specs.Values.{Term, weight}
@@ -42,8 +42,8 @@ module _ (value : ℕ → ℤ) where
 
 -- no call on either side, or the same call
 pub data SameCall (s : Tuning cents) : Option (Action cents) → Option (Action cents) → Type 0 where
-  no_call_holds : SameCall s none none
-  same_call : {c d : Action cents} → called s c ≡ called s d → SameCall s (some c) (some d)
+  no_call_holds : SameCall s None None
+  same_call : {c d : Action cents} → called s c ≡ called s d → SameCall s (Some c) (Some d)
 
 -- a tone system's period is the sum of its terms
 abbrev pub PeriodIs : (ℕ → ℤ) → ℕ → Declaration → Type 0

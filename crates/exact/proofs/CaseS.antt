@@ -2,7 +2,7 @@
 -- and in the book it has `a` once and the fifth twice, with N = 1 and w = 3.
 use mathlib.Core.Path.{◌≡◌, refl, ap, subst}
 use mathlib.Core.List.{List, [], ◌∷◌, map}
-use mathlib.Core.Option.{Option-elim}
+use Rattle.std.specs.Option.{option_map_or}
 use Prim.Native.Nat.{ℕ, zero, ◌+◌, ◌-◌, ◌*◌, ◌^◌, ◌≤◌, ◌<◌}
 use native.Mathlib.Omega.{arith}
 use lib.Count.{count_leading_zeros}
@@ -46,7 +46,7 @@ use Rattle.exact.proofs.Claim.{stream_sharper}
 use Rattle.exact.proofs.Fed.{fed}
 
 pub case_s_holds : Whole
-unfolding Option-elim count_leading_zeros highest_bit bits L measure nearest plus total shifted ranged value_at value_of written_all joined row_of filled_from tables_of
+unfolding count_leading_zeros highest_bit bits L measure nearest plus total shifted ranged value_at value_of written_all joined row_of filled_from tables_of
     valid_tables declaration_right is_own rows_right declarations kinds_from parts_follow orders_right each_right all_zero all_nought called first_failing any_beyond valid_state all_muted digit_of byte_of bytes_of
     framed frame_of first_logic first_order struck call_on desk_from made_from triggered letter_outcome key_outcome frame_outcome answer_of lines_of hex_of hexes twos
     four_of tones_bytes
@@ -62,7 +62,7 @@ calls = record { called = 4; number = 0 } ∷ record { called = 5; number = 0 } 
 -- the calls that the frames make; and "020247 .. 02024700007EB526": the pitch of key 71 after them, less 6,900,000 the d of the comparison
 pub desk_71 : (made_in (tables_of program) start_desk frames ≡ calls)
     × (sound_of cents (held (desk_after (tables_of program) start_desk frames).tuning) 71 ≡ sounds (pos 0x7eb526))
-unfolding Option-elim count_leading_zeros highest_bit bits L measure nearest plus total shifted ranged value_at value_of written_all joined row_of filled_from tables_of
+unfolding count_leading_zeros highest_bit bits L measure nearest plus total shifted ranged value_at value_of written_all joined row_of filled_from tables_of
     valid_tables declaration_right is_own rows_right declarations kinds_from parts_follow orders_right each_right all_zero all_nought called first_failing any_beyond valid_state all_muted digit_of byte_of bytes_of
     framed frame_of first_logic first_order struck call_on desk_from made_from triggered letter_outcome key_outcome frame_outcome answer_of desk_after made_in
 desk_71 = (refl, refl)

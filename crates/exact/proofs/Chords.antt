@@ -1,6 +1,6 @@
 -- The worked stream of keys and chords, by computing. Assumes nothing.
 use mathlib.Core.Path.{◌≡◌, refl}
-use mathlib.Core.Option.{Option-elim}
+use Rattle.std.specs.Option.{option_map_or}
 use Rattle.values.specs.Values.{plus, total, shifted, ranged, value_at}
 use Rattle.tables.specs.Layout.{written_all, joined, row_of}
 use Rattle.filling.specs.Tables.{filled_from, tables_of}
@@ -29,7 +29,7 @@ use Rattle.exact.proofs.Fed.{Answers, worked, fed}
 
 -- the lines, and the calls
 answers : Answers program frames lines calls
-unfolding Option-elim plus total shifted ranged value_at value_of written_all joined row_of filled_from tables_of valid_tables declaration_right is_own rows_right declarations
+unfolding plus total shifted ranged value_at value_of written_all joined row_of filled_from tables_of valid_tables declaration_right is_own rows_right declarations
     kinds_from parts_follow orders_right each_right all_zero all_nought called first_failing any_beyond valid_state all_muted has added removed set_of all any matches
     digit_of byte_of bytes_of framed frame_of first_logic first_order struck call_on desk_from made_from triggered move_step move_outcome frame_outcome answer_of lines_of
     hex_of hexes twos four_of desk_after made_in

@@ -2,7 +2,7 @@
 use mathlib.Core.Path.{◌≡◌, refl, sym, ◌∙◌, ap, ap₂, subst}
 use mathlib.Core.Bool.{true, false, ◌||◌, or-false}
 use mathlib.Core.List.{List, [], ◌∷◌, map}
-use mathlib.Core.Option.{Option, none}
+use Rattle.std.specs.Prelude.{Option, None}
 use Prim.Native.Nat.{ℕ, zero, suc, ◌<◌}
 use borrow.Author.Tests.{eqb-true}
 use lib.Dec.{eqb}
@@ -67,7 +67,7 @@ Entered ds Logic e z = Unit
 Entered ds AnOrder e z = Unit
 Entered ds Harmony e z = Unit
 
-number_at : (p : Program) (i : ℕ) (d : Declaration) → declaration_at p i ≡ d → get_or (declared_in p) i none ≡ declared_by d
+number_at : (p : Program) (i : ℕ) (d : Declaration) → declaration_at p i ≡ d → get_or (declared_in p) i None ≡ declared_by d
 number_at p i d e = get_or-map (λ (x : Placed). declared_by x.is) p i nothing ∙ ap declared_by e
 
 module _ (p : Program) (allowed : Allowed p) (done : valued p ≡ Done) where

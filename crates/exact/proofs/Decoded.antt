@@ -1,7 +1,7 @@
 -- The tables of a program decode to the program's actions, with the sums that the tables hold. Assumes nothing.
 use mathlib.Core.Path.{◌≡◌, refl, ap, ◌∙◌}
 use mathlib.Core.List.{List, map, map-map, map_congr_left}
-use mathlib.Core.Option.{Option, some, none}
+use Rattle.std.specs.Prelude.{Option, Some, None}
 use Prim.Native.Nat.{ℕ, ◌+◌, ◌<◌}
 use lib.IntN.{ℤ, ◌+ℤ◌}
 use lib.ListN.{length}
@@ -31,28 +31,28 @@ module _ (value : ℕ → ℤ) where
 
   -- the action of declaration i; a tone system's period is its value
   abbrev pub capped_of : ℕ → Declaration → Option (Action cents)
-  capped_of i (text.ratio p q) = none
-  capped_of i (text.root a b) = none
-  capped_of i (text.sequence ts) = none
-  capped_of i (text.frequency f) = none
-  capped_of i (text.from k ts) = none
-  capped_of i (text.system a l ts) = some (system (record { anchor = a; tones = map (system_position_of cents value value) l; period = value i }))
-  capped_of i (text.anchor m) = some (anchor_to m)
-  capped_of i (text.width m) = some (width_to m)
-  capped_of i (text.fresh_period ts) = some (period_to (fresh (sum value ts)))
-  capped_of i (text.onward_period ts) = some (period_to (onward (sum value ts)))
-  capped_of i (text.tones l) = some (tones_to (map capped_position l))
-  capped_of i (text.logic c s os) = none
-  capped_of i text.pattern = none
-  capped_of i (text.harmony ks) = none
+  capped_of i (text.ratio p q) = None
+  capped_of i (text.root a b) = None
+  capped_of i (text.sequence ts) = None
+  capped_of i (text.frequency f) = None
+  capped_of i (text.from k ts) = None
+  capped_of i (text.system a l ts) = Some (system (record { anchor = a; tones = map (system_position_of cents value value) l; period = value i }))
+  capped_of i (text.anchor m) = Some (anchor_to m)
+  capped_of i (text.width m) = Some (width_to m)
+  capped_of i (text.fresh_period ts) = Some (period_to (fresh (sum value ts)))
+  capped_of i (text.onward_period ts) = Some (period_to (onward (sum value ts)))
+  capped_of i (text.tones l) = Some (tones_to (map capped_position l))
+  capped_of i (text.logic c s os) = None
+  capped_of i text.pattern = None
+  capped_of i (text.harmony ks) = None
 
   -- what is heard of the tones, and what the changes say
   tones_heard : (l : List (Option ℕ)) → map heard (map (tone_of value) l) ≡ map (system_position_of cents value value) l
   tones_heard l = map-map heard (tone_of value) l ∙ map_congr_left {l = l} (λ x m. one x)
     where
       one : (x : Option ℕ) → heard (tone_of value x) ≡ system_position_of cents value value x
-      one none = refl
-      one (some k) = refl
+      one None = refl
+      one (Some k) = refl
 
   changes_said : (l : List Position) → map tone_meant (map (change_of value) l) ≡ map capped_position l
   changes_said l = map-map tone_meant (change_of value) l ∙ map_congr_left {l = l} (λ x m. one x)
@@ -78,7 +78,7 @@ action_decoded p k h = ap (action_by (tables_of p)) (row_decoded p k h) ∙ by_f
     by_form (text.frequency f) e = refl
     by_form (text.from j ts) e = refl
     by_form (text.system a l ts) e =
-        ap (λ (ys : List (Sound ℤ)). some (system (record { anchor = a; tones = ys; period = value_of p k })))
+        ap (λ (ys : List (Sound ℤ)). Some (system (record { anchor = a; tones = ys; period = value_of p k })))
         (ap (map heard) (system_tones p k h a l ts e) ∙ tones_heard (value_of p) l)
     by_form (text.anchor m) e = refl
     by_form (text.width m) e = refl
@@ -86,7 +86,7 @@ action_decoded p k h = ap (action_by (tables_of p)) (row_decoded p k h) ∙ by_f
     by_form (text.onward_period ts) e = refl
     by_form (text.tones l) e =
         let cs = changes_from (tables_of p) (changes_before p k) (changes_before p k + length l) in
-        ap (λ (ys : List (PositionTo cents)). some (tones_to ys))
+        ap (λ (ys : List (PositionTo cents)). Some (tones_to ys))
         (listed_meant cs ∙ ap (map tone_meant) (retuning_changes p k h l e) ∙ changes_said (value_of p) l)
     by_form (text.logic c s os) e = refl
     by_form text.pattern e = refl

@@ -2,7 +2,7 @@
 -- N = 1 and w = 1; and 1153 hertz lie more than fifty hundredths of a thousandth of a cent above that pitch. Assumes nothing.
 use mathlib.Core.Path.{◌≡◌, refl, ap}
 use mathlib.Core.List.{List, [], ◌∷◌}
-use mathlib.Core.Option.{Option-elim}
+use Rattle.std.specs.Option.{option_map_or}
 use Prim.Native.Nat.{ℕ, ◌<◌}
 use lib.Count.{count_leading_zeros}
 use lib.IntN.{pos}
@@ -47,7 +47,7 @@ calls = call 2 0 ∷ []
 -- the lines, the calls, and the pitch of key 69
 desk : (lines_of (tables_of program) start_desk frames ≡ lines) × (made_in (tables_of program) start_desk frames ≡ calls)
     × (sound_of cents (held (desk_after (tables_of program) start_desk frames).tuning) 69 ≡ sounds (pos 0x82bbe4))
-unfolding Option-elim count_leading_zeros highest_bit bits L measure nearest plus total shifted ranged value_at value_of written_all joined row_of filled_from tables_of
+unfolding count_leading_zeros highest_bit bits L measure nearest plus total shifted ranged value_at value_of written_all joined row_of filled_from tables_of
     valid_tables declaration_right is_own rows_right declarations kinds_from parts_follow orders_right each_right all_zero all_nought called first_failing any_beyond valid_state all_muted digit_of byte_of bytes_of
     framed frame_of first_logic first_order struck call_on desk_from made_from triggered letter_outcome key_outcome frame_outcome answer_of lines_of hex_of hexes twos
     four_of tones_bytes desk_after made_in

@@ -2,7 +2,7 @@
 -- streams, by computing. Assumes nothing.
 use mathlib.Core.Path.{◌≡◌, refl, sym, fun_ext}
 use Prim.Native.Nat.{◌<◌}
-use mathlib.Core.Option.{Option-elim}
+use Rattle.std.specs.Option.{option_map_or}
 use lib.Count.{count_leading_zeros}
 use Rattle.integers.proofs.Difference.{mul_assocℤ}
 use Rattle.cents.specs.Log.{highest_bit, bits, L}
@@ -57,7 +57,7 @@ book_whole_periods = whole_periods_holds entries entries_steps
 -- what is answered and what is called, all at once, since what is computed is opened at each
 answers : Answers pentatonic.program pentatonic_frames pentatonic_lines pentatonic_calls × Answers nine_octaves.program nine_octaves_frames nine_octaves_lines nine_octaves_calls
     × Answers muted_chord.program muted_chord_frames muted_chord_lines muted_chord_calls
-unfolding Option-elim count_leading_zeros highest_bit bits L measure nearest plus total shifted ranged value_at value_of written_all joined row_of filled_from tables_of
+unfolding count_leading_zeros highest_bit bits L measure nearest plus total shifted ranged value_at value_of written_all joined row_of filled_from tables_of
     valid_tables declaration_right is_own rows_right declarations kinds_from parts_follow orders_right each_right all_zero all_nought called first_failing any_beyond valid_state
     all_muted has added removed set_of all any matches digit_of byte_of bytes_of framed frame_of first_logic first_order struck call_on desk_from made_from triggered move_step
     letter_outcome key_outcome move_outcome frame_outcome answer_of lines_of hex_of hexes twos four_of desk_after made_in

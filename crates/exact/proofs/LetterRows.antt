@@ -1,7 +1,7 @@
 -- Document 02, 3/13: the worked streams, by computing. Assumes nothing.
 use mathlib.Core.Path.{◌≡◌, refl}
 use mathlib.Core.List.{get_last_d}
-use mathlib.Core.Option.{Option-elim}
+use Rattle.std.specs.Option.{option_map_or}
 use lib.Count.{count_leading_zeros}
 use Rattle.cents.specs.Log.{highest_bit, bits, L}
 use Rattle.cents.specs.Measure.{measure, nearest}
@@ -32,7 +32,7 @@ use Rattle.exact.proofs.Fed.{Answers, worked, fed}
 
 -- both at once, since what is computed is opened at each
 answers : Answers case_s.program case_s_frames case_s_lines case_s_calls × Answers far_start.program far_start_frames far_start_lines far_start_calls
-unfolding get_last_d Option-elim count_leading_zeros highest_bit bits L measure nearest plus total shifted ranged value_at value_of written_all joined row_of filled_from tables_of
+unfolding get_last_d count_leading_zeros highest_bit bits L measure nearest plus total shifted ranged value_at value_of written_all joined row_of filled_from tables_of
     valid_tables declaration_right is_own rows_right declarations kinds_from parts_follow orders_right each_right all_zero all_nought called first_failing any_beyond valid_state
     all_muted digit_of byte_of bytes_of are_capitals framed frame_of first_logic first_order struck call_on desk_from made_from triggered pressed_in_turn
     letter_row_outcome key_outcome frame_outcome answer_of lines_of hex_of hexes twos four_of tones_bytes desk_after made_in

@@ -2,7 +2,7 @@
 use mathlib.Core.Path.{◌≡◌, refl, ◌∙◌, ap}
 use mathlib.Core.Bool.{false}
 use mathlib.Core.List.{List, [], ◌∷◌, map}
-use mathlib.Core.Option.{Option, some, none}
+use Rattle.std.specs.Prelude.{Option, Some, None}
 use Prim.Native.Nat.{ℕ, ◌≤◌, ◌<◌}
 use native.Mathlib.Decide.{dec_lt}
 use native.Mathlib.Omega.{arith}
@@ -36,8 +36,8 @@ use Rattle.exact.proofs.Stream.{Matches, no_call_holds, one_call, AllMatch}
 
 -- a call that keeps states valid, if there is one
 abbrev Safe : Option (Action cents) → Type 0
-Safe none = Unit
-Safe (some c) = ValidAction c
+Safe None = Unit
+Safe (Some c) = ValidAction c
 
 matched : {ds : List (Option Declared)} {s : Tuning cents} {x y : Option (Action cents)} {z : Option (Action entries)}
     → SameCall s x y → Safe y → CallBoth (measure_follows ds) z y → Matches ds s x z
@@ -48,8 +48,8 @@ module _ (p : Program) (allowed : Allowed p) (done : valued p ≡ Done) where
   places_in_range : (l : List (Option ℕ)) → Each (FitSystemPosition p) l → any_beyond (map (system_position_of cents (value_of p) (value_of p)) l) ≡ false
   unfolding any_beyond
   places_in_range [] w = refl
-  places_in_range (none ∷ l) w = places_in_range l w.1
-  places_in_range (some k ∷ l) w = rw (value_tone p done k w.0.within) (places_in_range l w.1)
+  places_in_range (None ∷ l) w = places_in_range l w.1
+  places_in_range (Some k ∷ l) w = rw (value_tone p done k w.0.within) (places_in_range l w.1)
 
   period_is : (i : ℕ) → i < length p → (a : ℕ) (l : List (Option ℕ)) (ts : List Term) → declaration_at p i ≡ text.system a l ts
       → value_of p i ≡ total cents (value_of p) (value_of p) ts
@@ -93,7 +93,7 @@ module _ (p : Program) (allowed : Allowed p) (done : valued p ≡ Done) where
   -- past the last declaration nothing is called
   past : (s : Tuning cents) (k : ℕ) → length p ≤ k → Matches (declared_in p) s (action_at (tables_of p) k) (book_action p k)
   past s k h =
-      let none_in_book : book_action p k ≡ none =
+      let none_in_book : book_action p k ≡ None =
       ap (λ (d : Placed). action_of entries (entry_of p) (entry_of p) d.is) (get_or-eq_default p nothing h) in
       rw (past_decoded p k h, none_in_book) no_call_holds
 

@@ -1,7 +1,7 @@
 -- A tone or a step of the desk beside its entry in the book: the value is the sum of power times measure.
 use mathlib.Core.Path.{◌≡◌, refl, sym, ◌∙◌, ap, ap₂}
 use mathlib.Core.List.{List}
-use mathlib.Core.Option.{Option, some, none}
+use Rattle.std.specs.Prelude.{Option, Some, None}
 use Prim.Native.Nat.{ℕ}
 use lib.IntN.{ℤ, pos, ◌+ℤ◌, ◌-ℤ◌, ◌*ℤ◌, *ℤ-zero, +ℤ_idr}
 use lib.ListN.{get_or}
@@ -96,15 +96,15 @@ module _ (p : List (Option Declared)) where
   pub nothing : Measured p 0 0 (λ n. pos 0) (pos 0)
   nothing = measured (record { value = sym (zero_plus _ ∙ along_none size_of (numbers_of p)); power = along_none (λ n. pos n.hertz) (numbers_of p) })
 
-  pub own_ratio : (i a b : ℕ) → get_or p i none ≡ some (ratio a b) → MeasuredStep p (once (declared i)) (measures.ratio a b)
+  pub own_ratio : (i a b : ℕ) → get_or p i None ≡ Some (ratio a b) → MeasuredStep p (once (declared i)) (measures.ratio a b)
   unfolding number size_of
   own_ratio i a b h = rw (← (zero_plus (measures.ratio a b))) (single 0 0 (once (declared i)) (number (ratio a b)) (λ f. once_declared f p i (ratio a b) h) refl)
 
-  pub own_root : (i a b : ℕ) → get_or p i none ≡ some (root a b) → MeasuredStep p (once (declared i)) (measures.root a b)
+  pub own_root : (i a b : ℕ) → get_or p i None ≡ Some (root a b) → MeasuredStep p (once (declared i)) (measures.root a b)
   unfolding number size_of
   own_root i a b h = rw (← (zero_plus (measures.root a b))) (single 0 0 (once (declared i)) (number (root a b)) (λ f. once_declared f p i (root a b) h) refl)
 
-  pub own_frequency : (j f : ℕ) → get_or p j none ≡ some (frequency f) → MeasuredTone p (once (declared j)) (measures.frequency f)
+  pub own_frequency : (j f : ℕ) → get_or p j None ≡ Some (frequency f) → MeasuredTone p (once (declared j)) (measures.frequency f)
   unfolding number size_of
   own_frequency j f h = single 6900000 1 (once (declared j)) (number (frequency f)) (λ g. once_declared g p j (frequency f) h) refl
 

@@ -1,6 +1,6 @@
 -- Document 02, 1/13: the worked streams, by computing. Assumes nothing.
 use mathlib.Core.Path.{◌≡◌, refl}
-use mathlib.Core.Option.{Option-elim}
+use Rattle.std.specs.Option.{option_map_or}
 use lib.Count.{count_leading_zeros}
 use Rattle.cents.specs.Log.{highest_bit, bits, L}
 use Rattle.cents.specs.Measure.{measure, nearest}
@@ -37,7 +37,7 @@ use Rattle.exact.proofs.Fed.{Answers, worked, fed}
 -- all at once, since what is computed is opened at each
 answers : Answers new_anchor.program new_anchor_frames new_anchor_lines new_anchor_calls × Answers divisors.program divisors_frames divisors_lines divisors_calls
     × Answers unneeded.program unneeded_frames unneeded_lines unneeded_calls × Answers one_name.program one_name_frames one_name_lines one_name_calls
-unfolding Option-elim count_leading_zeros highest_bit bits L measure nearest plus total shifted ranged value_at value_of written_all joined row_of filled_from tables_of
+unfolding count_leading_zeros highest_bit bits L measure nearest plus total shifted ranged value_at value_of written_all joined row_of filled_from tables_of
     valid_tables declaration_right is_own rows_right declarations kinds_from parts_follow orders_right each_right all_zero all_nought called first_failing any_beyond valid_state
     all_muted has added removed set_of all any matches digit_of byte_of bytes_of framed frame_of first_logic first_order struck call_on desk_from made_from triggered move_step
     letter_outcome key_outcome move_outcome frame_outcome answer_of lines_of hex_of hexes twos four_of tones_bytes desk_after made_in

@@ -1,6 +1,6 @@
 -- The declared numbers of a program that keeps "Numbers allowed".
 use mathlib.Core.List.{List, [], ◌∷◌}
-use mathlib.Core.Option.{Option, some, none}
+use Rattle.std.specs.Prelude.{Option, Some, None}
 use Prim.Native.Nat.{ℕ, ◌<◌, ◌^◌}
 use Rattle.exact.specs.Book.{Declared, frequency, ratio, root}
 
@@ -16,5 +16,5 @@ InRange (root A B) = (0 < A) × Amount B
 
 pub data AllInRange : List (Option Declared) → Type 0 where
   no_more : AllInRange []
-  number_and : {d : Declared} {l : List (Option Declared)} → InRange d → AllInRange l → AllInRange (some d ∷ l)
-  passing : {l : List (Option Declared)} → AllInRange l → AllInRange (none ∷ l)
+  number_and : {d : Declared} {l : List (Option Declared)} → InRange d → AllInRange l → AllInRange (Some d ∷ l)
+  passing : {l : List (Option Declared)} → AllInRange l → AllInRange (None ∷ l)

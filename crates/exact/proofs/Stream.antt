@@ -2,7 +2,7 @@
 use mathlib.Core.Path.{◌≡◌, refl, sym, ap, subst}
 use mathlib.Core.Bool.{Bool, true, false, cond}
 use mathlib.Core.List.{List, [], ◌∷◌, ◌++◌}
-use mathlib.Core.Option.{Option, some, none}
+use Rattle.std.specs.Prelude.{Option, Some, None}
 use Prim.Native.Nat.{ℕ}
 use lib.Dec.{eqb}
 use lib.ListN.{length}
@@ -41,22 +41,22 @@ fed_append p (x ∷ l) m = go (book_action p x.called) (fed_append p l m)
   where
     go : (o : Option (Action entries)) → fed_by p (l ++ m) ≡ fed_by p l ++ fed_by p m
         → if_called o x.number (fed_by p (l ++ m)) ≡ if_called o x.number (fed_by p l) ++ fed_by p m
-    go none e = e
-    go (some c) e = ap (λ (r : List book.Made). record { call = c; number = x.number } ∷ r) e
+    go None e = e
+    go (Some c) e = ap (λ (r : List book.Made). record { call = c; number = x.number } ∷ r) e
 
 fed_first : (b : Tuning entries) (o : Option (Action entries)) (n : ℕ) (rest : List book.Made)
     → book_from (book_from b (if_called o n [])) rest ≡ book_from b (if_called o n rest)
 unfolding book_from
-fed_first b none n rest = refl
-fed_first b (some c) n rest = refl
+fed_first b None n rest = refl
+fed_first b (Some c) n rest = refl
 
 -- ---- one call
 
 -- what a row and the book call, on a state: nothing, or the call of an action that keeps states valid and that the book works out alike
 pub data Matches (ds : List (Option Declared)) (s : Tuning cents) : Option (Action cents) → Option (Action entries) → Type 0 where
-  no_call_holds : Matches ds s none none
+  no_call_holds : Matches ds s None None
   one_call : {c d : Action cents} {b : Action entries} → called s c ≡ called s d → ValidAction d → ActionBoth (measure_follows ds) b d
-      → Matches ds s (some c) (some b)
+      → Matches ds s (Some c) (Some b)
 
 -- the state is valid, with all its places, and each of its tones is where the book's entry is measured
 pub record Kept (ds : List (Option Declared)) (s : State) (b : Tuning entries) : Type 0 where

@@ -1,6 +1,6 @@
 -- A call over the tables of an accepted text is the call of its declaration. Assumes nothing.
 use mathlib.Core.Path.{◌≡◌, refl, ap}
-use mathlib.Core.Option.{Option, none}
+use Rattle.std.specs.Prelude.{Option, None}
 use Prim.Native.Nat.{ℕ, ◌≤◌}
 use native.Mathlib.Decide.{dec_lt}
 use native.Mathlib.Omega.{arith}
@@ -30,7 +30,7 @@ same_reply house d (same_call e) = ap (λ (r : Called). record { desk = with_tun
 -- past the last declaration nothing is called
 past_calls : (p : Program) (house : ℕ) (d : Desk) (k : ℕ) → length p ≤ k → by_action house d (action_at (tables_of p) k) ≡ by_action house d (desk_action p k)
 past_calls p house d k h =
-    let none_in_text : desk_action p k ≡ none = ap (λ (d : Placed). action_of cents (value_of p) (value_of p) d.is) (get_or-eq_default p nothing h) in
+    let none_in_text : desk_action p k ≡ None = ap (λ (d : Placed). action_of cents (value_of p) (value_of p) d.is) (get_or-eq_default p nothing h) in
     rw (past_decoded p k h, none_in_text)
 
 pub calls_of_text : CallsOfText

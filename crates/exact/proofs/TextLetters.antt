@@ -2,7 +2,7 @@
 use mathlib.Core.Path.{◌≡◌, refl, sym, ap, ap₂, ◌∙◌}
 use mathlib.Core.Bool.{Bool, true, false}
 use mathlib.Core.List.{List, [], ◌∷◌, map}
-use mathlib.Core.Option.{Option, some, none}
+use Rattle.std.specs.Prelude.{Option, Some, None}
 use Prim.Native.Nat.{ℕ, zero, suc, ◌+◌, ◌-◌, ◌≤◌, ◌<◌}
 use native.Mathlib.Decide.{dec_lt}
 use native.Mathlib.Omega.{arith}
@@ -106,7 +106,7 @@ module _ (p : Program) (allowed : Allowed p) (r : ℕ → Bool) (q : Trigger →
       let here =
       ap (tested_row r) (row_decoded p i l)
       ∙ is_logic_step i (tones_before p i) (changes_before p i) (orders_before p i) (declaration_at p i) (fits_at allowed i l) in
-      ap₂ (λ (b : Bool) (o : Option ℕ). elim b [ true ↦ some i | false ↦ o ]) here (logics (suc i) n (omega arith))
+      ap₂ (λ (b : Bool) (o : Option ℕ). elim b [ true ↦ Some i | false ↦ o ]) here (logics (suc i) n (omega arith))
       ∙ ap (logic_in q i) (sym (drop-cons p i nothing l))
 
   -- ---- orders
@@ -115,7 +115,7 @@ module _ (p : Program) (allowed : Allowed p) (r : ℕ → Bool) (q : Trigger →
   unfolding first_order order_in
   first_order_step [] w = refl
   first_order_step (o ∷ os) w =
-      ap₂ (λ (b : Bool) (x : Option ℕ). elim b [ true ↦ some o.calls | false ↦ x ]) (same o.trigger w.0.trigger) (first_order_step os w.1)
+      ap₂ (λ (b : Bool) (x : Option ℕ). elim b [ true ↦ Some o.calls | false ↦ x ]) (same o.trigger w.0.trigger) (first_order_step os w.1)
 
   orders_of_step : (k : ℕ) → k < length p → (d : Declaration) → declaration_at p k ≡ d → Fits p d
       → protocol.order_by (tables_of p) r (row_of (value_of p) k (tones_before p k) (changes_before p k) (orders_before p k) d) ≡ order_by q (as_logic d)
@@ -145,8 +145,8 @@ module _ (p : Program) (allowed : Allowed p) (r : ℕ → Bool) (q : Trigger →
       ]
 
   by_logic : (a : Active) (o : Option ℕ) → else_order (tables_of p) a r o ≡ else_active p a q o
-  by_logic a none = order_of_step a
-  by_logic a (some i) = refl
+  by_logic a None = order_of_step a
+  by_logic a (Some i) = refl
 
   found : (a : Active) → else_order (tables_of p) a r (first_logic (tables_of p).rows r 0 (row_count (tables_of p))) ≡ else_active p a q (logic_in q 0 p)
   found a =
@@ -168,8 +168,8 @@ module _ (p : Program) where
   calls_of_step a k t c o (fresh_period ts) = refl
   calls_of_step a k t c o (onward_period ts) = refl
   calls_of_step a k t c o (tones l) = refl
-  calls_of_step a k t c o (logic x none os) = refl
-  calls_of_step a k t c o (logic x (some j) os) = refl
+  calls_of_step a k t c o (logic x None os) = refl
+  calls_of_step a k t c o (logic x (Some j) os) = refl
   calls_of_step a k t c o pattern = refl
   calls_of_step a k t c o (harmony ks) = refl
 
@@ -181,8 +181,8 @@ module _ (p : Program) where
       ]
 
   by_name : (a : Active) (o : Option ℕ) → called (tables_of p) a o ≡ unless_none p a o
-  by_name a none = refl
-  by_name a (some k) = called_by_step a k
+  by_name a None = refl
+  by_name a (Some k) = called_by_step a k
 
   struck_here : Allowed p → (a : Active) (x : Sought) → Asked x → struck (tables_of p) a x ≡ struck_in p a (sought_by p x)
   unfolding struck struck_in

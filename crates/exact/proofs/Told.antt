@@ -3,7 +3,8 @@
 use mathlib.Core.Path.{◌≡◌, refl, ap, ◌∙◌}
 use mathlib.Core.Bool.{Bool, true, false, cond}
 use mathlib.Core.List.{List, [], ◌∷◌}
-use mathlib.Core.Option.{Option, Option-elim}
+use Rattle.std.specs.Prelude.{Option}
+use Rattle.std.specs.Option.{option_map_or}
 use Prim.Native.Nat.{ℕ, ◌≤◌}
 use native.Mathlib.Omega.{arith}
 use borrow.Author.Tests.{le-ltb, le-leb}
@@ -38,7 +39,7 @@ use Rattle.exact.specs.Claim.{key_frame, KeyAnswered, AnswerNear, told_silent, t
 module _ (house key : ℕ) (least : first_house ≤ house) (most : house ≤ second_house) (low : key ≤ last_key) where
   -- the frame is read back from its digits
   frame_back : frame_of (key_frame house key) ≡ frames.key house key
-  unfolding frame_of framed Option-elim
+  unfolding frame_of framed
   frame_back =
       rw (
         bytes_back (house ∷ key_kind ∷ key ∷ []) (omega arith, (omega arith, (omega arith, tt))),

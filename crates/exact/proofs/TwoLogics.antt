@@ -1,6 +1,6 @@
 -- The second worked stream, by computing. Assumes nothing.
 use mathlib.Core.Path.{◌≡◌, refl}
-use mathlib.Core.Option.{Option-elim}
+use Rattle.std.specs.Option.{option_map_or}
 use lib.Count.{count_leading_zeros}
 use Rattle.cents.specs.Log.{highest_bit, bits, L}
 use Rattle.cents.specs.Measure.{measure, nearest}
@@ -31,7 +31,7 @@ use Rattle.exact.proofs.Fed.{Answers, worked, fed}
 
 -- the lines, and the calls
 answers : Answers program frames lines calls
-unfolding Option-elim count_leading_zeros highest_bit bits L measure nearest plus total shifted ranged value_at value_of written_all joined row_of filled_from tables_of valid_tables
+unfolding count_leading_zeros highest_bit bits L measure nearest plus total shifted ranged value_at value_of written_all joined row_of filled_from tables_of valid_tables
     declaration_right is_own rows_right declarations kinds_from parts_follow orders_right each_right all_zero all_nought called first_failing any_beyond valid_state
     all_muted digit_of byte_of bytes_of framed frame_of first_logic first_order struck call_on desk_from made_from triggered letter_outcome key_outcome frame_outcome answer_of
     lines_of hex_of hexes twos four_of tones_bytes desk_after made_in

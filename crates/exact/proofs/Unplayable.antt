@@ -1,7 +1,9 @@
 -- Document 02, 6/13: what the bytes of a key's answer say of the book; then the worked streams, by computing. Assumes nothing.
 use mathlib.Core.Path.{◌≡◌, refl, sym, ap, ◌∙◌, subst}
 use mathlib.Core.List.{List}
-use mathlib.Core.Option.{Option, Option-elim, some-injective}
+use Rattle.std.specs.Prelude.{Option}
+use Rattle.std.proofs.lemmas.Option.{same_Some}
+use Rattle.std.specs.Option.{option_map_or}
 use native.Mathlib.Omega.{arith}
 use lib.Count.{count_leading_zeros}
 use lib.IntN.{ℤ}
@@ -66,7 +68,7 @@ module _ {near : Nearness} {ds : List (Option Declared)} where
 claimed_say : {near : Nearness} → Claimed near → BytesSay near
 claimed_say {near} claimed text p e stream house key room a b c r told line =
     let h = (claimed text p e stream).answer house key room a b c r in
-    let same = some-injective _ _ (sym h.line ∙ line) in
+    let same = same_Some _ _ (sym h.line ∙ line) in
     subst (Says near (declared_in p) (sound_of entries (book_after p stream) key)) same (says h.agrees)
 
 pub bytes_say : BytesSay Within
@@ -82,7 +84,7 @@ bytes_say_sharper = claimed_say tighter_distance
 -- all at once, since what is computed is opened at each
 answers : Answers ten_octaves.program ten_octaves_frames ten_octaves_lines ten_octaves_calls × Answers both_limits.program both_limits_frames both_limits_lines both_limits_calls
     × Answers far_ends.program far_ends_frames far_ends_lines far_ends_calls × Answers unplayableChord.program chord_frames chord_lines chord_calls
-unfolding Option-elim count_leading_zeros highest_bit bits L measure nearest plus total shifted ranged value_at value_of written_all joined row_of filled_from tables_of
+unfolding count_leading_zeros highest_bit bits L measure nearest plus total shifted ranged value_at value_of written_all joined row_of filled_from tables_of
     valid_tables declaration_right is_own rows_right declarations kinds_from parts_follow orders_right each_right all_zero all_nought called first_failing any_beyond valid_state
     all_muted has added removed set_of all any matches digit_of byte_of bytes_of framed frame_of first_logic first_order struck call_on desk_from made_from triggered move_step
     letter_outcome key_outcome move_outcome frame_outcome answer_of lines_of hex_of hexes twos four_of tones_bytes desk_after made_in

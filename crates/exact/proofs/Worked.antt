@@ -1,7 +1,7 @@
 -- A declaration's call, worked out at two scales: alike on both, where what the declaration refers to is.
 use mathlib.Core.Path.{refl, subst}
 use mathlib.Core.List.{List, [], ◌∷◌, map}
-use mathlib.Core.Option.{Option, some, none}
+use Rattle.std.specs.Prelude.{Option, Some, None}
 use Prim.Native.Nat.{ℕ}
 use Rattle.names.specs.Parts as parts
 use Rattle.names.specs.Names.{meant}
@@ -19,8 +19,8 @@ use Rattle.exact.proofs.Follows.{ActionBoth, both_anchor, both_width, both_perio
 
 -- no call on either side, or one that is worked out alike
 pub data CallBoth {A B : Scale} (F : Follows A B) : Option (Action A) → Option (Action B) → Type 0 where
-  no_call_holds : CallBoth F none none
-  both_call : {c : Action A} {d : Action B} → ActionBoth F c d → CallBoth F (some c) (some d)
+  no_call_holds : CallBoth F None None
+  both_call : {c : Action A} {d : Action B} → ActionBoth F c d → CallBoth F (Some c) (Some d)
 
 -- the terms of a sequence, tone or expression are intervals
 pub terms_refer : (p : Program) (ts : List Term) → Each (FitTerm p) ts → {r : ℕ} → Uses (map (λ (t : Term). t.of) ts) r → Refers p (meant parts.add) r
@@ -41,8 +41,8 @@ module _ {A B : Scale} (F : Follows A B) (stepA : ℕ → A.Step) (toneA : ℕ �
 
     places_follow : (l : List (Option ℕ)) → Each (FitSystemPosition p) l → AllBoth F.tone (map (system_position_of A stepA toneA) l) (map (system_position_of B stepB toneB) l)
     places_follow [] w = empty
-    places_follow (none ∷ l) w = with silent (places_follow l w.1)
-    places_follow (some k ∷ l) w = with (heard (tones k w.0)) (places_follow l w.1)
+    places_follow (None ∷ l) w = with silent (places_follow l w.1)
+    places_follow (Some k ∷ l) w = with (heard (tones k w.0)) (places_follow l w.1)
 
     position_follows : (x : Position) → FitPosition p x → PositionBoth F (position_of A stepA toneA x) (position_of B stepB toneB x)
     position_follows text.mute w = both_mute

@@ -1,7 +1,6 @@
 -- What a declaration calls, worked out at any scale: at thousandths of a cent for the desk, at entries for the exact book.
 -- Document 01: "An entry gives a whole power to each of these ..; sequences and tones add entries, by factor and sign."
-use Rattle.std.specs.Prelude.{List, [], ◌∷◌, map, ℕ, zero, suc, length}
-use Rattle.std.proofs.Math.Option.{Option, some, none}
+use Rattle.std.specs.Prelude.{List, [], ◌∷◌, map, ℕ, zero, suc, length, Option, Some, None}
 use Rattle.values.specs.Values.{Term, weight}
 use Rattle.tuning.specs.Scale.{Scale, Sound, muted, sounds}
 use Rattle.tuning.specs.Tuning.{fresh, onward, PositionTo, mute, move, set_to, Action, anchor_to, width_to, period_to, tones_to, system}
@@ -18,8 +17,8 @@ module _ (S : Scale) (step : ℕ → S.Step) (tone : ℕ → S.Tone) where
 
   -- the positions of a tone system
   abbrev pub system_position_of : Option ℕ → Sound S.Tone
-  system_position_of none = muted
-  system_position_of (some k) = sounds (tone k)
+  system_position_of None = muted
+  system_position_of (Some k) = sounds (tone k)
 
   -- the positions of a tones retuning
   abbrev pub position_of : Position → PositionTo S
@@ -29,39 +28,39 @@ module _ (S : Scale) (step : ℕ → S.Step) (tone : ℕ → S.Tone) where
 
   -- the call of a tone system or retuning; the other declarations are not called so
   abbrev pub action_of : Declaration → Option (Action S)
-  action_of (text.ratio p q) = none
-  action_of (text.root a b) = none
-  action_of (text.sequence ts) = none
-  action_of (text.frequency f) = none
-  action_of (text.from k ts) = none
-  action_of (text.system a l ts) = some (system (record { anchor = a; tones = map system_position_of l; period = total ts }))
-  action_of (text.anchor m) = some (anchor_to m)
-  action_of (text.width m) = some (width_to m)
-  action_of (text.fresh_period ts) = some (period_to (fresh (total ts)))
-  action_of (text.onward_period ts) = some (period_to (onward (total ts)))
-  action_of (text.tones l) = some (tones_to (map position_of l))
-  action_of (text.logic c s os) = none
-  action_of text.pattern = none
-  action_of (text.harmony ks) = none
+  action_of (text.ratio p q) = None
+  action_of (text.root a b) = None
+  action_of (text.sequence ts) = None
+  action_of (text.frequency f) = None
+  action_of (text.from k ts) = None
+  action_of (text.system a l ts) = Some (system (record { anchor = a; tones = map system_position_of l; period = total ts }))
+  action_of (text.anchor m) = Some (anchor_to m)
+  action_of (text.width m) = Some (width_to m)
+  action_of (text.fresh_period ts) = Some (period_to (fresh (total ts)))
+  action_of (text.onward_period ts) = Some (period_to (onward (total ts)))
+  action_of (text.tones l) = Some (tones_to (map position_of l))
+  action_of (text.logic c s os) = None
+  action_of text.pattern = None
+  action_of (text.harmony ks) = None
 
 -- ---- the book's: with the entries of the declarations
 
 -- "A declared number is one declaration's frequency, `p : q` or `A ROOT B`."
 abbrev pub declared_by : Declaration → Option Declared
-declared_by (text.ratio p q) = some (ratio p q)
-declared_by (text.root a b) = some (root a b)
-declared_by (text.sequence ts) = none
-declared_by (text.frequency f) = some (frequency f)
-declared_by (text.from k ts) = none
-declared_by (text.system a l ts) = none
-declared_by (text.anchor m) = none
-declared_by (text.width m) = none
-declared_by (text.fresh_period ts) = none
-declared_by (text.onward_period ts) = none
-declared_by (text.tones l) = none
-declared_by (text.logic c s os) = none
-declared_by text.pattern = none
-declared_by (text.harmony ks) = none
+declared_by (text.ratio p q) = Some (ratio p q)
+declared_by (text.root a b) = Some (root a b)
+declared_by (text.sequence ts) = None
+declared_by (text.frequency f) = Some (frequency f)
+declared_by (text.from k ts) = None
+declared_by (text.system a l ts) = None
+declared_by (text.anchor m) = None
+declared_by (text.width m) = None
+declared_by (text.fresh_period ts) = None
+declared_by (text.onward_period ts) = None
+declared_by (text.tones l) = None
+declared_by (text.logic c s os) = None
+declared_by text.pattern = None
+declared_by (text.harmony ks) = None
 
 abbrev pub declared_in : Program → List (Option Declared)
 declared_in p = map (λ (d : Placed). declared_by d.is) p

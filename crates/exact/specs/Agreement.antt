@@ -1,7 +1,6 @@
 -- The desk and the book agree. Demand 3: "the same anchor, width and silent keys, and each sounding key differs from its exact frequency by at most a
 -- thousandth of a cent for each power of a declared number". What "at most" means is left to the comparison `near` of an entry with a distance from 440 hertz.
-use Rattle.std.specs.Prelude.{◌≡◌, List, ℕ, ℤ, ◌-ℤ◌}
-use Rattle.std.proofs.Math.Option.{Option}
+use Rattle.std.specs.Prelude.{◌≡◌, List, ℕ, ℤ, ◌-ℤ◌, Option}
 use Rattle.cents.specs.Measure.{pitch440}
 use Rattle.tuning.specs.Scale.{Sound, muted, sounds}
 use Rattle.tuning.specs.Tuning.{Tuning, width, sound_of}

@@ -1,6 +1,5 @@
 -- The exact book. Document 01, "State and retunings", last paragraph.
-use Rattle.std.specs.Prelude.{Bool, true, false, cond, List, [], ◌∷◌, ℕ, suc, ℤ, pos, ◌+ℤ◌, ◌-ℤ◌, ◌*ℤ◌, eqb}
-use Rattle.std.proofs.Math.Option.{Option, some, none}
+use Rattle.std.specs.Prelude.{Bool, true, false, cond, List, [], ◌∷◌, ℕ, suc, ℤ, pos, ◌+ℤ◌, ◌-ℤ◌, ◌*ℤ◌, eqb, Option, Some, None}
 use Rattle.cents.specs.Measure.{one}
 use Rattle.tuning.specs.Scale.{Scale}
 use Rattle.tuning.specs.Tuning.{Tuning, Action, done}
@@ -70,8 +69,8 @@ pub record Named : Type 0 where
 
 unfoldable pub numbered : ℕ → List (Option Declared) → List Named
 numbered i [] = []
-numbered i (some d ∷ l) = record { name = declared i; number = number d } ∷ numbered (suc i) l
-numbered i (none ∷ l) = numbered (suc i) l
+numbered i (Some d ∷ l) = record { name = declared i; number = number d } ∷ numbered (suc i) l
+numbered i (None ∷ l) = numbered (suc i) l
 
 unfoldable pub numbers_of : List (Option Declared) → List Named
 numbers_of ds = record { name = the440; number = start440 } ∷ record { name = the_root; number = start_root } ∷ numbered 0 ds

@@ -1,6 +1,5 @@
 -- Demand 3: what is claimed of a stream as a whole.
-use Rattle.std.specs.Prelude.{◌≡◌, true, false, List, [], ◌∷◌, ℕ, ◌≤◌, ℤ}
-use Rattle.std.proofs.Math.Option.{Option, some, none}
+use Rattle.std.specs.Prelude.{◌≡◌, true, false, List, [], ◌∷◌, ℕ, ◌≤◌, ℤ, Option, Some, None}
 use Rattle.status.specs.Status.{done, key_unplayable, key_silent}
 use Rattle.tuning.specs.Scale.{Sound, muted, sounds}
 use Rattle.tuning.specs.Tuning.{Tuning, Action, start, sound_of}
@@ -25,8 +24,8 @@ use Rattle.exact.specs.Actions.{declared_in, book_action}
 
 -- "The exact book of demand 3 is fed the text and, frame by frame, each call that these rules make of a tone system or retuning, with its number."
 abbrev pub if_called : Option (Action entries) → ℕ → List book.Made → List book.Made
-if_called none number rest = rest
-if_called (some c) number rest = record { call = c; number = number } ∷ rest
+if_called None number rest = rest
+if_called (Some c) number rest = record { call = c; number = number } ∷ rest
 
 unfoldable pub fed_by : Program → List Made → List book.Made
 fed_by p [] = []
@@ -61,7 +60,7 @@ key_answer p stream house key room = answer_of (tables_of p) (desk_after (tables
 -- `StreamNear` speaks; document 02, 6/13: "only from 0 to 12,799,999"
 pub record KeyAnswered (p : Program) (stream : List Lent) (house key room : ℕ) : Type 0 where
   pub number : (key_answer p stream house key room).number ≡ key_number (sound_at (desk_after (tables_of p) start_desk stream) key)
-  pub told : told_by (key_answer p stream house key room).line ≡ some (told_of (sound_at (desk_after (tables_of p) start_desk stream) key))
+  pub told : told_by (key_answer p stream house key room).line ≡ Some (told_of (sound_at (desk_after (tables_of p) start_desk stream) key))
 
 -- an answer beside the book's sound of the key. Document 02, 6/13: "Demand 3's distance speaks of keys that do give a pitch." It is 20 exactly where the book is
 -- silent; and a pitch that is not given, since no instrument has it, is as near as one that is
@@ -73,7 +72,7 @@ pub data AnswerNear (near : Nearness) (ds : List (Option Declared)) (book : Soun
 -- and it is the answer's bytes that say so
 pub record AnswerAgrees (near : Nearness) (p : Program) (stream : List Lent) (house key room : ℕ) : Type 0 where
   pub told : KeyTold
-  pub line : told_by (key_answer p stream house key room).line ≡ some told
+  pub line : told_by (key_answer p stream house key room).line ≡ Some told
   pub agrees : AnswerNear near (declared_in p) (sound_of entries (book_after p stream) key) told
 
 -- the claim about one stream: of the desk as it is held, and of the answer's bytes

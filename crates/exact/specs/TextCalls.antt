@@ -1,7 +1,6 @@
 -- What a row of the tables calls is what its declaration says. In a table a sum of a retuning is capped (`capped` of filling/specs/Tables.antt); here every
 -- sum is as the text has it.
-use Rattle.std.specs.Prelude.{◌≡◌, true, List, ℕ, length}
-use Rattle.std.proofs.Math.Option.{Option}
+use Rattle.std.specs.Prelude.{◌≡◌, true, List, ℕ, length, Option}
 use Rattle.tuning.specs.Tuning.{Action}
 use Rattle.tuning.specs.Desk.{cents}
 use Rattle.tuning.specs.State.{places, valid_state}

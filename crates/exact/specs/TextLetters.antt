@@ -2,8 +2,7 @@
 -- becomes active and its start is called, and the search ends. Else the active logic's orders in declared order, the first with it being called; a called
 -- logic becomes active, its start called." Document 02, 5/13: a harmony's "bare name is a trigger beside `KEY letter`, in logics and orders; triggers are tried
 -- in declared order, logics first".
-use Rattle.std.specs.Prelude.{◌≡◌, Bool, true, false, List, [], ◌∷◌, ℕ, suc, eqb}
-use Rattle.std.proofs.Math.Option.{Option, some, none}
+use Rattle.std.specs.Prelude.{◌≡◌, Bool, true, false, List, [], ◌∷◌, ℕ, suc, eqb, Option, Some, None}
 use Rattle.harmonies.specs.Harmonies.{matches, harmony_of}
 use Rattle.program.specs.Program.{Trigger, by_letter, by_harmony, Order, AsLogic, no_logic_holds, a_logic, as_logic, AsHarmony, no_harmony, a_harmony, as_harmony, Program}
 use Rattle.program.specs.Meaning.{declaration_at}
@@ -38,30 +37,30 @@ passes q no_logic_holds = false
 passes q (a_logic c s os) = q c
 
 unfoldable pub logic_in : (Trigger → Bool) → ℕ → Program → Option ℕ
-logic_in q i [] = none
-logic_in q i (d ∷ ds) = elim (passes q (as_logic d.is)) [ true ↦ some i | false ↦ logic_in q (suc i) ds ]
+logic_in q i [] = None
+logic_in q i (d ∷ ds) = elim (passes q (as_logic d.is)) [ true ↦ Some i | false ↦ logic_in q (suc i) ds ]
 
 -- "Else the active logic's orders in declared order, the first with it being called"
 unfoldable pub order_in : (Trigger → Bool) → List Order → Option ℕ
-order_in q [] = none
-order_in q (o ∷ os) = elim (q o.trigger) [ true ↦ some o.calls | false ↦ order_in q os ]
+order_in q [] = None
+order_in q (o ∷ os) = elim (q o.trigger) [ true ↦ Some o.calls | false ↦ order_in q os ]
 
 abbrev pub order_by : (Trigger → Bool) → AsLogic → Option ℕ
-order_by q no_logic_holds = none
+order_by q no_logic_holds = None
 order_by q (a_logic c s os) = order_in q os
 
 abbrev pub active_order : Program → (Trigger → Bool) → Active → Option ℕ
-active_order p q active.Nothing = none
+active_order p q active.Nothing = None
 active_order p q (active.Logic i) = order_by q (as_logic (declaration_at p i))
 
 abbrev pub else_active : Program → Active → (Trigger → Bool) → Option ℕ → Option ℕ
-else_active p a q none = active_order p q a
-else_active p a q (some i) = some i
+else_active p a q None = active_order p q a
+else_active p a q (Some i) = Some i
 
 -- "a called logic becomes active, its start called", or with no start itself, which does nothing; what is no logic is called itself
 abbrev pub start_of : ℕ → Option ℕ → List ℕ
-start_of k none = k ∷ []
-start_of k (some j) = j ∷ []
+start_of k None = k ∷ []
+start_of k (Some j) = j ∷ []
 
 abbrev pub calls_in : Active → ℕ → AsLogic → Struck
 calls_in a k no_logic_holds = record { active = a; calls = k ∷ [] }
@@ -69,8 +68,8 @@ calls_in a k (a_logic c s os) = record { active = active.Logic k; calls = start_
 
 -- nothing is called where nothing is found
 abbrev pub unless_none : Program → Active → Option ℕ → Struck
-unless_none p a none = record { active = a; calls = [] }
-unless_none p a (some k) = calls_in a k (as_logic (declaration_at p k))
+unless_none p a None = record { active = a; calls = [] }
+unless_none p a (Some k) = calls_in a k (as_logic (declaration_at p k))
 
 unfoldable pub struck_in : Program → Active → (Trigger → Bool) → Struck
 struck_in p a q = unless_none p a (else_active p a q (logic_in q 0 p))

@@ -1,7 +1,6 @@
 -- Document 02, 6/13, "A pitch that no instrument has": what the bytes of an answer say of the book, and worked streams: what is answered, what is called, and what
 -- the book then has. The lines are those of the second program (reference/).
-use Rattle.std.specs.Prelude.{◌≡◌, true, List, [], ◌∷◌, map, ℕ, ◌≤◌, ℤ, pos}
-use Rattle.std.proofs.Math.Option.{Option, some}
+use Rattle.std.specs.Prelude.{◌≡◌, true, List, [], ◌∷◌, map, ℕ, ◌≤◌, ℤ, pos, Option, Some}
 use Rattle.ascii.specs.Ascii.{bytes}
 use Rattle.status.specs.Status.{key_silent}
 use Rattle.tuning.specs.Scale.{Sound, muted, sounds}
@@ -37,7 +36,7 @@ pub record Says (near : Nearness) (ds : List (Option Declared)) (book : Sound Po
 abbrev pub BytesSay : Nearness → Type 0
 BytesSay near =
     (text : List ℕ) (p : Program) → read_text text ≡ accepted p → (stream : List Lent) (house key room : ℕ) → first_house ≤ house → house ≤ second_house → key ≤ last_key
-    → smallest_buffer ≤ room → (told : KeyTold) → told_by (key_answer p stream house key room).line ≡ some told
+    → smallest_buffer ≤ room → (told : KeyTold) → told_by (key_answer p stream house key room).line ≡ Some told
     → Says near (declared_in p) (sound_of entries (book_after p stream) key) told
 
 -- ---- worked streams

@@ -1,7 +1,7 @@
 -- The declarations of a program that keeps document 01's limits can be written, with the values of the program. Assumes nothing.
 use mathlib.Core.Path.{◌≡◌, refl}
 use mathlib.Core.List.{List, [], ◌∷◌, map}
-use mathlib.Core.Option.{Option, some, none}
+use Rattle.std.specs.Prelude.{Option, Some, None}
 use Prim.Native.Nat.{ℕ, suc, ◌+◌, ◌≤◌, ◌<◌, ◌^◌}
 use native.Mathlib.Omega.{arith}
 use lib.IntN.{ℤ}
@@ -48,8 +48,8 @@ module _ {p : Program} {values : List ℤ} (v : Valued p values) (few : length p
   terms_fit {ts} h = record { few = h.few; each = each_map term_fit ts h.each }
 
   place_fit : (x : Option ℕ) → allowed.FitSystemPosition p x → FitSystemPosition values x
-  place_fit none h = tt
-  place_fit (some k) h = value_fit h.within
+  place_fit None h = tt
+  place_fit (Some k) h = value_fit h.within
 
   position_fit : (x : Position) → allowed.FitPosition p x → FitPosition values x
   position_fit mute h = tt
@@ -57,8 +57,8 @@ module _ {p : Program} {values : List ℤ} (v : Valued p values) (few : length p
   position_fit (named k ts) h = (value_fit h.0.within, terms_fit h.1)
 
   start_fit : (s : Option ℕ) → FitStart p s → called_by s < 2 ^ 31
-  start_fit none h = omega arith
-  start_fit (some k) h = omega (arith, h.refers.within)
+  start_fit None h = omega arith
+  start_fit (Some k) h = omega (arith, h.refers.within)
 
   trigger_fit : (x : Trigger) → FitTrigger p x → trigger_code x < 2 ^ 16
   trigger_fit (by_letter c) h = omega (arith, h.most)
@@ -92,8 +92,8 @@ module _ (p : Program) (v w : ℕ → ℤ) (agree : (k : ℕ) → k < length p �
 
   tone_same : (l : List (Option ℕ)) → Each (allowed.FitSystemPosition p) l → map (tone_of v) l ≡ map (tone_of w) l
   tone_same [] h = refl
-  tone_same (none ∷ l) h = rw (tone_same l h.1)
-  tone_same (some k ∷ l) h = rw (agree k h.0.within, tone_same l h.1)
+  tone_same (None ∷ l) h = rw (tone_same l h.1)
+  tone_same (Some k ∷ l) h = rw (agree k h.0.within, tone_same l h.1)
 
   change_same : (x : Position) → allowed.FitPosition p x → change_of v x ≡ change_of w x
   change_same mute h = refl

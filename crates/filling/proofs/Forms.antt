@@ -2,7 +2,7 @@
 use mathlib.Core.Path.{◌≡◌, refl, sym, ◌∙◌, ap, subst}
 use mathlib.Core.Bool.{true, false}
 use mathlib.Core.List.{List, [], ◌∷◌}
-use mathlib.Core.Option.{Option, some, none}
+use Rattle.std.specs.Prelude.{Option, Some, None}
 use Prim.Native.Nat.{ℕ, ◌+◌, ◌≤◌, ◌<◌, ◌^◌}
 use types.Run.{OneOf, miss}
 use lib.IntN.{ℤ, pos}
@@ -131,7 +131,7 @@ as_fresh (item.Argument a) h rest = refl
 abbrev pub plains : List ℕ
 plains = 0 ∷ 1 ∷ 2 ∷ 3 ∷ 4 ∷ 5 ∷ 6 ∷ 8 ∷ 9 ∷ 10 ∷ 11 ∷ 12 ∷ 13 ∷ 16 ∷ 17 ∷ 18 ∷ 19 ∷ 22 ∷ 23 ∷ 24 ∷ []
 
-pub as_plain : (values : List ℤ) (used : Counts) (i : Item) → OneOf plains (tag i) → begins (part i) ≡ false → as_trigger (as_listed (part i)) ≡ none → (rest : List Item)
+pub as_plain : (values : List ℤ) (used : Counts) (i : Item) → OneOf plains (tag i) → begins (part i) ≡ false → as_trigger (as_listed (part i)) ≡ None → (rest : List Item)
     → Plain values used i rest
 as_plain values used (item.Declared a b) h e n rest = record { row = refl; lists = λ l. refl; fit = λ f. f }
 as_plain values used (item.Ratio a b) h e n rest = record { row = refl; lists = λ l. refl; fit = λ f. f }
@@ -184,7 +184,7 @@ as_tones {i} (outside o) e rest = absurd (clash e (no_begin i o))
 
 -- ---- triggers
 
-pub as_logic_holds : {i : Item} → Inside i → {x : Trigger} → as_trigger (as_listed (part i)) ≡ some x → (rest : List Item)
+pub as_logic_holds : {i : Item} → Inside i → {x : Trigger} → as_trigger (as_listed (part i)) ≡ Some x → (rest : List Item)
     → form_of (i ∷ rest) ≡ logic x (start_of rest) (orders_of rest)
 as_logic_holds add e rest = absurd (some_or_none (sym e))
 as_logic_holds subtract e rest = absurd (some_or_none (sym e))

@@ -2,7 +2,7 @@
 use mathlib.Core.Path.{◌≡◌, refl, ap}
 use mathlib.Core.Bool.{false}
 use mathlib.Core.List.{List, [], ◌∷◌}
-use mathlib.Core.Option.{Option, some, none}
+use Rattle.std.specs.Prelude.{Option, Some, None}
 use Prim.Native.Nat.{ℕ}
 use native.Mathlib.Omega.{arith}
 use lib.Dec.{ltb}
@@ -18,10 +18,10 @@ use Rattle.program.specs.Program.{Trigger, by_letter, by_harmony, Order, Ordered
 use Rattle.filling.specs.Inner.{begins, position_by, as_trigger}
 
 -- something is not nothing, and one thing
-pub some_or_none : {A : Type 0} {x : A} → some x ≡ none → ⊥
+pub some_or_none : {A : Type 0} {x : A} → Some x ≡ None → ⊥
 some_or_none e = let z : ◌≡◌ {A = ℕ} 0 1 = cc in omega arith
 
-pub some_same : {A : Type 0} {x y : A} → some x ≡ some y → x ≡ y
+pub some_same : {A : Type 0} {x y : A} → Some x ≡ Some y → x ≡ y
 some_same e = cc
 
 -- an item that gives nothing to any list
@@ -133,7 +133,7 @@ no_position (outside o) h ts = ap (λ (q : AsListed). (with_group q (record { be
 abbrev pub no_triggers : List ℕ
 no_triggers = 0 ∷ 1 ∷ 2 ∷ 3 ∷ 4 ∷ 5 ∷ 6 ∷ 7 ∷ 8 ∷ 9 ∷ 10 ∷ 11 ∷ 12 ∷ 13 ∷ 14 ∷ 15 ∷ 17 ∷ 18 ∷ 20 ∷ 21 ∷ 22 ∷ 23 ∷ 24 ∷ []
 
-pub no_trigger : {i : Item} → Inside i → OneOf no_triggers (tag i) → as_trigger (as_listed (part i)) ≡ none
+pub no_trigger : {i : Item} → Inside i → OneOf no_triggers (tag i) → as_trigger (as_listed (part i)) ≡ None
 no_trigger add h = refl
 no_trigger subtract h = refl
 no_trigger muted h = refl
@@ -152,11 +152,11 @@ abbrev pub no_calls : List ℕ
 no_calls = 0 ∷ 1 ∷ 2 ∷ 3 ∷ 4 ∷ 5 ∷ 6 ∷ 7 ∷ 8 ∷ 9 ∷ 10 ∷ 11 ∷ 12 ∷ 13 ∷ 14 ∷ 15 ∷ 16 ∷ 17 ∷ 19 ∷ 20 ∷ 21 ∷ 22 ∷ 23 ∷ 24 ∷ []
 
 -- before a trigger no call waits
-trigger_call : (x : Trigger) (called : Option ℕ) (l : List Order) → (triggered_by x called l).call ≡ none
-trigger_call x none l = refl
-trigger_call x (some n) l = refl
+trigger_call : (x : Trigger) (called : Option ℕ) (l : List Order) → (triggered_by x called l).call ≡ None
+trigger_call x None l = refl
+trigger_call x (Some n) l = refl
 
-pub no_call_holds : {i : Item} → Inside i → OneOf no_calls (tag i) → (g : Ordered) → (order_then (part i) g).call ≡ none
+pub no_call_holds : {i : Item} → Inside i → OneOf no_calls (tag i) → (g : Ordered) → (order_then (part i) g).call ≡ None
 no_call_holds add h g = refl
 no_call_holds subtract h g = refl
 no_call_holds muted h g = refl

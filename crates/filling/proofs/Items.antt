@@ -1,7 +1,7 @@
 -- Laws of the lists that the items from one place to another of a slice give, item by item. Assumes nothing.
 use mathlib.Core.Path.{◌≡◌, refl, ◌∙◌, ap}
 use mathlib.Core.List.{List, [], ◌∷◌, ◌++◌}
-use mathlib.Core.Option.{Option, some, none}
+use Rattle.std.specs.Prelude.{Option, Some, None}
 use Prim.Native.Nat.{ℕ, ◌+◌, ◌≤◌, ◌<◌}
 use Rattle.grammar.specs.declared.Item.{Item}
 use Rattle.grammar.specs.Items.{item_at}
@@ -39,8 +39,8 @@ place_first (a_call n) l = refl
 place_first (a_key k) l = refl
 
 trigger_first : (x : Trigger) (called : Option ℕ) (l : List Order) → (triggered_by x called l).orders ≡ (triggered_by x called []).orders ++ l
-trigger_first x none l = refl
-trigger_first x (some n) l = refl
+trigger_first x None l = refl
+trigger_first x (Some n) l = refl
 
 order_first : (q : AsListed) (g : Ordered) → (with_order q g).orders ≡ (with_order q (record { call = g.call; orders = [] })).orders ++ g.orders
 order_first unlisted g = refl
@@ -90,7 +90,7 @@ module _ (l : List ℕ) (i to : ℕ) where
     unfolding system_positions_of
     places_end = ap system_positions_of (between_none l i to k)
 
-    pub ordered_end : ordered (items_between l i to) ≡ record { call = none; orders = [] }
+    pub ordered_end : ordered (items_between l i to) ≡ record { call = None; orders = [] }
     unfolding ordered
     ordered_end = ap ordered (between_none l i to k)
 
@@ -98,7 +98,7 @@ module _ (l : List ℕ) (i to : ℕ) where
     unfolding grouped
     groups_end = ap grouped (between_none l i to k)
 
-    pub start_end : start_of (items_between l i to) ≡ none
+    pub start_end : start_of (items_between l i to) ≡ None
     unfolding start_of
     start_end = ap start_of (between_none l i to k)
 

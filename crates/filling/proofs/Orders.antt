@@ -1,7 +1,7 @@
 -- The order that begins with an item: its trigger, and what the next item calls. Assumes nothing.
 use mathlib.Core.Path.{◌≡◌, refl, sym, ◌∙◌, ap}
 use mathlib.Core.List.{List, [], ◌∷◌}
-use mathlib.Core.Option.{Option, some, none}
+use Rattle.std.specs.Prelude.{Option, Some, None}
 use Prim.Native.Nat.{ℕ, ◌+◌, ◌≤◌, ◌<◌}
 use types.Run.{OneOf}
 use Rattle.grammar.specs.declared.Item.{Item}
@@ -16,7 +16,7 @@ use Rattle.filling.proofs.Items.{ordered_end, ordered_next}
 
 -- ---- what begins an order
 
-no_order_holds : (q : AsListed) → as_trigger q ≡ none → (called : Option ℕ) → (with_order q (record { call = called; orders = [] })).orders ≡ []
+no_order_holds : (q : AsListed) → as_trigger q ≡ None → (called : Option ℕ) → (with_order q (record { call = called; orders = [] })).orders ≡ []
 no_order_holds (a_trigger x) e called = absurd (some_or_none e)
 no_order_holds unlisted e called = refl
 no_order_holds (a_term t) e called = refl
@@ -27,7 +27,7 @@ no_order_holds (a_start n) e called = refl
 no_order_holds (a_call n) e called = refl
 no_order_holds (a_key k) e called = refl
 
-is_trigger_holds : (q : AsListed) {x : Trigger} → as_trigger q ≡ some x → q ≡ a_trigger x
+is_trigger_holds : (q : AsListed) {x : Trigger} → as_trigger q ≡ Some x → q ≡ a_trigger x
 is_trigger_holds (a_trigger y) e = ap a_trigger (some_same e)
 is_trigger_holds unlisted e = absurd (some_or_none (sym e))
 is_trigger_holds (a_term t) e = absurd (some_or_none (sym e))
@@ -45,7 +45,7 @@ abbrev call_at : List ℕ → ℕ → ℕ → Option ℕ
 call_at l i to = (ordered (items_between l i to)).call
 
 module _ (l : List ℕ) (i to : ℕ) where
-  call_end : to ≤ i → call_at l i to ≡ none
+  call_end : to ≤ i → call_at l i to ≡ None
   call_end k = ap (λ (g : Ordered). g.call) (ordered_end l i to k)
 
   call_here : {x : Item} → x ≡ item_at l i → i < to → call_at l i to ≡ (order_then (part x) (ordered (items_between l (i + 1) to))).call
@@ -54,10 +54,10 @@ module _ (l : List ℕ) (i to : ℕ) where
 -- ---- both
 
 module _ (l : List ℕ) (i to : ℕ) {x : Item} (e : x ≡ item_at l i) where
-  pub nothing_begins : none ≡ as_trigger (as_listed (part x)) → [] ≡ order_at l i to
+  pub nothing_begins : None ≡ as_trigger (as_listed (part x)) → [] ≡ order_at l i to
   nothing_begins h = sym (no_order_holds (as_listed (part x)) (sym h) (call_at l (i + 1) to)) ∙ rw e
 
-  module _ {t : Trigger} (q : some t ≡ as_trigger (as_listed (part x))) where
+  module _ {t : Trigger} (q : Some t ≡ as_trigger (as_listed (part x))) where
     at_trigger : {called : Option ℕ} → call_at l (i + 1) to ≡ called → (triggered_by t called []).orders ≡ order_at l i to
     at_trigger p =
         ap (λ (c : Option ℕ). (triggered_by t c []).orders) (sym p)

@@ -1,6 +1,5 @@
 -- What the contracts cite: no part of the rules.
-use Rattle.std.specs.Prelude.{◌≡◌, Bool, List, [], ◌∷◌, map, ℕ, ◌+◌, ◌*◌, ◌≤◌, ◌<◌, ◌^◌, ltb, ℤ, pos, nat_abs, length, get_or, replicate}
-use Rattle.std.proofs.Math.Option.{Option, some, none}
+use Rattle.std.specs.Prelude.{◌≡◌, Bool, List, [], ◌∷◌, map, ℕ, ◌+◌, ◌*◌, ◌≤◌, ◌<◌, ◌^◌, ltb, ℤ, pos, nat_abs, length, get_or, replicate, Option, Some, None}
 use Rattle.std.proofs.lemmas.List.Edits.{sets}
 use Rattle.grammar.specs.Items.{item_at}
 use Rattle.grammar.specs.Reading.{most_terms}
@@ -71,15 +70,15 @@ position_at items i to = position_by (part (item_at items i)) (grouped (items_be
 
 -- the trigger that a part is, if it is one
 abbrev pub as_trigger : AsListed → Option Trigger
-as_trigger (a_trigger x) = some x
-as_trigger unlisted = none
-as_trigger (a_term t) = none
-as_trigger muted_position = none
-as_trigger kept_position = none
-as_trigger (tone_position n) = none
-as_trigger (a_start n) = none
-as_trigger (a_call n) = none
-as_trigger (a_key k) = none
+as_trigger (a_trigger x) = Some x
+as_trigger unlisted = None
+as_trigger (a_term t) = None
+as_trigger muted_position = None
+as_trigger kept_position = None
+as_trigger (tone_position n) = None
+as_trigger (a_start n) = None
+as_trigger (a_call n) = None
+as_trigger (a_key k) = None
 
 -- the order that begins with a part and calls this, if one does
 abbrev pub order_by : Part → Option ℕ → List Order
@@ -103,8 +102,8 @@ trigger_by (triggerRead.Letter c) = by_letter c
 trigger_by (triggerRead.Harmony k) = by_harmony k
 
 abbrev pub triggers_here : TriggerHere → Option Trigger
-triggers_here triggerHere.Nothing = none
-triggers_here (triggerHere.Trigger x) = some (trigger_by x)
+triggers_here triggerHere.Nothing = None
+triggers_here (triggerHere.Trigger x) = Some (trigger_by x)
 
 abbrev pub orders_here : OrderHere → List Order
 orders_here orderHere.Nothing = []
@@ -136,8 +135,8 @@ pub record Summable (values : List ℤ) (ts : List Term) : Type 0 where
   pub each : Each (FitTerm values) ts
 
 abbrev pub FitSystemPosition : List ℤ → Option ℕ → Type 0
-FitSystemPosition values none = Unit
-FitSystemPosition values (some k) = FitValue values k
+FitSystemPosition values None = Unit
+FitSystemPosition values (Some k) = FitValue values k
 
 abbrev pub FitPosition : List ℤ → Position → Type 0
 FitPosition values mute = Unit

@@ -1,6 +1,5 @@
 -- The tables of a program: the row of each declaration, in the order of the text, with its tones, changes and orders after those of the rows before.
-use Rattle.std.specs.Prelude.{List, [], ◌∷◌, ◌++◌, map, ℕ, suc, ◌+◌, ◌*◌, ℤ, pos, ◌+ℤ◌, ◌*ℤ◌, length}
-use Rattle.std.proofs.Math.Option.{Option, some, none}
+use Rattle.std.specs.Prelude.{List, [], ◌∷◌, ◌++◌, map, ℕ, suc, ◌+◌, ◌*◌, ℤ, pos, ◌+ℤ◌, ◌*ℤ◌, length, Option, Some, None}
 use Rattle.values.specs.Values.{Term, weight}
 use Rattle.tuning.specs.declared.ToneChange.{ToneChange}
 use Rattle.tuning.specs.declared.ToneChange.TheVariants.{Mute, Move, Set}
@@ -24,8 +23,8 @@ sum_of value (t ∷ ts) = value t.of *ℤ weight t +ℤ sum_of value ts
 
 -- a logic's start: 0 for none, else one more than the number of what it calls
 abbrev pub start_code : Option ℕ → ℕ
-start_code none = 0
-start_code (some k) = suc k
+start_code None = 0
+start_code (Some k) = suc k
 
 -- a trigger's code in the tables: a letter's capital, or 256 and the number of the harmony's declaration
 abbrev pub trigger_code : Trigger → ℕ
@@ -39,8 +38,8 @@ module _ (value : ℕ → ℤ) where
 
   -- the tones of a tone system
   abbrev pub tone_of : Option ℕ → Tone
-  tone_of none = Muted
-  tone_of (some k) = At (record { 0 = value k })
+  tone_of None = Muted
+  tone_of (Some k) = At (record { 0 = value k })
 
   abbrev pub tones_of : Declaration → List Tone
   tones_of (ratio p q) = []

@@ -3,7 +3,9 @@ use Prim.Native.Nat.{ℕ, ◌+◌, ◌-◌, ◌*◌}
 use mathlib.Core.Path.{◌≡◌, refl, sym, ap, ◌∙◌, subst}
 use mathlib.Core.Bool.{Bool, true, false, cond, ◌&&◌}
 use mathlib.Core.List.{List, [], ◌∷◌, cons-ne-nil}
-use mathlib.Core.Option.{Option, none, some, Option-elim, none-ne-some, some-injective}
+use Rattle.std.specs.Prelude.{Option, None, Some}
+use Rattle.std.proofs.lemmas.Option.{none-some, same_Some}
+use Rattle.std.specs.Option.{option_map_or}
 use mathlib.Core.Logic.{◌⊎◌, inl, inr, ⊎_elim}
 use native.Mathlib.Omega.{arith}
 use borrow.Author.Tests.{eq-eqb, eqb-true}
@@ -29,14 +31,13 @@ use Rattle.frames.proofs.Decoding.{row_decoded}
 
 module _ (house count : ℕ) (line : List ℕ) where
   -- bad, whatever bytes stand behind it
-  always_bad : ((cs : List ℕ) → bytes_of (drop head_digits line) ≡ some cs → framed (house ∷ letter_row_kind ∷ count ∷ cs) ≡ bad) → row_behind house count line ≡ bad
-  unfolding Option-elim
+  always_bad : ((cs : List ℕ) → bytes_of (drop head_digits line) ≡ Some cs → framed (house ∷ letter_row_kind ∷ count ∷ cs) ≡ bad) → row_behind house count line ≡ bad
   always_bad h = go (bytes_of (drop head_digits line)) h
     where
-      go : (o : Option (List ℕ)) → ((cs : List ℕ) → o ≡ some cs → framed (house ∷ letter_row_kind ∷ count ∷ cs) ≡ bad)
-          → Option-elim o bad (λ (cs : List ℕ). framed (house ∷ letter_row_kind ∷ count ∷ cs)) ≡ bad
-      go none k = refl
-      go (some cs) k = k cs refl
+      go : (o : Option (List ℕ)) → ((cs : List ℕ) → o ≡ Some cs → framed (house ∷ letter_row_kind ∷ count ∷ cs) ≡ bad)
+          → option_map_or (λ (cs : List ℕ). framed (house ∷ letter_row_kind ∷ count ∷ cs)) o bad ≡ bad
+      go None k = refl
+      go (Some cs) k = k cs refl
 
   pub no_house : is_house house ≡ false → row_behind house count line ≡ bad
   unfolding framed
@@ -53,8 +54,8 @@ module _ (house count : ℕ) (line : List ℕ) where
 
   -- by its letters
   module _ (h : is_house house ≡ true) (n : is_count count ≡ true) (k : length (drop head_digits line) ≡ 2 * count) where
-    pub of_letters : (cs : List ℕ) → bytes_of (drop head_digits line) ≡ some cs → are_capitals cs ≡ true → row_behind house count line ≡ letter_row house cs
-    unfolding Option-elim framed
+    pub of_letters : (cs : List ℕ) → bytes_of (drop head_digits line) ≡ Some cs → are_capitals cs ≡ true → row_behind house count line ≡ letter_row house cs
+    unfolding framed
     of_letters cs e l =
         let m : length cs ≡ count = omega (arith, two_each (drop head_digits line) e) in
         rw (e, h, n, eq-eqb (length cs) count m, l)
@@ -144,27 +145,27 @@ row_bytes_holds (house ∷ kind ∷ rest) =
     (of_either (Read bs) (eqb kind letter_row_kind) (letter_row_frame house rest) bad (λ e. row_read house kind rest (eqb-true kind letter_row_kind e)) (inl refl)))))))
     (inl refl)
 
-pub row_line : (l : List ℕ) {house : ℕ} {cs : List ℕ} → frame_of l ≡ letter_row house cs → bytes_of l ≡ some (house ∷ letter_row_kind ∷ length cs ∷ cs)
-unfolding frame_of Option-elim
+pub row_line : (l : List ℕ) {house : ℕ} {cs : List ℕ} → frame_of l ≡ letter_row house cs → bytes_of l ≡ Some (house ∷ letter_row_kind ∷ length cs ∷ cs)
+unfolding frame_of
 row_line l {house} {cs} e = go (bytes_of l) e
   where
-    go : (o : Option (List ℕ)) → Option-elim o bad framed ≡ letter_row house cs → o ≡ some (house ∷ letter_row_kind ∷ length cs ∷ cs)
-    go none e = absurd (cons-ne-nil _ _ (sym (ap row_bytes e)))
-    go (some bs) e = ⊎_elim (λ z. absurd (cons-ne-nil _ _ (sym (ap row_bytes e) ∙ z))) (λ z. ap some (sym z ∙ ap row_bytes e)) (row_bytes_holds bs)
+    go : (o : Option (List ℕ)) → option_map_or framed o bad ≡ letter_row house cs → o ≡ Some (house ∷ letter_row_kind ∷ length cs ∷ cs)
+    go None e = absurd (cons-ne-nil _ _ (sym (ap row_bytes e)))
+    go (Some bs) e = ⊎_elim (λ z. absurd (cons-ne-nil _ _ (sym (ap row_bytes e) ∙ z))) (λ z. ap Some (sym z ∙ ap row_bytes e)) (row_bytes_holds bs)
 
 -- without its first byte
-rest_bytes : (l : List ℕ) {b : ℕ} {bs : List ℕ} → bytes_of l ≡ some (b ∷ bs) → bytes_of (drop 2 l) ≡ some bs
+rest_bytes : (l : List ℕ) {b : ℕ} {bs : List ℕ} → bytes_of l ≡ Some (b ∷ bs) → bytes_of (drop 2 l) ≡ Some bs
 unfolding bytes_of
-rest_bytes [] {b} {bs} e = absurd (cons-ne-nil b bs (sym (some-injective _ _ e)))
-rest_bytes (a ∷ []) e = absurd (none-ne-some _ e)
+rest_bytes [] {b} {bs} e = absurd (cons-ne-nil b bs (sym (same_Some _ _ e)))
+rest_bytes (a ∷ []) e = absurd (none-some _ e)
 rest_bytes (a ∷ c ∷ l) {b} {bs} e = go (byte_of a c) (bytes_of l) e
   where
-    go : (o : Option ℕ) (p : Option (List ℕ)) → of_both (λ x xs. x ∷ xs) o p ≡ some (b ∷ bs) → p ≡ some bs
-    go none p e = absurd (none-ne-some _ e)
-    go (some x) none e = absurd (none-ne-some _ e)
-    go (some x) (some xs) e = ap some (ap (drop 1) (some-injective _ _ e))
+    go : (o : Option ℕ) (p : Option (List ℕ)) → of_both (λ x xs. x ∷ xs) o p ≡ Some (b ∷ bs) → p ≡ Some bs
+    go None p e = absurd (none-some _ e)
+    go (Some x) None e = absurd (none-some _ e)
+    go (Some x) (Some xs) e = ap Some (ap (drop 1) (same_Some _ _ e))
 
-pub row_behind_holds : (l : List ℕ) {house : ℕ} {cs : List ℕ} → frame_of l ≡ letter_row house cs → bytes_of (drop head_digits l) ≡ some cs
+pub row_behind_holds : (l : List ℕ) {house : ℕ} {cs : List ℕ} → frame_of l ≡ letter_row house cs → bytes_of (drop head_digits l) ≡ Some cs
 row_behind_holds l e =
     let three = row_line l e in
     let two = rest_bytes l three in
@@ -175,7 +176,7 @@ row_behind_holds l e =
 pub record RowThere (l : List ℕ) (house count : ℕ) : Type 0 where
   pub letters : List ℕ
   pub same : frame_of l ≡ letter_row house letters
-  pub behind : bytes_of (drop head_digits l) ≡ some letters
+  pub behind : bytes_of (drop head_digits l) ≡ Some letters
   pub size : length letters ≡ count
   pub digits : length l ≡ head_digits + 2 * count
   pub ranges : RowRanges house letters

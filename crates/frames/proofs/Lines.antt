@@ -3,7 +3,9 @@ use Prim.Native.Nat.{ℕ, suc, ◌+◌, ◌*◌, ◌≤◌, ◌<◌}
 use mathlib.Core.Path.{◌≡◌, refl, ap}
 use mathlib.Core.Bool.{Bool, true, false, cond, ◌&&◌}
 use mathlib.Core.List.{List, [], ◌∷◌}
-use mathlib.Core.Option.{Option, none, some, none-ne-some, some-injective, Option-elim}
+use Rattle.std.specs.Prelude.{Option, None, Some}
+use Rattle.std.proofs.lemmas.Option.{none-some, same_Some}
+use Rattle.std.specs.Option.{option_map_or}
 use native.Mathlib.Numerals.{add-one}
 use native.Mathlib.Omega.{arith}
 use native.Mathlib.Decide.{dec_le}
@@ -16,16 +18,16 @@ use Rattle.hexadecimal.specs.Digits.{of_both, byte_of, bytes_of}
 use Rattle.frames.specs.Frames.{are_capitals, letter_row_kind, fewest_presses, most_presses, is_count, bad, letter_row, letter_row_frame, framed, frame_of, enough}
 
 -- one byte more is two digits more
-longer : (o : Option ℕ) (p : Option (List ℕ)) (n : ℕ) {bs : List ℕ} → ((xs : List ℕ) → p ≡ some xs → n ≡ 2 * length xs) → of_both (λ b bs. b ∷ bs) o p ≡ some bs → suc (suc n) ≡ 2 * length bs
-longer (some x) (some xs) n {bs} h e = omega (arith, h xs refl, ap length (some-injective (x ∷ xs) bs e))
-longer (some x) none n {bs} h e = absurd (none-ne-some bs e)
-longer none p n {bs} h e = absurd (none-ne-some bs e)
+longer : (o : Option ℕ) (p : Option (List ℕ)) (n : ℕ) {bs : List ℕ} → ((xs : List ℕ) → p ≡ Some xs → n ≡ 2 * length xs) → of_both (λ b bs. b ∷ bs) o p ≡ Some bs → suc (suc n) ≡ 2 * length bs
+longer (Some x) (Some xs) n {bs} h e = omega (arith, h xs refl, ap length (same_Some (x ∷ xs) bs e))
+longer (Some x) None n {bs} h e = absurd (none-some bs e)
+longer None p n {bs} h e = absurd (none-some bs e)
 
 -- a line has two digits for each of its bytes
-pub two_each : (l : List ℕ) {bs : List ℕ} → bytes_of l ≡ some bs → length l ≡ 2 * length bs
+pub two_each : (l : List ℕ) {bs : List ℕ} → bytes_of l ≡ Some bs → length l ≡ 2 * length bs
 unfolding bytes_of
-two_each [] {bs} e = omega (arith, ap length (some-injective [] bs e))
-two_each (a ∷ []) {bs} e = absurd (none-ne-some bs e)
+two_each [] {bs} e = omega (arith, ap length (same_Some [] bs e))
+two_each (a ∷ []) {bs} e = absurd (none-some bs e)
 two_each (a ∷ b ∷ l) e = longer (byte_of a b) (bytes_of l) (length l) (λ xs h. two_each l h) e
 
 -- bad either way
@@ -68,12 +70,12 @@ long (house ∷ kind ∷ b ∷ c ∷ more) n =
 -- so is a line of such a length
 module _ (l : List ℕ) where
   by_bytes : ((bs : List ℕ) → length l ≡ 2 * length bs → framed bs ≡ bad) → frame_of l ≡ bad
-  unfolding frame_of Option-elim
+  unfolding frame_of
   by_bytes n = go (bytes_of l) (λ bs h. two_each l h)
     where
-      go : (o : Option (List ℕ)) → ((bs : List ℕ) → o ≡ some bs → length l ≡ 2 * length bs) → Option-elim o bad framed ≡ bad
-      go none h = refl
-      go (some bs) h = n bs (h bs refl)
+      go : (o : Option (List ℕ)) → ((bs : List ℕ) → o ≡ Some bs → length l ≡ 2 * length bs) → option_map_or framed o bad ≡ bad
+      go None h = refl
+      go (Some bs) h = n bs (h bs refl)
 
   pub too_short : length l < 6 → frame_of l ≡ bad
   too_short n = by_bytes (λ bs h. short bs (omega arith))
@@ -101,30 +103,28 @@ next_byte l at h =
     rw (drop-cons l at 0 (omega arith), drop-cons l (suc at) 0 (omega arith), add-one at, two)
 
 -- the frame of a line that has three bytes or more
-pub first_three : (l : List ℕ) → 6 ≤ length l → frame_of l ≡ Option-elim (byte_at l 0 (byte_at l 2 (byte_at l 4 (bytes_of (drop 6 l))))) bad framed
+pub first_three : (l : List ℕ) → 6 ≤ length l → frame_of l ≡ option_map_or framed (byte_at l 0 (byte_at l 2 (byte_at l 4 (bytes_of (drop 6 l))))) bad
 unfolding frame_of
 first_three l h = rw (next_byte l 0 (omega arith), next_byte l 2 (omega arith), next_byte l 4 (omega arith))
 
 -- what stands behind these
-pub behind : (house kind b : ℕ) (o : Option (List ℕ)) → Option-elim (of_both (λ b bs. b ∷ bs) (some house) (of_both (λ b bs. b ∷ bs) (some kind) (of_both (λ b bs. b ∷ bs) (some b) o))) bad framed
-    ≡ Option-elim o bad (λ (cs : List ℕ). framed (house ∷ kind ∷ b ∷ cs))
-unfolding Option-elim
-behind house kind b none = refl
-behind house kind b (some cs) = refl
+pub behind : (house kind b : ℕ) (o : Option (List ℕ)) → option_map_or framed (of_both (λ b bs. b ∷ bs) (Some house) (of_both (λ b bs. b ∷ bs) (Some kind) (of_both (λ b bs. b ∷ bs) (Some b) o))) bad
+    ≡ option_map_or (λ (cs : List ℕ). framed (house ∷ kind ∷ b ∷ cs)) o bad
+behind house kind b None = refl
+behind house kind b (Some cs) = refl
 
 -- nothing, where the line has six digits
-pub nothing_behind : (house kind b : ℕ) (l : List ℕ) → length l ≡ 6 → Option-elim (bytes_of (drop 6 l)) bad (λ (cs : List ℕ). framed (house ∷ kind ∷ b ∷ cs)) ≡ framed (house ∷ kind ∷ b ∷ [])
-unfolding bytes_of Option-elim
+pub nothing_behind : (house kind b : ℕ) (l : List ℕ) → length l ≡ 6 → option_map_or (λ (cs : List ℕ). framed (house ∷ kind ∷ b ∷ cs)) (bytes_of (drop 6 l)) bad ≡ framed (house ∷ kind ∷ b ∷ [])
+unfolding bytes_of
 nothing_behind house kind b l h = rw (drop_of_length-le l {i = 6} (omega arith))
 
 -- and what makes any other frame than a row too long
 pub more_behind : (house kind b : ℕ) (l : List ℕ) → 6 < length l → eqb kind letter_row_kind ≡ false
-    → Option-elim (bytes_of (drop 6 l)) bad (λ (cs : List ℕ). framed (house ∷ kind ∷ b ∷ cs)) ≡ bad
-unfolding Option-elim
+    → option_map_or (λ (cs : List ℕ). framed (house ∷ kind ∷ b ∷ cs)) (bytes_of (drop 6 l)) bad ≡ bad
 more_behind house kind b l h e = go (bytes_of (drop 6 l)) (λ cs f. two_each (drop 6 l) f)
   where
-    go : (o : Option (List ℕ)) → ((cs : List ℕ) → o ≡ some cs → length (drop 6 l) ≡ 2 * length cs)
-        → Option-elim o bad (λ (cs : List ℕ). framed (house ∷ kind ∷ b ∷ cs)) ≡ bad
-    go none k = refl
-    go (some []) k = absurd (omega (arith, k [] refl, length-drop 6 l))
-    go (some (c ∷ more)) k = three house kind b c more e
+    go : (o : Option (List ℕ)) → ((cs : List ℕ) → o ≡ Some cs → length (drop 6 l) ≡ 2 * length cs)
+        → option_map_or (λ (cs : List ℕ). framed (house ∷ kind ∷ b ∷ cs)) o bad ≡ bad
+    go None k = refl
+    go (Some []) k = absurd (omega (arith, k [] refl, length-drop 6 l))
+    go (Some (c ∷ more)) k = three house kind b c more e

@@ -3,7 +3,8 @@ use Prim.Native.Nat.{ℕ, ◌≤◌}
 use mathlib.Core.Path.{◌≡◌, refl}
 use mathlib.Core.Bool.{Bool, true, false, cond, ◌&&◌}
 use mathlib.Core.List.{List, [], ◌∷◌}
-use mathlib.Core.Option.{Option, none, some, Option-elim}
+use Rattle.std.specs.Prelude.{Option, None, Some}
+use Rattle.std.specs.Option.{option_map_or}
 use borrow.Author.Tests.{leb-true, eqb-true}
 use lib.Dec.{eqb}
 use lib.ListN.{length}
@@ -113,9 +114,9 @@ framed_inside (house ∷ []) = refl
 framed_inside (house ∷ kind ∷ rest) = inside_if (is_house house) (kind_frame house kind rest) (λ h. kind_inside house h kind rest)
 
 pub frame_inside : (l : List ℕ) → inside (frame_of l) ≡ true
-unfolding frame_of Option-elim
+unfolding frame_of
 frame_inside l = go (bytes_of l)
   where
-    go : (o : Option (List ℕ)) → inside (Option-elim o bad framed) ≡ true
-    go none = refl
-    go (some bs) = framed_inside bs
+    go : (o : Option (List ℕ)) → inside (option_map_or framed o bad) ≡ true
+    go None = refl
+    go (Some bs) = framed_inside bs

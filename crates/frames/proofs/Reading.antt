@@ -3,7 +3,7 @@ use Prim.Native.Nat.{ℕ, ◌+◌, ◌*◌, ◌<◌}
 use mathlib.Core.Path.{◌≡◌, refl, sym, ap, ◌∙◌}
 use mathlib.Core.Bool.{Bool, true, false, ◌&&◌, false≢true}
 use mathlib.Core.List.{List, [], ◌∷◌, ◌++◌, append-nil}
-use mathlib.Core.Option.{Option, none, some, map}
+use Rattle.std.specs.Prelude.{Option, None, Some, option_map}
 use native.Mathlib.Numerals.{add-one}
 use native.Mathlib.Omega.{arith}
 use lib.ListN.{length, take, drop, get_or, set, length-set, drop_of_length-le}
@@ -24,7 +24,7 @@ capitals_append (x ∷ xs) ys = go (is_capital x) (capitals_append xs ys)
 
 -- bytes before those that digits write, where they write any
 abbrev before : List ℕ → Option (List ℕ) → Option (List ℕ)
-before xs o = map (λ (ys : List ℕ). xs ++ ys) o
+before xs o = option_map (λ (ys : List ℕ). xs ++ ys) o
 
 module _ (digits : List ℕ) where
   -- with what stands behind them those that are read are what the digits write, and each is a letter
@@ -38,8 +38,8 @@ module _ (digits : List ℕ) where
   reading_starts codes h = record { size = h; bytes = go (bytes_of digits); capitals = refl }
     where
       go : (o : Option (List ℕ)) → o ≡ before [] o
-      go none = refl
-      go (some ys) = refl
+      go None = refl
+      go (Some ys) = refl
 
   module _ {codes : List ℕ} {i : ℕ} (r : Reading codes i) where
     -- the next byte
@@ -48,7 +48,7 @@ module _ (digits : List ℕ) where
     next h e = r.bytes ∙ ap (before (take i codes)) (next_byte digits (2 * i) h ∙ ap (λ (x : Option ℕ). of_both (λ b bs. b ∷ bs) x (bytes_of (drop (2 * i + 2) digits))) e)
 
     -- a letter
-    pub reading_on : {c : ℕ} → i < most_presses → 2 * i + 1 < length digits → byte_of (get_or digits (2 * i) 0) (get_or digits (2 * i + 1) 0) ≡ some c → is_capital c ≡ true
+    pub reading_on : {c : ℕ} → i < most_presses → 2 * i + 1 < length digits → byte_of (get_or digits (2 * i) 0) (get_or digits (2 * i + 1) 0) ≡ Some c → is_capital c ≡ true
         → Reading (set codes i c) (i + 1)
     unfolding are_capitals
     reading_on {c} h k e l =
@@ -60,27 +60,27 @@ module _ (digits : List ℕ) where
           capitals = rw more (capitals_append (take i codes) (c ∷ []) ∙ rw (r.capitals, l));
         }
       where
-        go : (o : Option (List ℕ)) → before (take i codes) (of_both (λ b bs. b ∷ bs) (some c) o) ≡ before (take i codes ++ c ∷ []) o
-        go none = refl
-        go (some ys) = ap some (sym (append_snoc (take i codes) c ys))
+        go : (o : Option (List ℕ)) → before (take i codes) (of_both (λ b bs. b ∷ bs) (Some c) o) ≡ before (take i codes ++ c ∷ []) o
+        go None = refl
+        go (Some ys) = ap Some (sym (append_snoc (take i codes) c ys))
 
     -- no byte, or no letter
-    pub no_byte : 2 * i + 1 < length digits → byte_of (get_or digits (2 * i) 0) (get_or digits (2 * i + 1) 0) ≡ none → false ≡ are_letters (bytes_of digits)
+    pub no_byte : 2 * i + 1 < length digits → byte_of (get_or digits (2 * i) 0) (get_or digits (2 * i + 1) 0) ≡ None → false ≡ are_letters (bytes_of digits)
     no_byte k e = rw (next k e)
 
-    pub no_letter_holds : {c : ℕ} → 2 * i + 1 < length digits → byte_of (get_or digits (2 * i) 0) (get_or digits (2 * i + 1) 0) ≡ some c → is_capital c ≡ false
+    pub no_letter_holds : {c : ℕ} → 2 * i + 1 < length digits → byte_of (get_or digits (2 * i) 0) (get_or digits (2 * i + 1) 0) ≡ Some c → is_capital c ≡ false
         → false ≡ are_letters (bytes_of digits)
     unfolding are_capitals
     no_letter_holds {c} k e l = rw (next k e) (go (bytes_of (drop (2 * i + 2) digits)))
       where
-        go : (o : Option (List ℕ)) → false ≡ are_letters (before (take i codes) (of_both (λ b bs. b ∷ bs) (some c) o))
-        go none = refl
-        go (some ys) = sym (capitals_append (take i codes) (c ∷ ys) ∙ rw (r.capitals, l))
+        go : (o : Option (List ℕ)) → false ≡ are_letters (before (take i codes) (of_both (λ b bs. b ∷ bs) (Some c) o))
+        go None = refl
+        go (Some ys) = sym (capitals_append (take i codes) (c ∷ ys) ∙ rw (r.capitals, l))
 
     -- all of them
-    pub all_read : length digits ≡ 2 * i → bytes_of digits ≡ some (take i codes)
+    pub all_read : length digits ≡ 2 * i → bytes_of digits ≡ Some (take i codes)
     unfolding bytes_of
-    all_read h = r.bytes ∙ rw (drop_of_length-le digits {i = 2 * i} (omega arith)) (ap some (append-nil (take i codes)))
+    all_read h = r.bytes ∙ rw (drop_of_length-le digits {i = 2 * i} (omega arith)) (ap Some (append-nil (take i codes)))
 
 -- what is told of them
 pub reads_none : {digits codes : List ℕ} {count : ℕ} → false ≡ are_letters (bytes_of digits) → Reads digits count (record { good = false; codes = codes })

@@ -1,6 +1,6 @@
 -- Document 01, section "Frames": the frame that a line is; document 02, 3/13 and 5/13. A line comes without its line feed, "which the desk is not handed".
 use Rattle.std.specs.Prelude.{ℕ, ◌+◌, ◌*◌, Bool, true, cond, ◌&&◌, List, [], ◌∷◌, leb, eqb, length}
-use Rattle.std.proofs.Math.Option.{Option-elim}
+use Rattle.std.specs.Option.{option_map_or}
 use Rattle.ascii.specs.Ascii.{between}
 pub use Rattle.limits.specs.Limits.{first_letter, last_letter}
 use Rattle.cents.specs.declared.KeyNumber.{KeyNumber}
@@ -123,7 +123,7 @@ framed (house ∷ []) = bad
 
 -- "One frame a line": the frame that a line of any length is; a line that writes no bytes is a bad frame too
 unfoldable pub frame_of : List ℕ → Frame
-frame_of line = Option-elim (bytes_of line) bad framed
+frame_of line = option_map_or framed (bytes_of line) bad
 
 -- ---- what holds of every frame that a line is: its house, its letter or its key lies in its range; of a row the count, and each letter
 abbrev pub inside : Frame → Bool

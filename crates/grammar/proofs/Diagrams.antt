@@ -2,7 +2,7 @@
 -- Assumes nothing.
 use mathlib.Core.Bool.{Bool, true, false, cond}
 use mathlib.Core.List.{List, [], ◌∷◌}
-use mathlib.Core.Option.{Option, some, none}
+use Rattle.std.specs.Prelude.{Option, Some, None}
 use mathlib.Core.Path.{◌≡◌, refl, sym, ◌∙◌, ap, subst}
 use Prim.Native.Nat.{ℕ, ◌*◌, ◌/◌, ◌%◌, ◌≤◌, ◌<◌}
 use native.Mathlib.Omega.{arith}
@@ -38,13 +38,13 @@ at_each f h k n = subst (λ (q : Node). T (f q)) (node_back n) (read_of f nodes 
 
 -- ---- the rule that is picked for a terminal is one of the list, and is for that terminal
 
-pub picked_of : (f : Rule → Bool) (rs : List Rule) (t : Terminal) {r : Rule} → T (each f rs) → picked rs t ≡ some r → T (f r) × (t ≡ r.symbol)
+pub picked_of : (f : Rule → Bool) (rs : List Rule) (t : Terminal) {r : Rule} → T (each f rs) → picked rs t ≡ Some r → T (f r) × (t ≡ r.symbol)
 unfolding picked
 picked_of f [] t h e = let z : ◌≡◌ {A = ℕ} 0 1 = cc in absurd (omega arith)
 picked_of f (x ∷ xs) t {r} h e = go (same_terminal t x.symbol) refl (λ q. picked_of f xs t (both_right (f x) (each f xs) h) q) e
   where
-    go : (b : Bool) → same_terminal t x.symbol ≡ b → (picked xs t ≡ some r → T (f r) × (t ≡ r.symbol))
-        → elim b [ true ↦ some x | false ↦ picked xs t ] ≡ some r → T (f r) × (t ≡ r.symbol)
+    go : (b : Bool) → same_terminal t x.symbol ≡ b → (picked xs t ≡ Some r → T (f r) × (t ≡ r.symbol))
+        → elim b [ true ↦ Some x | false ↦ picked xs t ] ≡ Some r → T (f r) × (t ≡ r.symbol)
     go true p later q =
         let s : x ≡ r = cc in
         (subst (λ (y : Rule). T (f y)) s (both_left (f x) (each f xs) h), same_terminal_holds t x.symbol p ∙ ap (λ (y : Rule). y.symbol) s)
@@ -62,19 +62,19 @@ ends r =
 all_end : Node → Bool
 all_end q = each ends (rules q)
 
-ending : (n : Node) (t : Terminal) {r : Rule} → picked (rules n) t ≡ some r → T (ends r) × (t ≡ r.symbol)
+ending : (n : Node) (t : Terminal) {r : Rule} → picked (rules n) t ≡ Some r → T (ends r) × (t ≡ r.symbol)
 unfolding all_end ends rules
 ending n t e = picked_of ends (rules n) t (at_each all_end tt tt n) e
 
-pub none_at_nothing : (n : Node) → picked (rules n) nothing ≡ none
+pub none_at_nothing : (n : Node) → picked (rules n) nothing ≡ None
 unfolding ends
 none_at_nothing n = go (picked (rules n) nothing) refl
   where
-    go : (o : Option Rule) → picked (rules n) nothing ≡ o → o ≡ none
-    go none e = refl
-    go (some r) e = let p = ending n nothing e in let q = rw (sym p.1) at p.0 in absurd q
+    go : (o : Option Rule) → picked (rules n) nothing ≡ o → o ≡ None
+    go None e = refl
+    go (Some r) e = let p = ending n nothing e in let q = rw (sym p.1) at p.0 in absurd q
 
-pub finish_at_end : (n : Node) {r : Rule} → picked (rules n) end ≡ some r → (r.next ≡ Finish) × (r.action ≡ Pass)
+pub finish_at_end : (n : Node) {r : Rule} → picked (rules n) end ≡ Some r → (r.next ≡ Finish) × (r.action ≡ Pass)
 unfolding ends action_at
 finish_at_end n {r} e =
     let p = ending n end e in
@@ -85,7 +85,7 @@ finish_at_end n {r} e =
       sym (action_back r.action) ∙ ap action_at (eqb→eq (action_number r.action) (action_number Pass) (both_right last passes q)),
     )
 
-pub end_at_finish : (n : Node) (t : Terminal) {r : Rule} → picked (rules n) t ≡ some r → r.next ≡ Finish → t ≡ end
+pub end_at_finish : (n : Node) (t : Terminal) {r : Rule} → picked (rules n) t ≡ Some r → r.next ≡ Finish → t ≡ end
 unfolding ends
 end_at_finish n t {r} e f = go (same_terminal r.symbol end) refl
   where
@@ -114,7 +114,7 @@ leaves r = ltb 0 (node_number r.next)
 all_leave : Node → Bool
 all_leave q = each leaves (rules q)
 
-leaving : (n : Node) (t : Terminal) {r : Rule} → picked (rules n) t ≡ some r → 0 < node_number r.next
+leaving : (n : Node) (t : Terminal) {r : Rule} → picked (rules n) t ≡ Some r → 0 < node_number r.next
 unfolding all_leave leaves rules
 leaving n t e = ltb→lt _ _ (picked_of leaves (rules n) t (at_each all_leave tt tt n) e).0
 
@@ -145,13 +145,13 @@ module _ (k t i : ℕ) (row : i / terminal_count ≡ k) (column : i % terminal_c
   no_move_step z = go (picked (rules (node_at k)) (terminal_at t)) refl (next ∙ rw (row, column))
     where
       go : (o : Option Rule) → picked (rules (node_at k)) (terminal_at t) ≡ o → n ≡ next_by o → Missing ≡ move_by o
-      go none e q = refl
-      go (some r) e q = let f = leaving (node_at k) (terminal_at t) e in absurd (omega (arith, f))
+      go None e q = refl
+      go (Some r) e q = let f = leaving (node_at k) (terminal_at t) e in absurd (omega (arith, f))
 
   pub moved : (n ≡ 0 → ⊥) → {a : Action} → a ≡ action_at (action_entry i) → To a n ≡ move_of k t
   unfolding move_of
   moved z {a} e = go (picked (rules (node_at k)) (terminal_at t)) (next ∙ rw (row, column)) (e ∙ rw (row, column))
     where
       go : (o : Option Rule) → n ≡ next_by o → a ≡ action_at (action_by o) → To a n ≡ move_by o
-      go none q f = absurd (z q)
-      go (some r) q f = rw (q, f, action_back r.action)
+      go None q f = absurd (z q)
+      go (Some r) q f = rw (q, f, action_back r.action)

@@ -2,7 +2,7 @@
 -- Assumes nothing.
 use mathlib.Core.Bool.{Bool, true, false, cond}
 use mathlib.Core.List.{List}
-use mathlib.Core.Option.{some}
+use Rattle.std.specs.Prelude.{Some}
 use mathlib.Core.Path.{◌≡◌, refl}
 use Prim.Native.Nat.{ℕ}
 use lib.Dec.{T, leb, eqb}
@@ -40,7 +40,7 @@ no_held_key r =
 all_no_held_key : Node → Bool
 all_no_held_key q = each no_held_key (rules q)
 
-pub held_no_key : (n : Node) (t : Terminal) {r : Rule} → picked (rules n) t ≡ some r → {u : NumberUse} → KeyUse u → r.action ≡ Held u → ⊥
+pub held_no_key : (n : Node) (t : Terminal) {r : Rule} → picked (rules n) t ≡ Some r → {u : NumberUse} → KeyUse u → r.action ≡ Held u → ⊥
 unfolding no_held_key all_no_held_key rules
 held_no_key n t {r} e {u} k f = go u k f
   where

@@ -2,7 +2,7 @@
 -- Assumes nothing.
 use mathlib.Core.Bool.{Bool, true, false, cond}
 use mathlib.Core.List.{List, [], ◌∷◌, ◌++◌, append-nil}
-use mathlib.Core.Option.{Option, some, none}
+use Rattle.std.specs.Prelude.{Option, Some, None}
 use mathlib.Core.Path.{◌≡◌, refl, sym, ◌∙◌, ap, subst}
 use Prim.Native.Nat.{ℕ, ◌+◌, ◌-◌, ◌*◌, ◌^◌, ◌≤◌, ◌<◌}
 use native.Mathlib.Omega.{arith}
@@ -52,17 +52,17 @@ use Rattle.grammar.proofs.Rows.{holding_more, length_holding}
 -- ---- a step by its move
 
 module _ (n : Node) (t : Terminal) where
-  no_rule : Missing ≡ move_of (node_number n) (terminal_number t) → picked (rules n) t ≡ none
+  no_rule : Missing ≡ move_of (node_number n) (terminal_number t) → picked (rules n) t ≡ None
   no_rule e = go (picked (rules n) t) (e ∙ moves_by_name n t)
     where
-      go : (o : Option Rule) → Missing ≡ move_by o → o ≡ none
-      go none q = refl
-      go (some r) q = let z : ◌≡◌ {A = ℕ} 0 1 = cc in absurd (omega arith)
+      go : (o : Option Rule) → Missing ≡ move_by o → o ≡ None
+      go None q = refl
+      go (Some r) q = let z : ◌≡◌ {A = ℕ} 0 1 = cc in absurd (omega arith)
 
   -- the rule of a move
   record Ruled (a : Action) (k : ℕ) : Type 0 where
     rule : Rule
-    picks : picked (rules n) t ≡ some rule
+    picks : picked (rules n) t ≡ Some rule
     does : a ≡ rule.action
     leads : k ≡ node_number rule.next
 
@@ -70,8 +70,8 @@ module _ (n : Node) (t : Terminal) where
   ruled {a} {k} e = go (picked (rules n) t) refl (e ∙ moves_by_name n t)
     where
       go : (o : Option Rule) → picked (rules n) t ≡ o → To a k ≡ move_by o → Ruled a k
-      go none p q = let z : ◌≡◌ {A = ℕ} 0 1 = cc in absurd (omega arith)
-      go (some r) p q = record { rule = r; picks = p; does = cc; leads = cc }
+      go None p q = let z : ◌≡◌ {A = ℕ} 0 1 = cc in absurd (omega arith)
+      go (Some r) p q = record { rule = r; picks = p; does = cc; leads = cc }
 
 -- ---- an action adds at most one term
 
@@ -157,7 +157,7 @@ acted_grown text s CountOrder x = order_grown s x _ (omega arith)
 
 -- ---- the end of a text is its last symbol, and leads to the last node
 
-none_after_end : (text : List ℕ) (y : Symbol) → terminal_of text y ≡ end → after y ≡ none
+none_after_end : (text : List ℕ) (y : Symbol) → terminal_of text y ≡ end → after y ≡ None
 unfolding after terminal_of
 none_after_end text (NameSymbol a b) e = absurd (go (letter_of (slice a b text)) (word_of (spelled (slice a b text))) e)
   where
@@ -169,15 +169,15 @@ none_after_end text (MarkSymbol k a b) e = absurd ((mark_apart k).1 e)
 none_after_end text (End p) e = refl
 none_after_end text (Bad p) e = let z = ap terminal_number e in absurd (omega arith)
 
-module _ (text : List ℕ) (n : Node) (y : Symbol) {r : Rule} (picks : picked (rules n) (terminal_of text y) ≡ some r) where
-  none_after_finish : r.next ≡ Finish → after y ≡ none
+module _ (text : List ℕ) (n : Node) (y : Symbol) {r : Rule} (picks : picked (rules n) (terminal_of text y) ≡ Some r) where
+  none_after_finish : r.next ≡ Finish → after y ≡ None
   none_after_finish f = none_after_end text y (end_at_finish n (terminal_of text y) picks f)
 
-  finish_after_none : after y ≡ none → (r.next ≡ Finish) × (r.action ≡ Pass)
+  finish_after_none : after y ≡ None → (r.next ≡ Finish) × (r.action ≡ Pass)
   unfolding after terminal_of
   finish_after_none e = go y picks e
     where
-      go : (z : Symbol) → picked (rules n) (terminal_of text z) ≡ some r → after z ≡ none → (r.next ≡ Finish) × (r.action ≡ Pass)
+      go : (z : Symbol) → picked (rules n) (terminal_of text z) ≡ Some r → after z ≡ None → (r.next ≡ Finish) × (r.action ≡ Pass)
       go (Bad p) q e = let z : ◌≡◌ {A = ℕ} 0 1 = let w = sym (none_at_nothing n) ∙ q in cc in absurd (omega arith)
       go (End p) q e = finish_at_end n q
       go (NameSymbol a b) q e = let z : ◌≡◌ {A = ℕ} 0 1 = cc in absurd (omega arith)
@@ -197,7 +197,7 @@ places_within text at h {y} e = go y (subst (Within text at) (sym e) (next_place
     go (NumberSymbol a b) w = (omega arith, omega arith)
     go (MarkSymbol k a b) w = (omega arith, omega arith)
 
-end_after : (y : Symbol) {e : ℕ} → after y ≡ some e → end_of y ≡ e
+end_after : (y : Symbol) {e : ℕ} → after y ≡ Some e → end_of y ≡ e
 unfolding after
 end_after (Bad p) q = let z : ◌≡◌ {A = ℕ} 0 1 = cc in absurd (omega arith)
 end_after (End p) q = let z : ◌≡◌ {A = ℕ} 0 1 = cc in absurd (omega arith)
@@ -295,11 +295,11 @@ module _ {text before items : List ℕ} {n : Node} {s : Progress} {at count : �
         ap (read_from text (standing n s)) (symbols_next text at st.within ∙ ap (λ (z : Symbol). z ∷ going_on text (after z)) (sym ey))
         ∙ turned_by text n s y (going_on text (after y)) e
 
-    unruled : picked (rules n) (terminal_of text y) ≡ none → Answer text before items count (not_allowed (terminal_of text y)) (start_of y)
+    unruled : picked (rules n) (terminal_of text y) ≡ None → Answer text before items count (not_allowed (terminal_of text y)) (start_of y)
     unruled e = stopped (reads e)
 
     -- a rule leads to o
-    module _ {r : Rule} (picks : picked (rules n) (terminal_of text y) ≡ some r) {o : Outcome} (eo : o ≡ acted text s r.action (span_of y)) where
+    module _ {r : Rule} (picks : picked (rules n) (terminal_of text y) ≡ Some r) {o : Outcome} (eo : o ≡ acted text s r.action (span_of y)) where
       reads_on : read_from text (standing n s) (symbols_from text at) ≡ turned text (then_at r.next o) (going_on text (after y))
       reads_on = reads picks ∙ ap (λ (p : Outcome). turned text (then_at r.next p) (going_on text (after y))) (sym eo)
 
@@ -311,7 +311,7 @@ module _ {text before items : List ℕ} {n : Node} {s : Progress} {at count : �
       finished {t} q f = stopped (reads_on ∙ rw (q, none_after_finish text n y picks f))
 
       -- an item is not given at the end
-      given_before : {t : Progress} {i : Item} → o ≡ Give t i → after y ≡ none → ⊥
+      given_before : {t : Progress} {i : Item} → o ≡ Give t i → after y ≡ None → ⊥
       unfolding acted
       given_before q e =
           let f = finish_after_none text n y picks e in
@@ -326,12 +326,12 @@ module _ {text before items : List ℕ} {n : Node} {s : Progress} {at count : �
         terms : t.term.before ≤ s.term.before + 1
         onward : going_on text (after y) ≡ symbols_from text (end_of y)
 
-      further : (t : Progress) → (after y ≡ none → ⊥) → (Grown s.term.before o → t.term.before ≤ s.term.before + 1) → Further t
+      further : (t : Progress) → (after y ≡ None → ⊥) → (Grown s.term.before o → t.term.before ≤ s.term.before + 1) → Further t
       further t last g = go (after y) refl
         where
           go : (a : Option ℕ) → after y ≡ a → Further t
-          go none e = absurd (last e)
-          go (some b) e =
+          go None e = absurd (last e)
+          go (Some b) e =
               let w = after_within text at st.within (ap after (sym ey) ∙ e) in
               let z = end_after y e in
               record {

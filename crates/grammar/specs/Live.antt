@@ -1,7 +1,6 @@
 -- "symbol that no continuation allows": 3 is given for such a symbol and, document 02, 5/13, for "a number named twice" in a harmony, and for no other
 -- (`three_exactly` of proofs/Live.antt); and which number a refused symbol gets (`lower_number`).
-use Rattle.std.specs.Prelude.{true, false, List, [], ◌∷◌, ◌++◌, map, ◌↔◌, ◌⊎◌, ◌≡◌, ℕ}
-use Rattle.std.proofs.Math.Option.{Option, some, none}
+use Rattle.std.specs.Prelude.{true, false, List, [], ◌∷◌, ◌++◌, map, ◌↔◌, ◌⊎◌, ◌≡◌, ℕ, Option, Some, None}
 use Rattle.std.proofs.Math.Seq.{slice}
 use Rattle.status.specs.Status.{no_symbol, symbol_not_allowed, number_out_of_range, item_too_many}
 use Rattle.sets.specs.Sets.{has}
@@ -16,12 +15,12 @@ use Rattle.grammar.specs.Reading.{judged, Standing, refuse, go, give, stepped, b
 
 -- the node that symbols lead to along the diagrams, if each of them may follow
 unfoldable pub walked : Node → List Terminal → Option Node
-walked n [] = some n
-walked n (t ∷ ts) = elim (picked (rules n) t) [ none ↦ none | some r ↦ walked r.next ts ]
+walked n [] = Some n
+walked n (t ∷ ts) = elim (picked (rules n) t) [ None ↦ None | Some r ↦ walked r.next ts ]
 
 -- the symbols of a whole text, its end the last of them
 abbrev pub Whole : List Terminal → Type 0
-Whole ts = walked Begin ts ≡ some Finish
+Whole ts = walked Begin ts ≡ Some Finish
 
 -- no continuation makes these the symbols of a whole text
 abbrev pub NoContinuation : List Terminal → Type 0
@@ -29,8 +28,8 @@ NoContinuation ts = (more : List Terminal) → Whole (ts ++ more) → ⊥
 
 -- where symbols lead to, if none of them is refused
 unfoldable pub reached : List ℕ → Standing → List Symbol → Option Standing
-reached text s [] = some s
-reached text s (y ∷ ys) = elim (stepped text s y) [ refuse n p ↦ none | go t ↦ reached text t ys | give t i ↦ reached text t ys ]
+reached text s [] = Some s
+reached text s (y ∷ ys) = elim (stepped text s y) [ refuse n p ↦ None | go t ↦ reached text t ys | give t i ↦ reached text t ys ]
 
 -- a key number of a harmony, with its star or without
 pub data KeyUse : NumberUse → Type 0 where
@@ -40,7 +39,7 @@ pub data KeyUse : NumberUse → Type 0 where
 -- "a number named twice": a continuation allows a key number, and the harmony under way has named this one
 pub record NamedTwice (text : List ℕ) (s : Standing) (y : Symbol) : Type 0 where
   pub rule : Rule
-  pub picks : picked (rules s.node) (terminal_of text y) ≡ some rule
+  pub picks : picked (rules s.node) (terminal_of text y) ≡ Some rule
   pub purpose : NumberUse
   pub key : KeyUse purpose
   pub reads : rule.action ≡ Number purpose
@@ -51,7 +50,7 @@ pub record NamedTwice (text : List ℕ) (s : Standing) (y : Symbol) : Type 0 whe
 -- a number "out of range, too many places, or a point where whole is asked": a continuation allows a number, and not this one
 pub record UnfitNumber (text : List ℕ) (s : Standing) (y : Symbol) : Type 0 where
   pub rule : Rule
-  pub picks : picked (rules s.node) (terminal_of text y) ≡ some rule
+  pub picks : picked (rules s.node) (terminal_of text y) ≡ Some rule
   pub purpose : NumberUse
   pub reads : rule.action ≡ Number purpose
   pub outside : judged purpose (slice (start_of y) (end_of y) text) ≡ Outside
@@ -60,7 +59,7 @@ pub record UnfitNumber (text : List ℕ) (s : Standing) (y : Symbol) : Type 0 wh
 -- number twice
 abbrev pub ThreeExactly : Type 0
 ThreeExactly =
-    (text : List ℕ) (ys : List Symbol) (y : Symbol) (s : Standing) → reached text begun ys ≡ some s → is_nothing (terminal_of text y) ≡ false
+    (text : List ℕ) (ys : List Symbol) (y : Symbol) (s : Standing) → reached text begun ys ≡ Some s → is_nothing (terminal_of text y) ≡ false
     → (stepped text s y ≡ refuse symbol_not_allowed (start_of y)) ↔ (NoContinuation (map (terminal_of text) (ys ++ y ∷ [])) ⊎ NamedTwice text s y)
 
 -- "at one place the lower number": the number of a further symbol that is refused. 2 where no symbol begins there, 3 where no continuation allows it or it
@@ -77,5 +76,5 @@ pub data Refused (text : List ℕ) (ys : List Symbol) (s : Standing) (y : Symbol
 
 unfoldable pub LowerNumber : Type 0
 LowerNumber =
-    (text : List ℕ) (ys : List Symbol) (y : Symbol) (s : Standing) → reached text begun ys ≡ some s → (n p : ℕ) → stepped text s y ≡ refuse n p
+    (text : List ℕ) (ys : List Symbol) (y : Symbol) (s : Standing) → reached text begun ys ≡ Some s → (n p : ℕ) → stepped text s y ≡ refuse n p
     → Refused text ys s y n

@@ -1,6 +1,5 @@
 -- The numbers of nodes, terminals and actions in the code's tables, and the moves: for the contracts of private functions.
-use Rattle.std.specs.Prelude.{Bool, true, false, cond, List, [], ◌∷◌, ◌≡◌, ℕ, zero, suc, ◌+◌, ◌*◌, ◌/◌, ◌%◌, eqb, get_or}
-use Rattle.std.proofs.Math.Option.{Option, some, none}
+use Rattle.std.specs.Prelude.{Bool, true, false, cond, List, [], ◌∷◌, ◌≡◌, ℕ, zero, suc, ◌+◌, ◌*◌, ◌/◌, ◌%◌, eqb, get_or, Option, Some, None}
 use Rattle.grammar.specs.declared.Kind.{Kind}
 use Rattle.grammar.specs.declared.Kind.TheVariants.{Interval, Tone, System, Retuning, Logic, Order as AnOrder, Harmony}
 use Rattle.grammar.specs.declared.Form.TheVariants.{AnchorTo, AnchorUp, AnchorDown, WidthTo, WidthUp, WidthDown, WidthTimes, WidthOver}
@@ -237,8 +236,8 @@ action_number (Mark u) = 160 + mark_use_number u
 -- ---- a move: a rule's action and its next node's number, if there is a rule
 
 abbrev pub move_by : Option Rule → Move
-move_by none = Missing
-move_by (some r) = To r.action (node_number r.next)
+move_by None = Missing
+move_by (Some r) = To r.action (node_number r.next)
 
 -- at the numbers of a node and of a terminal
 unfoldable pub move_of : ℕ → ℕ → Move
@@ -257,12 +256,12 @@ abbrev pub terminal_count : ℕ
 terminal_count = 31
 
 abbrev pub next_by : Option Rule → ℕ
-next_by none = 0
-next_by (some r) = node_number r.next
+next_by None = 0
+next_by (Some r) = node_number r.next
 
 abbrev pub action_by : Option Rule → ℕ
-action_by none = 0
-action_by (some r) = action_number r.action
+action_by None = 0
+action_by (Some r) = action_number r.action
 
 abbrev pub next_entry : ℕ → ℕ
 next_entry i = next_by (picked (rules (node_at (i / terminal_count))) (terminal_at (i % terminal_count)))

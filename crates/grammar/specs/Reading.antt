@@ -1,6 +1,5 @@
 -- Reading a text symbol by symbol into items: document 01, "Declarations", "Numbers allowed", and the numbers 2, 3, 4 and 9; document 02, 5/13 and 1/13.
-use Rattle.std.specs.Prelude.{Bool, true, false, cond, List, [], ◌∷◌, ℕ, ◌+◌, leb, length}
-use Rattle.std.proofs.Math.Option.{Option, some, none}
+use Rattle.std.specs.Prelude.{Bool, true, false, cond, List, [], ◌∷◌, ℕ, ◌+◌, leb, length, Option, Some, None}
 use Rattle.std.proofs.Math.Seq.{slice}
 use Rattle.status.specs.Status.{done, text_too_long, no_symbol, symbol_not_allowed, number_out_of_range, item_too_many}
 use Rattle.numerals.specs.Numbers.{decimal_of, whole_of}
@@ -276,8 +275,8 @@ abbrev pub not_allowed : Terminal → ℕ
 not_allowed t = cond (is_nothing t) no_symbol symbol_not_allowed
 
 abbrev pub by_rule : List ℕ → Progress → Symbol → Option Rule → Moved
-by_rule text s y none = refuse (not_allowed (terminal_of text y)) (start_of y)
-by_rule text s y (some r) = then_at r.next (acted text s r.action (span_of y))
+by_rule text s y None = refuse (not_allowed (terminal_of text y)) (start_of y)
+by_rule text s y (Some r) = then_at r.next (acted text s r.action (span_of y))
 
 unfoldable pub stepped : List ℕ → Standing → Symbol → Moved
 stepped text s y = by_rule text s.kept y (picked (rules s.node) (terminal_of text y))

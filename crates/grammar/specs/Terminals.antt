@@ -1,6 +1,5 @@
 -- The rule for a terminal; and of a symbol of the text, its terminal and its place.
-use Rattle.std.specs.Prelude.{Bool, true, false, List, [], ◌∷◌, ℕ, eqb}
-use Rattle.std.proofs.Math.Option.{Option, some, none}
+use Rattle.std.specs.Prelude.{Bool, true, false, List, [], ◌∷◌, ℕ, eqb, Option, Some, None}
 use Rattle.std.proofs.Math.Seq.{slice}
 use Rattle.symbols.specs.declared.Symbol.{Symbol}
 use Rattle.symbols.specs.declared.Symbol.TheVariants as symbol
@@ -58,8 +57,8 @@ is_nothing t = same_terminal t nothing
 
 -- the rule for a terminal, if there is one
 unfoldable pub picked : List Rule → Terminal → Option Rule
-picked [] t = none
-picked (r ∷ rs) t = elim (same_terminal t r.symbol) [ true ↦ some r | false ↦ picked rs t ]
+picked [] t = None
+picked (r ∷ rs) t = elim (same_terminal t r.symbol) [ true ↦ Some r | false ↦ picked rs t ]
 
 -- ---- the terminal of a symbol
 

@@ -4,7 +4,7 @@ use Prim.Native.Nat.{ℕ, suc, ◌+◌, ◌-◌, ◌*◌, ◌/◌, ◌%◌, ◌^
 use mathlib.Core.Path.{◌≡◌, refl, ap}
 use mathlib.Core.Bool.{Bool, true, false, cond}
 use mathlib.Core.List.{List, [], ◌∷◌}
-use mathlib.Core.Option.{some}
+use Rattle.std.specs.Prelude.{Some}
 use native.Mathlib.Nat.{zero-add, div-add-mod, div-div-eq-div-mul, mod-eq_of_lt}
 use native.Mathlib.Omega.{arith}
 use borrow.Author.Tests.{ltb-true, ltb-false, lt-ltb, le-ltb, le-leb, lt-leb}
@@ -19,29 +19,29 @@ use Rattle.hexadecimal.specs.Numbers.{twos, four_of, number_of, signed_of}
 
 -- ---- digits
 
-digit_back : (n : ℕ) → n < radix → digit_of (hex_of n) ≡ some n
+digit_back : (n : ℕ) → n < radix → digit_of (hex_of n) ≡ Some n
 unfolding digit_of hex_of
 digit_back n h = go (ltb n 10) refl
   where
-    go : (b : Bool) → ltb n 10 ≡ b → digit_of (cond b (byte "0" + n) (byte "A" + (n - 10))) ≡ some n
+    go : (b : Bool) → ltb n 10 ≡ b → digit_of (cond b (byte "0" + n) (byte "A" + (n - 10))) ≡ Some n
     go true e =
         let l = ltb-true n 10 e in
-        rw (le-leb (byte "0") (byte "0" + n) (omega arith), le-leb (byte "0" + n) (byte "9") (omega arith)) (ap some (omega arith))
+        rw (le-leb (byte "0") (byte "0" + n) (omega arith), le-leb (byte "0" + n) (byte "9") (omega arith)) (ap Some (omega arith))
     go false e =
         let l = ltb-false n 10 e in
         let d = byte "A" + (n - 10) in
         rw (le-leb (byte "0") d (omega arith), lt-leb d (byte "9") (omega arith), le-leb (byte "A") d (omega arith), le-leb d (byte "F") (omega arith))
-        (ap some (omega arith))
+        (ap Some (omega arith))
 
-byte_back : (b : ℕ) → b < 256 → byte_of (hex_of (b / radix)) (hex_of (b % radix)) ≡ some b
+byte_back : (b : ℕ) → b < 256 → byte_of (hex_of (b / radix)) (hex_of (b % radix)) ≡ Some b
 unfolding byte_of
-byte_back b h = rw (digit_back (b / radix) (omega arith), digit_back (b % radix) (omega arith)) (ap some (omega arith))
+byte_back b h = rw (digit_back (b / radix) (omega arith), digit_back (b % radix) (omega arith)) (ap Some (omega arith))
 
 abbrev pub Bytes : List ℕ → Type 0
 Bytes [] = Unit
 Bytes (b ∷ bs) = (b < 256) × Bytes bs
 
-pub bytes_back : (bs : List ℕ) → Bytes bs → bytes_of (hexes bs) ≡ some bs
+pub bytes_back : (bs : List ℕ) → Bytes bs → bytes_of (hexes bs) ≡ Some bs
 unfolding bytes_of hexes
 bytes_back [] h = refl
 bytes_back (b ∷ bs) h = rw (byte_back b h.0, bytes_back bs h.1)

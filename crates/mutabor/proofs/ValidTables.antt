@@ -3,7 +3,7 @@
 use mathlib.Core.Path.{◌≡◌, refl, sym, ap, ◌∙◌, subst}
 use mathlib.Core.Bool.{Bool, true, not, ◌&&◌, false}
 use mathlib.Core.List.{List, [], ◌∷◌, map, flat_map}
-use mathlib.Core.Option.{Option, some, none}
+use Rattle.std.specs.Prelude.{Option, Some, None}
 use Prim.Native.Nat.{ℕ, ◌+◌, ◌*◌, ◌-◌, ◌<◌}
 use native.Mathlib.Omega.{arith}
 use borrow.Author.Tests.{le-leb, lt-ltb}
@@ -100,8 +100,8 @@ module _ (p : Program) (a : Allowed p) (v : valued p ≡ Done) where
   refers_right is k h w = rw ((filled_lists p).rows, lt-ltb k (length p) h, row_decoded k h) w
 
   start_right : (s : Option ℕ) → FitStart p s → is_start laid (start_code s) ≡ true
-  start_right none h = refl
-  start_right (some k) h =
+  start_right None h = refl
+  start_right (Some k) h =
       let w = kind_row value k (tones_before p k) (changes_before p k) (orders_before p k) (declaration_at p k) h.whole in
       refers_right is_system_or_retuning k h.refers.within (sym w.0 ∙ h.refers.kind)
 
@@ -158,8 +158,8 @@ module _ (p : Program) (a : Allowed p) (v : valued p ≡ Done) where
   places_right : (l : List (Option ℕ)) → Each (FitSystemPosition p) l → every tone_right (map (tone_of value) l) ≡ true
   unfolding every
   places_right [] fit = refl
-  places_right (none ∷ l) fit = places_right l fit.1
-  places_right (some k ∷ l) fit = rw (value_tone p v k fit.0.within, places_right l fit.1)
+  places_right (None ∷ l) fit = places_right l fit.1
+  places_right (Some k ∷ l) fit = rw (value_tone p v k fit.0.within, places_right l fit.1)
 
   tones_right : every tone_right (filled p).tones ≡ true
   tones_right = rw (filled_lists p).tones (gathered_every tone_right (tones_of value) own p a.each)

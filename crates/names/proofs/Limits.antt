@@ -3,7 +3,7 @@
 use Prim.Native.Nat.{ℕ, zero, suc, ◌+◌, ◌≤◌, ◌<◌}
 use mathlib.Core.Bool.{Bool, true, false, cond}
 use mathlib.Core.List.{List, [], ◌∷◌, ◌++◌}
-use mathlib.Core.Option.{Option, some, none}
+use Rattle.std.specs.Prelude.{Option, Some, None}
 use mathlib.Core.Path.{◌≡◌, refl}
 use native.Mathlib.Omega.{arith}
 use borrow.Author.Tests.{leb-true, leb-false}
@@ -211,7 +211,7 @@ rule_fit r = is_fit r.action
 rules_fit : Node → Bool
 rules_fit q = each rule_fit (rules q)
 
-fit_rule : (n : Node) (t : Terminal) {r : Rule} → picked (rules n) t ≡ some r → T (is_fit r.action)
+fit_rule : (n : Node) (t : Terminal) {r : Rule} → picked (rules n) t ≡ Some r → T (is_fit r.action)
 unfolding rules_fit rule_fit rules is_fit is_name
 fit_rule n t e = (picked_of rule_fit (rules n) t (at_each rules_fit tt tt n) e).0
 
@@ -231,8 +231,8 @@ step_counts text s y = go (picked (rules s.node) (terminal_of text y)) refl
     next n (Give t i) h = h
 
     go : (o : Option Rule) → picked (rules s.node) (terminal_of text y) ≡ o → StepCounts s.kept.counts (start_of y) (by_rule text s.kept y o)
-    go none e = tt
-    go (some r) e =
+    go None e = tt
+    go (Some r) e =
         next r.next (acted text s.kept r.action (span_of y))
         (acted_counts text s.kept r.action (span_of y) (fit_rule s.node (terminal_of text y) e))
 
@@ -257,9 +257,9 @@ cut_starts text h (suc n) at w =
     begins (symbol.Mark k a b) q = omega arith
 
     on : (o : Option ℕ) → after (next_symbol text at) ≡ o → ((e : ℕ) → e ≤ length text → Starts (cut n text e))
-        → Starts (elim o [ none ↦ [] | some end ↦ cut n text end ])
-    on none e later = tt
-    on (some end) e later = later end (after_within text at w e).1
+        → Starts (elim o [ None ↦ [] | Some end ↦ cut n text end ])
+    on None e later = tt
+    on (Some end) e later = later end (after_within text at w e).1
 
 names_front : (q : Part) (ds : List Named) → named_by q ds ≡ named_by q [] ++ ds
 names_front (declares k p) ds = refl

@@ -1,6 +1,6 @@
 -- Laws of the second pass over the items: what has become of those in front of an item.
 -- Assumes nothing.
-use mathlib.Core.Option.{Option, some, none}
+use Rattle.std.specs.Prelude.{Option, Some, None}
 use Prim.Native.Nat.{ℕ, suc, ◌+◌, ◌*◌, ◌≤◌, ◌<◌}
 use mathlib.Core.Path.{◌≡◌, refl, sym, ◌∙◌, ap, subst}
 use mathlib.Core.List.{List, [], ◌∷◌, ◌++◌}
@@ -123,20 +123,20 @@ replaced trigger a n p = record { code_same = refl; value_same = refl; place_new
 -- ---- the place of the first name that is not declared
 
 pub missing_in : Resolved → Option ℕ
-missing_in (all is) = none
-missing_in (missing p) = some p
+missing_in (all is) = None
+missing_in (missing p) = Some p
 
 missing_after : (i : Item) (r : Resolved) → missing_in (and_then i r) ≡ missing_in r
 unfolding missing_in
 missing_after i (all is) = refl
 missing_after i (missing p) = refl
 
-none_missing : (r : Resolved) → missing_in r ≡ none → (done ≡ (unless_missing r).number) × (0 ≡ (unless_missing r).place)
+none_missing : (r : Resolved) → missing_in r ≡ None → (done ≡ (unless_missing r).number) × (0 ≡ (unless_missing r).place)
 unfolding missing_in
 none_missing (all is) e = (refl, refl)
 none_missing (missing p) e = let z : ◌≡◌ {A = ℕ} 0 1 = cc in absurd (omega arith)
 
-one_missing : (r : Resolved) {p : ℕ} → missing_in r ≡ some p → (name_not_declared ≡ (unless_missing r).number) × (p ≡ (unless_missing r).place)
+one_missing : (r : Resolved) {p : ℕ} → missing_in r ≡ Some p → (name_not_declared ≡ (unless_missing r).number) × (p ≡ (unless_missing r).place)
 unfolding missing_in
 one_missing (all is) e = let z : ◌≡◌ {A = ℕ} 0 1 = cc in absurd (omega arith)
 one_missing (missing q) e = (refl, cc)
@@ -186,17 +186,17 @@ module _ (text : List ℕ) (ds : List Named) (is : List Item) (items₀ : List �
         }
 
     -- the item that stands here has the role r
-    module _ (h : i < length is) (none : Item) where
+    module _ (h : i < length is) (None : Item) where
       short : i ≤ length (rewritten text ds is)
       short = omega (arith, length_rewritten text ds is)
 
-      pub item_here : item_at l i ≡ get_or is i none
+      pub item_here : item_at l i ≡ get_or is i None
       item_here =
           ap (λ t. item_at t i) p.held
-          ∙ item_in (begun_with i (rewritten text ds is) is) items₀ i none (omega (arith, begun_length (rewritten text ds is) is i short p.within))
-          ∙ begun_at (rewritten text ds is) is i none short h
+          ∙ item_in (begun_with i (rewritten text ds is) is) items₀ i None (omega (arith, begun_length (rewritten text ds is) is i short p.within))
+          ∙ begun_at (rewritten text ds is) is i None short h
 
-      module _ {r : Role} (e : r ≡ role_of (part (get_or is i none))) where
+      module _ {r : Role} (e : r ≡ role_of (part (get_or is i None))) where
         abbrev after : List Item
         after = drop (i + 1) is
 
@@ -204,16 +204,16 @@ module _ (text : List ℕ) (ds : List Named) (is : List Item) (items₀ : List �
         pub replacing_on : OneOf (0 ∷ 1 ∷ []) (tag_of roles.the_type r) → Replacing l (i + 1)
         unfolding rewritten resolved Stays
         replacing_on o =
-            let x = get_or is i none in
+            let x = get_or is i None in
             let w = role_stays text ds (part x) (rw e at o) in
             let y : drop i (rewritten text ds is) ≡ x ∷ rewritten text ds after =
-            p.rest ∙ ap (rewritten text ds) (here is i none h) ∙ w.0 x after (rewritten text ds after) in
+            p.rest ∙ ap (rewritten text ds) (here is i None h) ∙ w.0 x after (rewritten text ds after) in
             let m : missing_in (resolved text ds (drop i is)) ≡ missing_in (resolved text ds after) =
-            ap (λ xs. missing_in (resolved text ds xs)) (here is i none h)
+            ap (λ xs. missing_in (resolved text ds xs)) (here is i None h)
             ∙ ap missing_in (w.1 x (resolved text ds after)) ∙ missing_after x (resolved text ds after) in
             record {
               within = omega arith;
-              held = p.held ∙ ap (λ xs. holding xs items₀) (begun_same (rewritten text ds is) is i y h (head_at is i (here is i none h) x));
+              held = p.held ∙ ap (λ xs. holding xs items₀) (begun_same (rewritten text ds is) is i y h (head_at is i (here is i None h) x));
               room = p.room;
               rest = head_rest (rewritten text ds is) i y;
               missed = sym m ∙ p.missed;
@@ -221,25 +221,25 @@ module _ (text : List ℕ) (ds : List Named) (is : List Item) (items₀ : List �
 
         -- it uses a name at the place q
         module _ {s : Scope} {q : ℕ} (g : r ≡ role.Uses s q) {f : Bearer} (c : f ≡ called_in text ds (kinds_in s) (name_at text q)) where
-          the_use : Using (part (get_or is i none)) s q
-          the_use = role_uses (part (get_or is i none)) (sym e ∙ g)
+          the_use : Using (part (get_or is i None)) s q
+          the_use = role_uses (part (get_or is i None)) (sym e ∙ g)
 
           called : f ≡ called_in text ds (meant the_use.use') (name_at text q)
           called = c ∙ ap (λ ks. called_in text ds ks (name_at text q)) the_use.meaning
 
           rewritten_here : rewritten text ds (drop i is)
-              ≡ if_called the_use.use' the_use.amount f (get_or is i none) after (rewritten text ds after)
+              ≡ if_called the_use.use' the_use.amount f (get_or is i None) after (rewritten text ds after)
           unfolding rewritten
           rewritten_here =
-              ap (rewritten text ds) (here is i none h)
-              ∙ ap (λ a. rewritten_by text ds a (get_or is i none) after (rewritten text ds after)) the_use.is
-              ∙ ap (λ b. if_called the_use.use' the_use.amount b (get_or is i none) after (rewritten text ds after)) (sym called)
+              ap (rewritten text ds) (here is i None h)
+              ∙ ap (λ a. rewritten_by text ds a (get_or is i None) after (rewritten text ds after)) the_use.is
+              ∙ ap (λ b. if_called the_use.use' the_use.amount b (get_or is i None) after (rewritten text ds after)) (sym called)
 
           resolved_here : resolved text ds (drop i is) ≡ if_found the_use.use' the_use.amount q f (resolved text ds after)
           unfolding resolved
           resolved_here =
-              ap (resolved text ds) (here is i none h)
-              ∙ ap (λ a. resolved_by text ds (get_or is i none) a (resolved text ds after)) the_use.is
+              ap (resolved text ds) (here is i None h)
+              ∙ ap (λ a. resolved_by text ds (get_or is i None) a (resolved text ds after)) the_use.is
               ∙ ap (λ b. if_found the_use.use' the_use.amount q b (resolved text ds after)) (sym called)
 
           -- which is not declared
@@ -249,9 +249,9 @@ module _ (text : List ℕ) (ds : List Named) (is : List Item) (items₀ : List �
           replacing_stop c z =
               let y : drop i (rewritten text ds is) ≡ drop i is =
               p.rest ∙ rewritten_here
-              ∙ ap (λ b. if_called the_use.use' the_use.amount b (get_or is i none) after (rewritten text ds after)) z
-              ∙ sym (here is i none h) in
-              let m : missing_in (resolved text ds (drop i is)) ≡ some q =
+              ∙ ap (λ b. if_called the_use.use' the_use.amount b (get_or is i None) after (rewritten text ds after)) z
+              ∙ sym (here is i None h) in
+              let m : missing_in (resolved text ds (drop i is)) ≡ Some q =
               ap missing_in (resolved_here ∙ ap (λ b. if_found the_use.use' the_use.amount q b (resolved text ds after)) z) in
               let w = one_missing (resolved text ds is) (sym p.missed ∙ m) in
               record {
@@ -264,7 +264,7 @@ module _ (text : List ℕ) (ds : List Named) (is : List Item) (items₀ : List �
           -- whose declaration has the number k
           pub replacing_more : {k : ℕ} {l' : List ℕ} → f ≡ Row k → l' ≡ set l (row_size * i + 2) k → Replacing l' (i + 1)
           replacing_more {k} z stored =
-              let x = get_or is i none in
+              let x = get_or is i None in
               let u = the_use.use' in
               let a = the_use.amount in
               let new = rewritten text ds is in
@@ -273,12 +273,12 @@ module _ (text : List ℕ) (ds : List Named) (is : List Item) (items₀ : List �
               let m : missing_in (resolved text ds (drop i is)) ≡ missing_in (resolved text ds after) =
               ap missing_in (resolved_here ∙ ap (λ b. if_found u a q b (resolved text ds after)) z)
               ∙ missing_after (numbered u a k) (resolved text ds after) in
-              let t = begun_at new is i none short h in
+              let t = begun_at new is i None short h in
               let w = replaced u a k q in
-              let v : numbered u a q ≡ get_or (begun_with i new is) i none = numbered_part x the_use.is ∙ sym t in
+              let v : numbered u a q ≡ get_or (begun_with i new is) i None = numbered_part x the_use.is ∙ sym t in
               let n : i < length (begun_with i new is) = omega (arith, begun_length new is i short p.within) in
               let b : set (holding (begun_with i new is) items₀) (row_size * i + 2) (place (numbered u a k)) ≡ holding (set (begun_with i new is) i (numbered u a k)) items₀ =
-              place_changed (begun_with i new is) items₀ i none (numbered u a k) n (w.code_same ∙ ap code v) (w.value_same ∙ ap value v) in
+              place_changed (begun_with i new is) items₀ i None (numbered u a k) n (w.code_same ∙ ap code v) (w.value_same ∙ ap value v) in
               record {
                 within = omega arith;
                 held =

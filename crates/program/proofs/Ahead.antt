@@ -20,7 +20,7 @@ use Rattle.grammar.specs.Syntax.{Terminal}
 use Rattle.grammar.specs.Terminals.{terminal_of, span_of}
 use Rattle.grammar.specs.Reading.{most_terms, most_positions, acted}
 use Rattle.program.specs.Allowed.{Decimal, Degree}
-use Rattle.program.proofs.Formed.{TermItems, no_term_holds, add_term, subtract_term, PlaceItems, no_place, muted_place, tone_place, PositionItems, no_position, muted_position, kept_position, tone_position, NameItems, no_name_case, a_name, NumberItems, no_number_case, a_number, StartItems, OrderItems, KeyItems, Some, Body, Formed, declaration}
+use Rattle.program.proofs.Formed.{TermItems, no_term_holds, add_term, subtract_term, PlaceItems, no_place, muted_place, tone_place, PositionItems, no_position, muted_position, kept_position, tone_position, NameItems, no_name_case, a_name, NumberItems, no_number_case, a_number, StartItems, OrderItems, KeyItems, NotEmpty, Body, Formed, declaration}
 use Rattle.program.proofs.Walk.{Keeps, refuses, goes, gives}
 
 -- ---- where there is room for more
@@ -89,7 +89,7 @@ pub data Places (n : ℕ) : List Item → Type 0 where
   places_then : {ps is : List Item} → PlaceItems n ps → TermItems most_terms is → Places n (ps ++ is)
 
 pub data SomePlaces (n : ℕ) : List Item → Type 0 where
-  some_places_then : {ps is : List Item} → PlaceItems n ps → Some ps → TermItems most_terms is → SomePlaces n (ps ++ is)
+  some_places_then : {ps is : List Item} → PlaceItems n ps → NotEmpty ps → TermItems most_terms is → SomePlaces n (ps ++ is)
 
 -- terms of a position, at most n, and further positions, at most m
 pub data ToneTerms (n m : ℕ) : List Item → Type 0 where
@@ -110,7 +110,7 @@ pub data Calls : List Item → Type 0 where
 -- keys of a harmony, at most n, none of them in a set
 pub record SomeKeys (set n : ℕ) (is : List Item) : Type 0 where
   pub keys : KeyItems set n is
-  pub some : Some is
+  pub some : NotEmpty is
 
 pub data Starts : List Item → Type 0 where
   start_then_case : {ss os : List Item} → StartItems ss → OrderItems os → Starts (ss ++ os)

@@ -13,7 +13,7 @@ use Rattle.placeholders.proofs.Alike.{Alike, none, same, start, order}
 use Rattle.program.proofs.Formed.{TermItems, no_term_holds, add_term, subtract_term, PlaceItems, no_place, muted_place, tone_place}
 use Rattle.program.proofs.Formed.{PositionItems, no_position, muted_position, kept_position, tone_position}
 use Rattle.program.proofs.Formed.{NameItems, no_name_case, a_name, NumberItems, no_number_case, a_number}
-use Rattle.program.proofs.Formed.{StartItems, no_start, a_start, TriggerItem, by_letter_case, by_harmony_case, OrderItems, no_order_holds, an_order, KeyItems, no_key, plain_key, starred_key_case, Some, something}
+use Rattle.program.proofs.Formed.{StartItems, no_start, a_start, TriggerItem, by_letter_case, by_harmony_case, OrderItems, no_order_holds, an_order, KeyItems, no_key, plain_key, starred_key_case, NotEmpty, something}
 use Rattle.program.proofs.Formed.{Body, a_ratio, a_root, a_sequence, a_frequency, from_tone, a_system, a_tones, a_logic, a_harmony}
 use Rattle.program.proofs.Formed.{anchor_kept_case, width_kept_case, an_amount, an_amount_name, after_names, fresh_period_case, onward_period_case}
 use Rattle.program.proofs.Formed.{Formed, no_more, declaration, order_part, order_items}
@@ -92,7 +92,7 @@ keys_alike no_key none = no_key
 keys_alike (plain_key l e w) (same a) = plain_key l e (keys_alike w a)
 keys_alike (starred_key_case l e w) (same a) = starred_key_case l e (keys_alike w a)
 
-some_alike : {is js : List Item} → Some is → Alike is js → Some js
+some_alike : {is js : List Item} → NotEmpty is → Alike is js → NotEmpty js
 some_alike something (same a) = something
 some_alike something (start a) = something
 some_alike something (order a) = something

@@ -3,7 +3,7 @@
 use mathlib.Core.Path.{◌≡◌, refl, sym, ◌∙◌, ap}
 use mathlib.Core.Bool.{Bool, true, false, cond, ◌&&◌}
 use mathlib.Core.List.{List}
-use mathlib.Core.Option.{some}
+use Rattle.std.specs.Prelude.{Some}
 use Prim.Native.Nat.{ℕ, suc, ◌+◌, ◌-◌, ◌≤◌, ◌<◌}
 use native.Mathlib.Omega.{arith}
 use borrow.Author.Tests.{eqb-true}
@@ -245,7 +245,7 @@ balanced q r = leb (owed r.next + weight r.action) (owed q + 1)
 all_balanced : Node → Bool
 all_balanced q = each (balanced q) (rules q)
 
-balance : (q : Node) (t : Terminal) {r : Rule} → picked (rules q) t ≡ some r → owed r.next + weight r.action ≤ owed q + 1
+balance : (q : Node) (t : Terminal) {r : Rule} → picked (rules q) t ≡ Some r → owed r.next + weight r.action ≤ owed q + 1
 unfolding all_balanced balanced rules
 balance q t e = leb→le _ _ (picked_of (balanced q) (rules q) t (at_each all_balanced tt tt q) e).0
 

@@ -1,7 +1,7 @@
 -- What stands after a declared name, with numbers in the place of names: which declaration it is, and that its numbers are allowed.
 use mathlib.Core.Path.{◌≡◌, refl, sym, ◌∙◌, ap, subst}
 use mathlib.Core.List.{List, [], ◌∷◌, ◌++◌}
-use mathlib.Core.Option.{none}
+use Rattle.std.specs.Prelude.{None}
 use Prim.Native.Nat.{ℕ, suc, ◌+◌, ◌≤◌}
 use native.Mathlib.Omega.{arith}
 use lib.ListN.{length}
@@ -22,7 +22,7 @@ use Rattle.program.specs.Program.{term_then, terms_of, system_positions_of, grou
 use Rattle.program.specs.Allowed.{kind_of, Refers, Callable, Each, FitTerm, Terms, FitSystemPosition, FitPosition, FitStart, FitTrigger, FitOrder, FitLogic, NamedOnce, FitHarmony, Fits, order_count}
 use Rattle.program.proofs.Formed.{TermItems, no_term_holds, add_term, subtract_term, PlaceItems, no_place, muted_place, tone_place}
 use Rattle.program.proofs.Formed.{PositionItems, no_position, muted_position, kept_position, tone_position}
-use Rattle.program.proofs.Formed.{StartItems, no_start, a_start, by_letter_case, by_harmony_case, OrderItems, no_order_holds, an_order, KeyItems, no_key, plain_key, starred_key_case, Some, something}
+use Rattle.program.proofs.Formed.{StartItems, no_start, a_start, by_letter_case, by_harmony_case, OrderItems, no_order_holds, an_order, KeyItems, no_key, plain_key, starred_key_case, NotEmpty, something}
 use Rattle.program.proofs.Formed.{Body, a_ratio, a_root, a_sequence, a_frequency, from_tone, a_system, a_tones, a_logic, a_harmony}
 use Rattle.program.proofs.Formed.{anchor_kept_case, width_kept_case, an_amount, an_amount_name, after_names, fresh_period_case, onward_period_case, NameItems, no_name_case, a_name, NumberItems, no_number_case, a_number}
 use Rattle.program.proofs.Formed.{order_part, order_items, start_part, start_items, some_start, start_count}
@@ -162,13 +162,13 @@ period_of_holds no_term_holds = refl
 period_of_holds (add_term h w) = refl
 period_of_holds (subtract_term h w) = refl
 
-pub tones_of_holds : {n : ℕ} {is : List Item} → PositionItems n is → Some is → declaration_of is ≡ tones (grouped is).positions
+pub tones_of_holds : {n : ℕ} {is : List Item} → PositionItems n is → NotEmpty is → declaration_of is ≡ tones (grouped is).positions
 tones_of_holds no_position x = elim x [ ]
 tones_of_holds (muted_position w) something = refl
 tones_of_holds (kept_position t w) something = refl
 tones_of_holds (tone_position t w) something = refl
 
-pub harmony_of_holds : {set n : ℕ} {is : List Item} → KeyItems set n is → Some is → declaration_of is ≡ harmony (keys_of is)
+pub harmony_of_holds : {set n : ℕ} {is : List Item} → KeyItems set n is → NotEmpty is → declaration_of is ≡ harmony (keys_of is)
 unfolding keys_of
 harmony_of_holds no_key x = elim x [ ]
 harmony_of_holds (plain_key l e w) something = refl
@@ -182,13 +182,13 @@ keys_each no_key = (omega arith, tt, tt)
 keys_each (plain_key l e w) = let k = keys_each w in (omega (arith, k.0), (l, k.1), (e, k.2))
 keys_each (starred_key_case l e w) = let k = keys_each w in (omega (arith, k.0), (l, k.1), (e, k.2))
 
-some_key : {set n : ℕ} {is : List Item} → KeyItems set n is → Some is → 1 ≤ length (keys_of is)
+some_key : {set n : ℕ} {is : List Item} → KeyItems set n is → NotEmpty is → 1 ≤ length (keys_of is)
 unfolding keys_of
 some_key no_key x = elim x [ ]
 some_key (plain_key l e w) something = omega arith
 some_key (starred_key_case l e w) something = omega arith
 
-keys_fit : {is : List Item} → KeyItems 0 most_harmony_keys is → Some is → FitHarmony (keys_of is)
+keys_fit : {is : List Item} → KeyItems 0 most_harmony_keys is → NotEmpty is → FitHarmony (keys_of is)
 keys_fit w s = let k = keys_each w in record { some = some_key w s; few = k.0; each = k.1; once = k.2 }
 
 -- a tone system: positions, and then the terms of its period
@@ -220,7 +220,7 @@ terms_before (add_term {f} {q} h w) v = let t = terms_before w v in (ap (term_th
 terms_before (subtract_term {f} {q} h w) v = let t = terms_before w v in (ap (term_then (uses parts.subtract f q)) t.0, t.1)
 
 -- a logic: its start, and then its orders
-no_start_in : {is : List Item} → OrderItems is → start_of is ≡ none
+no_start_in : {is : List Item} → OrderItems is → start_of is ≡ None
 unfolding start_of
 no_start_in no_order_holds = refl
 no_start_in (an_order {is} (by_letter_case c) ns w) = start_past is ns ∙ no_start_in w
@@ -280,7 +280,7 @@ module _ (p : Program) where
     places_each (muted_place w) r = let l = places_each w r.1 in (omega arith, (tt, l.1))
     places_each (tone_place w) r = let l = places_each w r.1 in (omega arith, (r.0, l.1))
 
-    some_place : {n : ℕ} {is : List Item} → PlaceItems n is → Some is → 1 ≤ length (system_positions_of (is ++ ts))
+    some_place : {n : ℕ} {is : List Item} → PlaceItems n is → NotEmpty is → 1 ≤ length (system_positions_of (is ++ ts))
     unfolding system_positions_of
     some_place no_place x = elim x [ ]
     some_place (muted_place w) something = omega arith
@@ -302,7 +302,7 @@ module _ (p : Program) where
       let l = positions_each w s.1 in
       rw (b.0, b.1) (omega arith, ((r.0, terms_fit t s.0), l.1))
 
-  some_position : {n : ℕ} {is : List Item} → PositionItems n is → Some is → 1 ≤ length (grouped is).positions
+  some_position : {n : ℕ} {is : List Item} → PositionItems n is → NotEmpty is → 1 ≤ length (grouped is).positions
   unfolding grouped
   some_position no_position x = elim x [ ]
   some_position (muted_position w) something = omega arith

@@ -6,7 +6,7 @@ use mathlib.Core.Logic.{⊎_elim}
 use mathlib.Core.List.{List, [], ◌∷◌, ◌++◌, append_assoc, Memᴰ}
 use Prim.Native.Nat.{ℕ, zero, suc, ◌+◌, ◌-◌, ◌≤◌, ◌<◌}
 use native.Mathlib.Omega.{arith}
-use mathlib.Core.Option.{Option, some, none}
+use Rattle.std.specs.Prelude.{Option, Some, None}
 use lib.Dec.{eqb}
 use lib.ListN.{length, get_or, length-append, get_or-append}
 use lib.Seq.{get_or-append-add}
@@ -425,8 +425,8 @@ few_starts (d ∷ p) = go d.is (few_starts p)
     counted c = if_kind (eqb (kind_number (kind_of c)) (kind_number Logic)) (count_of Logic p)
 
     one : (s : Option ℕ) → starts_in p ≤ count_of Logic p → some_start s + starts_in p ≤ suc (count_of Logic p)
-    one none h = omega arith
-    one (some k) h = omega arith
+    one None h = omega arith
+    one (Some k) h = omega arith
 
     go : (c : Declaration) → starts_in p ≤ count_of Logic p → start_count c + starts_in p ≤ counted c
     go (ratio a b) h = omega arith

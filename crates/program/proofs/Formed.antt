@@ -2,7 +2,7 @@
 use mathlib.Core.Path.{◌≡◌}
 use mathlib.Core.Bool.{false}
 use mathlib.Core.List.{List, [], ◌∷◌, ◌++◌}
-use mathlib.Core.Option.{Option, some, none}
+use Rattle.std.specs.Prelude.{Option, Some, None}
 use Prim.Native.Nat.{ℕ, suc, ◌+◌, ◌≤◌}
 use lib.Dec.{eqb}
 use Rattle.limits.specs.Limits.{most_amount, most_harmony_key, most_harmony_keys, most_placeholders}
@@ -69,8 +69,8 @@ pub data KeyItems : ℕ → ℕ → List Item → Type 0 where
       → KeyItems set (suc n) (item.StarredKey v ∷ is)
 
 -- something stands there
-pub data Some : List Item → Type 0 where
-  something : {i : Item} {is : List Item} → Some (i ∷ is)
+pub data NotEmpty : List Item → Type 0 where
+  something : {i : Item} {is : List Item} → NotEmpty (i ∷ is)
 
 -- what stands after a declared name of a kind
 pub data Body : Kind → List Item → Type 0 where
@@ -79,17 +79,17 @@ pub data Body : Kind → List Item → Type 0 where
   a_sequence : {is : List Item} → TermItems most_terms is → Body Interval is
   a_frequency : {f : ℕ} → Decimal f → Body Tone (item.Frequency f ∷ [])
   from_tone : {q : ℕ} {is : List Item} → TermItems most_terms is → Body Tone (item.Base q ∷ is)
-  a_system : {a : ℕ} {ps is : List Item} → a ≤ 127 → PlaceItems most_positions ps → Some ps → TermItems most_terms is → Body System (item.AnchorKey a ∷ ps ++ is)
+  a_system : {a : ℕ} {ps is : List Item} → a ≤ 127 → PlaceItems most_positions ps → NotEmpty ps → TermItems most_terms is → Body System (item.AnchorKey a ∷ ps ++ is)
   anchor_kept_case : Body Retuning (item.AnchorKept ∷ [])
   width_kept_case : Body Retuning (item.WidthKept ∷ [])
   an_amount : {f : Form} {n : ℕ} → n ≤ most_amount → Body Retuning (item.Amount f n ∷ [])
   an_amount_name : {f : Form} {q : ℕ} → Body Retuning (item.AmountName f q ∷ [])
   fresh_period_case : {is : List Item} → TermItems most_terms is → Body Retuning (item.Period ∷ is)
   onward_period_case : {is : List Item} → TermItems most_terms is → Body Retuning (item.Period ∷ item.Onward ∷ is)
-  a_tones : {is : List Item} → PositionItems most_positions is → Some is → Body Retuning is
+  a_tones : {is : List Item} → PositionItems most_positions is → NotEmpty is → Body Retuning is
   after_names : {ns is : List Item} → NameItems most_placeholders ns → Body Retuning is → Body Retuning (ns ++ is)
   a_logic : {i : Item} {ss os : List Item} → TriggerItem i → StartItems ss → OrderItems os → Body Logic (i ∷ ss ++ os)
-  a_harmony : {is : List Item} → KeyItems 0 most_harmony_keys is → Some is → Body Harmony is
+  a_harmony : {is : List Item} → KeyItems 0 most_harmony_keys is → NotEmpty is → Body Harmony is
 
 pub data Formed : List Item → Type 0 where
   no_more : Formed []
@@ -136,8 +136,8 @@ start_items (i ∷ is) = start_part (part i) (start_items is)
 
 -- of a declaration, and of all of them
 abbrev pub some_start : Option ℕ → ℕ
-some_start none = 0
-some_start (some k) = 1
+some_start None = 0
+some_start (Some k) = 1
 
 abbrev pub starts_by : AsLogic → ℕ
 starts_by no_logic_holds = 0

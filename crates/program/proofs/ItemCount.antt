@@ -3,7 +3,7 @@
 use mathlib.Core.Path.{◌≡◌, refl}
 use mathlib.Core.Bool.{Bool, true, false, cond}
 use mathlib.Core.List.{List, [], ◌∷◌}
-use mathlib.Core.Option.{Option, some, none}
+use Rattle.std.specs.Prelude.{Option, Some, None}
 use Prim.Native.Nat.{ℕ, zero, suc, ◌+◌, ◌≤◌}
 use native.Mathlib.Omega.{arith}
 use borrow.Author.Tests.{leb-true}
@@ -21,9 +21,9 @@ unfolding cut
 cut_few zero text at = omega arith
 cut_few (suc n) text at = on (after (next_symbol text at)) (λ e. cut_few n text e)
   where
-    on : (o : Option ℕ) → ((e : ℕ) → length (cut n text e) ≤ n) → suc (length {A = Symbol} (elim o [ none ↦ [] | some end ↦ cut n text end ])) ≤ suc n
-    on none h = omega arith
-    on (some e) h = let l = h e in omega arith
+    on : (o : Option ℕ) → ((e : ℕ) → length (cut n text e) ≤ n) → suc (length {A = Symbol} (elim o [ None ↦ [] | Some end ↦ cut n text end ])) ≤ suc n
+    on None h = omega arith
+    on (Some e) h = let l = h e in omega arith
 
 abbrev items_of : Read → List Item
 items_of r = r.items

@@ -13,7 +13,7 @@ use Rattle.names.specs.Names.{Named, declared, called_in, meant, numbered, Resol
 use Rattle.names.proofs.Meanings.{accepted}
 use Rattle.program.proofs.Formed.{TermItems, no_term_holds, add_term, subtract_term, PlaceItems, no_place, muted_place, tone_place}
 use Rattle.program.proofs.Formed.{PositionItems, no_position, muted_position, kept_position, tone_position}
-use Rattle.program.proofs.Formed.{StartItems, no_start, a_start, by_letter_case, by_harmony_case, OrderItems, no_order_holds, an_order, KeyItems, no_key, plain_key, starred_key_case, Some, something}
+use Rattle.program.proofs.Formed.{StartItems, no_start, a_start, by_letter_case, by_harmony_case, OrderItems, no_order_holds, an_order, KeyItems, no_key, plain_key, starred_key_case, NotEmpty, something}
 use Rattle.program.proofs.Formed.{Body, a_ratio, a_root, a_sequence, a_frequency, from_tone, a_system, a_tones, a_logic, a_harmony}
 use Rattle.program.proofs.Formed.{anchor_kept_case, width_kept_case, an_amount, an_amount_name, after_names, fresh_period_case, onward_period_case, NameItems, no_name_case, a_name, NumberItems, no_number_case, a_number}
 use Rattle.program.proofs.Formed.{Formed, no_more, declaration, order_part, order_items, FormedText}
@@ -69,7 +69,7 @@ module _ (number : Use → ℕ → ℕ) where
   keys_kept (plain_key l e w) = plain_key l e (keys_kept w)
   keys_kept (starred_key_case l e w) = starred_key_case l e (keys_kept w)
 
-  some_kept : {is : List Item} → Some is → Some (with_numbers number is)
+  some_kept : {is : List Item} → NotEmpty is → NotEmpty (with_numbers number is)
   some_kept something = something
 
   body_kept : {k : Kind} {is : List Item} → Body k is → Body k (with_numbers number is)

@@ -3,7 +3,8 @@
 use mathlib.Core.Path.{◌≡◌, refl, ◌∙◌, ap, subst}
 use mathlib.Core.Bool.{Bool, true, false}
 use mathlib.Core.List.{List, [], ◌∷◌}
-use mathlib.Core.Option.{some, none-ne-some, some-injective}
+use Rattle.std.specs.Prelude.{Some}
+use Rattle.std.proofs.lemmas.Option.{none-some, same_Some}
 use Prim.Native.Nat.{ℕ}
 use Rattle.status.specs.Status.{done}
 use Rattle.grammar.specs.declared.Kind.{Kind}
@@ -229,15 +230,15 @@ good OrderNumber = (call_number_step, tt)
 good OrderComma = (numbers_on, (numbers_end, tt))
 
 -- the rule that is picked for a terminal is one of the list, and is for that terminal
-picked_good : (F : Rule → Type 0) (rs : List Rule) (t : Terminal) {r : Rule} → Each F rs → picked rs t ≡ some r → F r × (t ≡ r.symbol)
+picked_good : (F : Rule → Type 0) (rs : List Rule) (t : Terminal) {r : Rule} → Each F rs → picked rs t ≡ Some r → F r × (t ≡ r.symbol)
 unfolding picked
-picked_good F [] t {r} h e = absurd (none-ne-some r e)
+picked_good F [] t {r} h e = absurd (none-some r e)
 picked_good F (x ∷ xs) t {r} h e = go (same_terminal t x.symbol) refl (picked_good F xs t h.1) e
   where
-    go : (b : Bool) → same_terminal t x.symbol ≡ b → (picked xs t ≡ some r → F r × (t ≡ r.symbol))
-        → elim b [ true ↦ some x | false ↦ picked xs t ] ≡ some r → F r × (t ≡ r.symbol)
+    go : (b : Bool) → same_terminal t x.symbol ≡ b → (picked xs t ≡ Some r → F r × (t ≡ r.symbol))
+        → elim b [ true ↦ Some x | false ↦ picked xs t ] ≡ Some r → F r × (t ≡ r.symbol)
     go true p later q =
-        let same = some-injective x r q in
+        let same = same_Some x r q in
         (subst F same h.0, same_terminal_holds t x.symbol p ∙ ap (λ (y : Rule). y.symbol) same)
     go false p later q = later q
 

@@ -3,7 +3,8 @@
 use mathlib.Core.Path.{◌≡◌, refl, sym, ◌∙◌, subst, subst₂}
 use mathlib.Core.Bool.{Bool, true, false, cond}
 use mathlib.Core.List.{List, [], ◌∷◌}
-use mathlib.Core.Option.{Option, some, none, none-ne-some}
+use Rattle.std.specs.Prelude.{Option, Some, None}
+use Rattle.std.proofs.lemmas.Option.{none-some}
 use Prim.Native.Nat.{ℕ, zero, suc, ◌+◌, ◌≤◌, ◌<◌}
 use native.Mathlib.Omega.{arith}
 use lib.Dec.{leb}
@@ -50,7 +51,7 @@ module _ (text : List ℕ) (A : Node → Progress → List Item → Type 0) wher
 
   -- each step by a rule keeps A
   abbrev pub Kept : Type 0
-  Kept = (n : Node) (s : Progress) (y : Symbol) (r : Rule) → picked (rules n) (terminal_of text y) ≡ some r
+  Kept = (n : Node) (s : Progress) (y : Symbol) (r : Rule) → picked (rules n) (terminal_of text y) ≡ Some r
       → Keeps (A r.next) (A n s) (acted text s r.action (span_of y))
 
   module _ (finished : (s : Progress) → A Finish s []) (kept : Kept) where
@@ -62,7 +63,7 @@ module _ (text : List ℕ) (A : Node → Progress → List Item → Type 0) wher
 
     -- a step by a rule, or none
     by_rule_step : (s : Standing) (y : Symbol) (ys : List Symbol)
-        → ((r : Rule) → picked (rules s.node) (terminal_of text y) ≡ some r
+        → ((r : Rule) → picked (rules s.node) (terminal_of text y) ≡ Some r
         → Whole (From s) (turned text (then_at r.next (acted text s.kept r.action (span_of y))) ys))
         → Whole (From s) (read_from text s (y ∷ ys))
     unfolding read_from stepped
@@ -73,8 +74,8 @@ module _ (text : List ℕ) (A : Node → Progress → List Item → Type 0) wher
         refused false e = absurd (omega arith)
 
         go : (o : Option Rule) → picked (rules s.node) (terminal_of text y) ≡ o → Whole (From s) (turned text (by_rule text s.kept y o) ys)
-        go none q = refused (is_nothing (terminal_of text y))
-        go (some r) q = h r q
+        go None q = refused (is_nothing (terminal_of text y))
+        go (Some r) q = h r q
 
     onward : (s : Standing) (y : Symbol) (ys : List Symbol) → ((t : Standing) → Whole (From t) (read_from text t ys))
         → Whole (From s) (read_from text s (y ∷ ys))
@@ -83,7 +84,7 @@ module _ (text : List ℕ) (A : Node → Progress → List Item → Type 0) wher
 
     at_bad : (s : Standing) (p : ℕ) → Whole (From s) (read_from text s (symbol.Bad p ∷ []))
     unfolding terminal_of
-    at_bad s p = by_rule_step s (symbol.Bad p) [] (λ r q. absurd (none-ne-some r (sym (none_at_nothing s.node) ∙ q)))
+    at_bad s p = by_rule_step s (symbol.Bad p) [] (λ r q. absurd (none-some r (sym (none_at_nothing s.node) ∙ q)))
 
     -- the end leads to the last node, and nothing is done there
     at_end : (s : Standing) (p : ℕ) → Whole (From s) (read_from text s (symbol.End p ∷ []))
@@ -105,7 +106,7 @@ module _ (text : List ℕ) (A : Node → Progress → List Item → Type 0) wher
         subst (λ (ys : List Symbol). Whole (From s) (read_from text s ys)) (sym (symbols_next text at w))
         (go (next_symbol text at) (λ b e t. let l = after_within text at w e in from_place m b (omega arith) l.1 t))
       where
-        go : (y : Symbol) → ((b : ℕ) → after y ≡ some b → (t : Standing) → Whole (From t) (read_from text t (symbols_from text b)))
+        go : (y : Symbol) → ((b : ℕ) → after y ≡ Some b → (t : Standing) → Whole (From t) (read_from text t (symbols_from text b)))
             → Whole (From s) (read_from text s (y ∷ going_on text (after y)))
         go (symbol.Bad p) later = at_bad s p
         go (symbol.End p) later = at_end s p

@@ -38,7 +38,7 @@ use Rattle.program.specs.Meaning.{nothing, declaration_at}
 use Rattle.program.specs.Allowed.{Each, kind_of, order_count}
 use Rattle.program.specs.WrittenIn.{written_in, written_retuning, meant_items, one_of, CallsWritten}
 use Rattle.program.proofs.Formed.{TermItems, no_term_holds, add_term, subtract_term, PositionItems, no_position, muted_position, kept_position, tone_position}
-use Rattle.program.proofs.Formed.{NameItems, no_name_case, a_name, Some, something, Body, anchor_kept_case, width_kept_case, an_amount, an_amount_name, after_names, fresh_period_case, onward_period_case, a_tones}
+use Rattle.program.proofs.Formed.{NameItems, no_name_case, a_name, NotEmpty, something, Body, anchor_kept_case, width_kept_case, an_amount, an_amount_name, after_names, fresh_period_case, onward_period_case, a_tones}
 use Rattle.program.proofs.Formed.{FormedText, start_count}
 use Rattle.program.proofs.Declares.{names_past, Inside, no_item, plain, declares_fit}
 use Rattle.program.proofs.AlikeItems.{split, formed_alike}
@@ -70,7 +70,7 @@ module _ (text : List ℕ) (b : List Item) (ns : List ℕ) where
   names_fixed no_name_case = refl
   names_fixed (a_name {q = q} w) = ap (λ (l : List Item). item.Placeholder q ∷ l) (names_fixed w)
 
-  tones_unwanted : {n : ℕ} {is : List Item} (rest : List Item) → PositionItems n is → Some is → wanted_by (is ++ rest) ≡ wanting.Nothing
+  tones_unwanted : {n : ℕ} {is : List Item} (rest : List Item) → PositionItems n is → NotEmpty is → wanted_by (is ++ rest) ≡ wanting.Nothing
   unfolding wanted_by
   tones_unwanted rest no_position x = elim x [ ]
   tones_unwanted rest (muted_position w) something = refl

@@ -1,7 +1,6 @@
 -- "Numbers allowed", as every accepted text keeps them: what holds of each declaration, and how many there are of each kind.
 -- `accepted_allowed` of proofs/AllowedText.antt: the program of an accepted text is such a one.
-use Rattle.std.specs.Prelude.{◌≡◌, Bool, true, false, ◌||◌, List, [], ◌∷◌, ℕ, suc, ◌+◌, ◌≤◌, ◌<◌, eqb, length}
-use Rattle.std.proofs.Math.Option.{Option, some, none}
+use Rattle.std.specs.Prelude.{◌≡◌, Bool, true, false, ◌||◌, List, [], ◌∷◌, ℕ, suc, ◌+◌, ◌≤◌, ◌<◌, eqb, length, Option, Some, None}
 use Rattle.grammar.specs.declared.Kind.{Kind}
 use Rattle.grammar.specs.declared.Kind.TheVariants.{Interval, Tone, System, Retuning, Logic, Order as AnOrder, Harmony}
 use Rattle.grammar.specs.Moves.{kind_number}
@@ -125,8 +124,8 @@ pub record Positions (n : ℕ) : Type 0 where
   pub few : n ≤ most_positions
 
 abbrev pub FitSystemPosition : Program → Option ℕ → Type 0
-FitSystemPosition p none = Unit
-FitSystemPosition p (some k) = Refers p (meant parts.position) k
+FitSystemPosition p None = Unit
+FitSystemPosition p (Some k) = Refers p (meant parts.position) k
 
 abbrev pub FitPosition : Program → Position → Type 0
 FitPosition p mute = Unit
@@ -134,8 +133,8 @@ FitPosition p (kept ts) = Terms p ts
 FitPosition p (named k ts) = Refers p (meant parts.position) k × Terms p ts
 
 abbrev pub FitStart : Program → Option ℕ → Type 0
-FitStart p none = Unit
-FitStart p (some k) = Callable p (meant parts.start) k
+FitStart p None = Unit
+FitStart p (Some k) = Callable p (meant parts.start) k
 
 abbrev pub FitTrigger : Program → Trigger → Type 0
 FitTrigger p (by_letter c) = Letter c

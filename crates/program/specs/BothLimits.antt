@@ -1,6 +1,5 @@
 -- Tones at the ends of what an instrument has, and one past each, for a worked stream of document 02, 6/13; m measures 1.
-use Rattle.std.specs.Prelude.{true, false, List, [], ◌∷◌, ℕ}
-use Rattle.std.proofs.Math.Option.{some}
+use Rattle.std.specs.Prelude.{true, false, List, [], ◌∷◌, ℕ, Some}
 use Rattle.ascii.specs.Ascii.{byte, bytes}
 use Rattle.values.specs.Values.{Term}
 use Rattle.program.specs.Program.{kept, ratio, root, tones, logic, by_letter, Program}
@@ -25,5 +24,5 @@ program =
     placed 9 (root 12 20000)
     ∷ placed 23 (ratio 429496_0000 429495_8759)
     ∷ placed 57 (tones (kept (down 60 ∷ []) ∷ kept (down 61 ∷ less ∷ []) ∷ kept (up 66 ∷ less ∷ []) ∷ kept (up 65 ∷ []) ∷ []))
-    ∷ placed 118 (logic (by_letter (byte "L")) (some 2) [])
+    ∷ placed 118 (logic (by_letter (byte "L")) (Some 2) [])
     ∷ []

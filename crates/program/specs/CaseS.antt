@@ -1,6 +1,5 @@
 -- Case S of document 01: its text, and what it declares.
-use Rattle.std.specs.Prelude.{false, List, [], ◌∷◌, ℕ}
-use Rattle.std.proofs.Math.Option.{some}
+use Rattle.std.specs.Prelude.{false, List, [], ◌∷◌, ℕ, Some}
 use Rattle.ascii.specs.Ascii.{byte, bytes}
 use Rattle.tuning.specs.declared.Operator.TheVariants.{Plus}
 use Rattle.tuning.specs.declared.Amount.TheVariants.{Relative}
@@ -19,7 +18,7 @@ program =
     ∷ placed 24 (ratio 30000 20000)
     ∷ placed 43 (frequency 4400000)
     ∷ placed 51 (from 2 (record { minus = false; factor = 1; of = 1 } ∷ []))
-    ∷ placed 76 (system 69 (some 2 ∷ some 3 ∷ []) (record { minus = false; factor = 1; of = 0 } ∷ []))
+    ∷ placed 76 (system 69 (Some 2 ∷ Some 3 ∷ []) (record { minus = false; factor = 1; of = 0 } ∷ []))
     ∷ placed 110 (anchor (Relative Plus 1))
-    ∷ placed 131 (logic (by_letter (byte "M")) (some 4) (record { trigger = by_letter (byte "U"); calls = 5 } ∷ []))
+    ∷ placed 131 (logic (by_letter (byte "M")) (Some 4) (record { trigger = by_letter (byte "U"); calls = 5 } ∷ []))
     ∷ []

@@ -1,6 +1,5 @@
 -- A text with a harmony as the trigger of a logic, for a worked stream of document 02, 5/13.
-use Rattle.std.specs.Prelude.{true, false, List, [], ◌∷◌, ℕ}
-use Rattle.std.proofs.Math.Option.{some}
+use Rattle.std.specs.Prelude.{true, false, List, [], ◌∷◌, ℕ, Some}
 use Rattle.ascii.specs.Ascii.{bytes}
 use Rattle.tuning.specs.declared.Operator.TheVariants.{Plus}
 use Rattle.tuning.specs.declared.Amount.TheVariants.{Relative}
@@ -15,5 +14,5 @@ abbrev pub program : Program
 program =
     placed 8 (harmony (key_of 0 false ∷ key_of 4 false ∷ key_of 7 true ∷ []))
     ∷ placed 34 (anchor (Relative Plus 7))
-    ∷ placed 55 (logic (by_harmony 0) (some 1) [])
+    ∷ placed 55 (logic (by_harmony 0) (Some 1) [])
     ∷ []

@@ -1,6 +1,5 @@
 -- Widths with placeholders, for a worked stream of document 02, 1/13: a zero that is handed to `/`, at a start and at an order, to `*` and to n itself.
-use Rattle.std.specs.Prelude.{List, [], ◌∷◌, ℕ}
-use Rattle.std.proofs.Math.Option.{some}
+use Rattle.std.specs.Prelude.{List, [], ◌∷◌, ℕ, Some}
 use Rattle.ascii.specs.Ascii.{byte, bytes}
 use Rattle.tuning.specs.declared.Operator.TheVariants.{Times, Divide}
 use Rattle.tuning.specs.declared.Amount.TheVariants.{Absolute, Relative}
@@ -17,7 +16,7 @@ program =
     placed 9 pattern
     ∷ placed 38 pattern
     ∷ placed 64 pattern
-    ∷ placed 92 (logic (by_letter (byte "L")) (some 4) (on (byte "A") 5 ∷ on (byte "B") 6 ∷ on (byte "C") 7 ∷ on (byte "D") 8 ∷ []))
+    ∷ placed 92 (logic (by_letter (byte "L")) (Some 4) (on (byte "A") 5 ∷ on (byte "B") 6 ∷ on (byte "C") 7 ∷ on (byte "D") 8 ∷ []))
     ∷ placed 102 (width (Relative Divide 0))
     ∷ placed 124 (width (Relative Divide 2))
     ∷ placed 144 (width (Relative Times 3))

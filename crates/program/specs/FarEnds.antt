@@ -1,6 +1,5 @@
 -- A period of nine octaves, and an anchor and a width whose other ends no instrument has, for a worked stream of document 02, 6/13.
-use Rattle.std.specs.Prelude.{false, List, [], ◌∷◌, ℕ}
-use Rattle.std.proofs.Math.Option.{some}
+use Rattle.std.specs.Prelude.{false, List, [], ◌∷◌, ℕ, Some}
 use Rattle.ascii.specs.Ascii.{byte, bytes}
 use Rattle.tuning.specs.declared.Operator.TheVariants.{Plus}
 use Rattle.tuning.specs.declared.Amount.TheVariants.{Absolute, Relative}
@@ -18,5 +17,5 @@ program =
     ∷ placed 28 (fresh_period (record { minus = false; factor = 9; of = 0 } ∷ []))
     ∷ placed 43 (width (Absolute 13))
     ∷ placed 60 (anchor (Relative Plus 13))
-    ∷ placed 81 (logic (by_letter (byte "L")) (some 1) (on (byte "W") 2 ∷ on (byte "A") 3 ∷ []))
+    ∷ placed 81 (logic (by_letter (byte "L")) (Some 1) (on (byte "W") 2 ∷ on (byte "A") 3 ∷ []))
     ∷ []

@@ -1,6 +1,5 @@
 -- A logic whose start is always refused, for a worked stream of document 02, 3/13.
-use Rattle.std.specs.Prelude.{List, [], ◌∷◌, ℕ}
-use Rattle.std.proofs.Math.Option.{some}
+use Rattle.std.specs.Prelude.{List, [], ◌∷◌, ℕ, Some}
 use Rattle.ascii.specs.Ascii.{byte, bytes}
 use Rattle.tuning.specs.declared.Operator.TheVariants.{Plus}
 use Rattle.tuning.specs.declared.Amount.TheVariants.{Absolute, Relative}
@@ -16,5 +15,5 @@ abbrev pub program : Program
 program =
     placed 9 (anchor (Absolute 200))
     ∷ placed 23 (anchor (Relative Plus 1))
-    ∷ placed 44 (logic (by_letter (byte "L")) (some 0) (on (byte "U") 1 ∷ []))
+    ∷ placed 44 (logic (by_letter (byte "L")) (Some 0) (on (byte "U") 1 ∷ []))
     ∷ []

@@ -1,6 +1,5 @@
 -- A harmony that carries a scale with a silent first position up, for a worked stream of document 02, 2/13 and 5/13.
-use Rattle.std.specs.Prelude.{false, List, [], ◌∷◌, ℕ}
-use Rattle.std.proofs.Math.Option.{some}
+use Rattle.std.specs.Prelude.{false, List, [], ◌∷◌, ℕ, Some}
 use Rattle.ascii.specs.Ascii.{byte, bytes}
 use Rattle.tuning.specs.declared.Operator.TheVariants.{Plus}
 use Rattle.tuning.specs.declared.Amount.TheVariants.{Relative}
@@ -16,6 +15,6 @@ program =
     placed 8 (harmony (key_of 0 false ∷ []))
     ∷ placed 27 (tones (mute ∷ mute ∷ []))
     ∷ placed 40 (anchor (Relative Plus 12))
-    ∷ placed 62 (logic (by_letter (byte "M")) (some 1) [])
-    ∷ placed 81 (logic (by_harmony 0) (some 2) [])
+    ∷ placed 62 (logic (by_letter (byte "M")) (Some 1) [])
+    ∷ placed 81 (logic (by_harmony 0) (Some 2) [])
     ∷ []

@@ -1,6 +1,5 @@
 -- The handbook's `Anker_neu ( x ) = x [ ]`, for a worked stream of document 02, 1/13: four buttons of two retunings.
-use Rattle.std.specs.Prelude.{List, [], ◌∷◌, ℕ}
-use Rattle.std.proofs.Math.Option.{some}
+use Rattle.std.specs.Prelude.{List, [], ◌∷◌, ℕ, Some}
 use Rattle.ascii.specs.Ascii.{byte, bytes}
 use Rattle.tuning.specs.declared.Operator.TheVariants.{Plus}
 use Rattle.tuning.specs.declared.Amount.TheVariants.{Absolute, Relative}
@@ -16,7 +15,7 @@ abbrev pub program : Program
 program =
     placed 9 pattern
     ∷ placed 33 pattern
-    ∷ placed 60 (logic (by_letter (byte "L")) (some 3) (on (byte "A") 4 ∷ on (byte "B") 5 ∷ on (byte "C") 6 ∷ []))
+    ∷ placed 60 (logic (by_letter (byte "L")) (Some 3) (on (byte "A") 4 ∷ on (byte "B") 5 ∷ on (byte "C") 6 ∷ []))
     ∷ placed 70 (anchor (Absolute 62))
     ∷ placed 98 (anchor (Relative Plus 3))
     ∷ placed 116 (anchor (Relative Plus 9999))

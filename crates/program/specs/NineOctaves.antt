@@ -1,6 +1,5 @@
 -- A period of nine octaves, a muted first position, and a width that would double both, for a worked stream of document 02, 2/13.
-use Rattle.std.specs.Prelude.{false, List, [], ◌∷◌, ℕ}
-use Rattle.std.proofs.Math.Option.{some}
+use Rattle.std.specs.Prelude.{false, List, [], ◌∷◌, ℕ, Some}
 use Rattle.ascii.specs.Ascii.{byte, bytes}
 use Rattle.tuning.specs.declared.Operator.TheVariants.{Times}
 use Rattle.tuning.specs.declared.Amount.TheVariants.{Relative}
@@ -18,5 +17,5 @@ program =
     ∷ placed 28 (fresh_period (record { minus = false; factor = 9; of = 0 } ∷ []))
     ∷ placed 40 (tones (mute ∷ mute ∷ []))
     ∷ placed 50 (width (Relative Times 2))
-    ∷ placed 76 (logic (by_letter (byte "L")) (some 1) (on (byte "A") 2 ∷ on (byte "B") 3 ∷ []))
+    ∷ placed 76 (logic (by_letter (byte "L")) (Some 1) (on (byte "A") 2 ∷ on (byte "B") 3 ∷ []))
     ∷ []

@@ -1,6 +1,5 @@
 -- One name for a tone, a retuning and its placeholder, for a worked stream of document 02, 1/13.
-use Rattle.std.specs.Prelude.{List, [], ◌∷◌, ℕ}
-use Rattle.std.proofs.Math.Option.{some}
+use Rattle.std.specs.Prelude.{List, [], ◌∷◌, ℕ, Some}
 use Rattle.ascii.specs.Ascii.{byte, bytes}
 use Rattle.tuning.specs.declared.Operator.TheVariants.{Minus}
 use Rattle.tuning.specs.declared.Amount.TheVariants.{Relative}
@@ -15,6 +14,6 @@ abbrev pub program : Program
 program =
     placed 5 (frequency 4400000)
     ∷ placed 22 pattern
-    ∷ placed 48 (logic (by_letter (byte "L")) (some 3) [])
+    ∷ placed 48 (logic (by_letter (byte "L")) (Some 3) [])
     ∷ placed 58 (anchor (Relative Minus 10))
     ∷ []

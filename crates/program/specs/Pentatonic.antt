@@ -1,6 +1,5 @@
 -- A pentatonic scale with a silent first position, for a worked stream of document 02, 2/13: carried up, doubled, and neither.
-use Rattle.std.specs.Prelude.{List, [], ◌∷◌, ℕ}
-use Rattle.std.proofs.Math.Option.{some}
+use Rattle.std.specs.Prelude.{List, [], ◌∷◌, ℕ, Some}
 use Rattle.ascii.specs.Ascii.{byte, bytes}
 use Rattle.tuning.specs.declared.Operator.TheVariants.{Plus, Minus, Times}
 use Rattle.tuning.specs.declared.Amount.TheVariants.{Kept, Absolute, Relative}
@@ -28,6 +27,6 @@ program =
     ∷ placed 152 (width Kept)
     ∷ placed 168 (width (Absolute 13))
     ∷ placed 187 (anchor Kept)
-    ∷ placed 203 (logic (by_letter (byte "L")) (some 1)
+    ∷ placed 203 (logic (by_letter (byte "L")) (Some 1)
     (on (byte "A") 2 ∷ on (byte "B") 4 ∷ on (byte "C") 5 ∷ on (byte "D") 6 ∷ on (byte "E") 7 ∷ on (byte "F") 8 ∷ on (byte "G") 9 ∷ on (byte "H") 3 ∷ []))
     ∷ []

@@ -1,7 +1,6 @@
 -- What a text declares: document 01, "Declarations"; document 02, 5/13 and 1/13. The declarations are numbered 0, 1, 2, .. in the order of the text, and refer to each other by
 -- these numbers; behind them stand the retunings that its calls fill in. Ratio parts, radicands and frequencies are in ten-thousandths.
-use Rattle.std.specs.Prelude.{Bool, true, false, List, [], ◌∷◌, ℕ}
-use Rattle.std.proofs.Math.Option.{Option, some, none}
+use Rattle.std.specs.Prelude.{Bool, true, false, List, [], ◌∷◌, ℕ, Option, Some, None}
 use Rattle.grammar.specs.declared.Form.{Form}
 use Rattle.grammar.specs.declared.Form.TheVariants.{AnchorTo, AnchorUp, AnchorDown, WidthTo, WidthUp, WidthDown, WidthTimes, WidthOver}
 use Rattle.grammar.specs.declared.Item.{Item}
@@ -176,8 +175,8 @@ terms_of (i ∷ is) = term_then (part i) (terms_of is)
 
 -- the positions of a tone system
 abbrev pub with_system_position : AsListed → List (Option ℕ) → List (Option ℕ)
-with_system_position muted_position l = none ∷ l
-with_system_position (tone_position n) l = some n ∷ l
+with_system_position muted_position l = None ∷ l
+with_system_position (tone_position n) l = Some n ∷ l
 with_system_position unlisted l = l
 with_system_position (a_term t) l = l
 with_system_position kept_position l = l
@@ -222,25 +221,25 @@ pub record Ordered : Type 0 where
   pub orders : List Order
 
 abbrev pub triggered_by : Trigger → Option ℕ → List Order → Ordered
-triggered_by c none l = record { call = none; orders = l }
-triggered_by c (some n) l = record { call = none; orders = record { trigger = c; calls = n } ∷ l }
+triggered_by c None l = record { call = None; orders = l }
+triggered_by c (Some n) l = record { call = None; orders = record { trigger = c; calls = n } ∷ l }
 
 abbrev pub with_order : AsListed → Ordered → Ordered
 with_order (a_trigger c) g = triggered_by c g.call g.orders
-with_order (a_call n) g = record { call = some n; orders = g.orders }
-with_order unlisted g = record { call = none; orders = g.orders }
-with_order (a_term t) g = record { call = none; orders = g.orders }
-with_order muted_position g = record { call = none; orders = g.orders }
-with_order kept_position g = record { call = none; orders = g.orders }
-with_order (tone_position n) g = record { call = none; orders = g.orders }
-with_order (a_start n) g = record { call = none; orders = g.orders }
-with_order (a_key k) g = record { call = none; orders = g.orders }
+with_order (a_call n) g = record { call = Some n; orders = g.orders }
+with_order unlisted g = record { call = None; orders = g.orders }
+with_order (a_term t) g = record { call = None; orders = g.orders }
+with_order muted_position g = record { call = None; orders = g.orders }
+with_order kept_position g = record { call = None; orders = g.orders }
+with_order (tone_position n) g = record { call = None; orders = g.orders }
+with_order (a_start n) g = record { call = None; orders = g.orders }
+with_order (a_key k) g = record { call = None; orders = g.orders }
 
 abbrev pub order_then : Part → Ordered → Ordered
 order_then p g = with_order (as_listed p) g
 
 unfoldable pub ordered : List Item → Ordered
-ordered [] = record { call = none; orders = [] }
+ordered [] = record { call = None; orders = [] }
 ordered (i ∷ is) = order_then (part i) (ordered is)
 
 abbrev pub orders_of : List Item → List Order
@@ -248,7 +247,7 @@ orders_of is = (ordered is).orders
 
 -- what a logic's start calls
 abbrev pub with_start : AsListed → Option ℕ → Option ℕ
-with_start (a_start n) s = some n
+with_start (a_start n) s = Some n
 with_start unlisted s = s
 with_start (a_term t) s = s
 with_start muted_position s = s
@@ -262,7 +261,7 @@ abbrev pub start_then : Part → Option ℕ → Option ℕ
 start_then p s = with_start (as_listed p) s
 
 unfoldable pub start_of : List Item → Option ℕ
-start_of [] = none
+start_of [] = None
 start_of (i ∷ is) = start_then (part i) (start_of is)
 
 -- the keys of a harmony

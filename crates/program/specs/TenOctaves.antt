@@ -1,6 +1,5 @@
 -- A period of ten octaves, and a muted first position, for a worked stream of document 02, 6/13.
-use Rattle.std.specs.Prelude.{false, List, [], ◌∷◌, ℕ}
-use Rattle.std.proofs.Math.Option.{some}
+use Rattle.std.specs.Prelude.{false, List, [], ◌∷◌, ℕ, Some}
 use Rattle.ascii.specs.Ascii.{byte, bytes}
 use Rattle.program.specs.Program.{mute, ratio, fresh_period, tones, logic, by_letter, Program}
 use Rattle.program.specs.CaseS.{placed}
@@ -15,5 +14,5 @@ program =
     placed 9 (ratio 20000 10000)
     ∷ placed 28 (fresh_period (record { minus = false; factor = 10; of = 0 } ∷ []))
     ∷ placed 43 (tones (mute ∷ mute ∷ []))
-    ∷ placed 58 (logic (by_letter (byte "L")) (some 1) (on (byte "A") 2 ∷ []))
+    ∷ placed 58 (logic (by_letter (byte "L")) (Some 1) (on (byte "A") 2 ∷ []))
     ∷ []

@@ -1,7 +1,6 @@
 -- A text with two logics, for a second worked stream: the same letter calls one retuning under the one logic and another under the other, an order calls
 -- a logic, and a retuning is refused whenever it is called.
-use Rattle.std.specs.Prelude.{false, List, [], ◌∷◌, ℕ}
-use Rattle.std.proofs.Math.Option.{some}
+use Rattle.std.specs.Prelude.{false, List, [], ◌∷◌, ℕ, Some}
 use Rattle.ascii.specs.Ascii.{byte, bytes}
 use Rattle.values.specs.Values.{Term}
 use Rattle.tuning.specs.declared.Operator.TheVariants.{Plus, Minus}
@@ -25,11 +24,11 @@ program =
     ∷ placed 24 (ratio 30000 20000)
     ∷ placed 43 (frequency 4400000)
     ∷ placed 51 (from 2 (plus 1 ∷ []))
-    ∷ placed 76 (system 69 (some 2 ∷ some 3 ∷ []) (plus 0 ∷ []))
-    ∷ placed 101 (system 60 (some 2 ∷ []) (plus 1 ∷ []))
+    ∷ placed 76 (system 69 (Some 2 ∷ Some 3 ∷ []) (plus 0 ∷ []))
+    ∷ placed 101 (system 60 (Some 2 ∷ []) (plus 1 ∷ []))
     ∷ placed 131 (anchor (Relative Plus 1))
     ∷ placed 146 (anchor (Relative Minus 1))
     ∷ placed 163 (width (Absolute 61))
-    ∷ placed 189 (logic (by_letter (byte "M")) (some 4) (on (byte "U") 6 ∷ on (byte "D") 7 ∷ on (byte "W") 8 ∷ []))
-    ∷ placed 247 (logic (by_letter (byte "N")) (some 5) (on (byte "U") 7 ∷ on (byte "V") 9 ∷ []))
+    ∷ placed 189 (logic (by_letter (byte "M")) (Some 4) (on (byte "U") 6 ∷ on (byte "D") 7 ∷ on (byte "W") 8 ∷ []))
+    ∷ placed 247 (logic (by_letter (byte "N")) (Some 5) (on (byte "U") 7 ∷ on (byte "V") 9 ∷ []))
     ∷ []

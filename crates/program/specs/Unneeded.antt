@@ -1,6 +1,5 @@
 -- Placeholders of a period and of a tones retuning, for a worked stream of document 02, 1/13: they are of no use there, but calls give their numbers.
-use Rattle.std.specs.Prelude.{false, List, [], ◌∷◌, ℕ}
-use Rattle.std.proofs.Math.Option.{some}
+use Rattle.std.specs.Prelude.{false, List, [], ◌∷◌, ℕ, Some}
 use Rattle.ascii.specs.Ascii.{byte, bytes}
 use Rattle.values.specs.Values.{Term}
 use Rattle.program.specs.Program.{mute, kept, ratio, fresh_period, tones, logic, by_letter, Program}
@@ -20,5 +19,5 @@ program =
     placed 9 (ratio 20000 10000)
     ∷ placed 28 (fresh_period (octave ∷ octave ∷ []))
     ∷ placed 48 (tones (mute ∷ kept (octave ∷ []) ∷ []))
-    ∷ placed 85 (logic (by_letter (byte "L")) (some 1) (on (byte "A") 2 ∷ []))
+    ∷ placed 85 (logic (by_letter (byte "L")) (Some 1) (on (byte "A") 2 ∷ []))
     ∷ []

@@ -1,6 +1,5 @@
 -- A harmony that an unplayable key makes up, for a worked stream of document 02, 6/13 and 5/13.
-use Rattle.std.specs.Prelude.{false, List, [], ◌∷◌, ℕ}
-use Rattle.std.proofs.Math.Option.{some}
+use Rattle.std.specs.Prelude.{false, List, [], ◌∷◌, ℕ, Some}
 use Rattle.ascii.specs.Ascii.{byte, bytes}
 use Rattle.tuning.specs.declared.Operator.TheVariants.{Plus}
 use Rattle.tuning.specs.declared.Amount.TheVariants.{Relative}
@@ -17,6 +16,6 @@ program =
     ∷ placed 27 (harmony (key_of 0 false ∷ []))
     ∷ placed 46 (fresh_period (record { minus = false; factor = 10; of = 0 } ∷ []))
     ∷ placed 61 (anchor (Relative Plus 1))
-    ∷ placed 82 (logic (by_letter (byte "T")) (some 2) [])
-    ∷ placed 100 (logic (by_harmony 1) (some 3) [])
+    ∷ placed 82 (logic (by_letter (byte "T")) (Some 2) [])
+    ∷ placed 100 (logic (by_harmony 1) (Some 3) [])
     ∷ []

@@ -2,7 +2,8 @@
 use mathlib.Core.Path.{◌≡◌, refl, sym, ap, ◌∙◌}
 use mathlib.Core.Bool.{Bool, true, false}
 use mathlib.Core.List.{List, [], ◌∷◌}
-use mathlib.Core.Option.{Option, some, none, none-ne-some, some-injective}
+use Rattle.std.specs.Prelude.{Option, Some, None}
+use Rattle.std.proofs.lemmas.Option.{none-some, same_Some}
 use Prim.Native.Nat.{ℕ, ◌+◌, ◌-◌, ◌≤◌, ◌<◌}
 use native.Mathlib.Numerals.{add-one}
 use native.Mathlib.Omega.{arith}
@@ -58,31 +59,31 @@ module _ (t : Tables) (v : valid_tables t ≡ true) where
 
 -- ---- the first trigger that passes, and the order that it finds
 
-pub none_passes : (p : ℕ → Bool) (cs ks : List ℕ) → first_of p cs ≡ none → none ≡ first_order p cs ks
+pub none_passes : (p : ℕ → Bool) (cs ks : List ℕ) → first_of p cs ≡ None → None ≡ first_order p cs ks
 unfolding first_of first_order
 none_passes p [] ks e = refl
 none_passes p (c ∷ cs) [] e = refl
 none_passes p (c ∷ cs) (k ∷ ks) e = go (p c) (none_passes p cs ks) e
   where
-    go : (b : Bool) → (first_of p cs ≡ none → none ≡ first_order p cs ks) → ◌≡◌ {A = Option ℕ} (elim b [ true ↦ some c | false ↦ first_of p cs ]) none
-        → ◌≡◌ {A = Option ℕ} none (elim b [ true ↦ some k | false ↦ first_order p cs ks ])
-    go true later q = absurd (none-ne-some c (sym q))
+    go : (b : Bool) → (first_of p cs ≡ None → None ≡ first_order p cs ks) → ◌≡◌ {A = Option ℕ} (elim b [ true ↦ Some c | false ↦ first_of p cs ]) None
+        → ◌≡◌ {A = Option ℕ} None (elim b [ true ↦ Some k | false ↦ first_order p cs ks ])
+    go true later q = absurd (none-some c (sym q))
     go false later q = later q
 
 -- what is found passes
-passes_first : (p : ℕ → Bool) (cs : List ℕ) {c : ℕ} → first_of p cs ≡ some c → p c ≡ true
+passes_first : (p : ℕ → Bool) (cs : List ℕ) {c : ℕ} → first_of p cs ≡ Some c → p c ≡ true
 unfolding first_of
-passes_first p [] {c} e = absurd (none-ne-some c e)
+passes_first p [] {c} e = absurd (none-some c e)
 passes_first p (x ∷ cs) {c} e = go (p x) refl (passes_first p cs) e
   where
-    go : (b : Bool) → p x ≡ b → (first_of p cs ≡ some c → p c ≡ true) → elim b [ true ↦ some x | false ↦ first_of p cs ] ≡ some c → p c ≡ true
-    go true h later q = ap p (sym (some-injective x c q)) ∙ h
+    go : (b : Bool) → p x ≡ b → (first_of p cs ≡ Some c → p c ≡ true) → elim b [ true ↦ Some x | false ↦ first_of p cs ] ≡ Some c → p c ≡ true
+    go true h later q = ap p (sym (same_Some x c q)) ∙ h
     go false h later q = later q
 
 -- the first order with that very trigger is the first that passes
-pub same_order : (p : ℕ → Bool) (cs ks : List ℕ) {c : ℕ} → first_of p cs ≡ some c → first_order (is_trigger c) cs ks ≡ first_order p cs ks
+pub same_order : (p : ℕ → Bool) (cs ks : List ℕ) {c : ℕ} → first_of p cs ≡ Some c → first_order (is_trigger c) cs ks ≡ first_order p cs ks
 unfolding first_of first_order
-same_order p [] ks {c} e = absurd (none-ne-some c e)
+same_order p [] ks {c} e = absurd (none-some c e)
 same_order p (x ∷ cs) [] e = refl
 same_order p (x ∷ cs) (k ∷ ks) {c} e = go (p x) refl (same_order p cs ks) e
   where
@@ -92,18 +93,18 @@ same_order p (x ∷ cs) (k ∷ ks) {c} e = go (p x) refl (same_order p cs ks) e
     apart : p x ≡ false → x ≡ c → ⊥
     apart h s = let z : ◌≡◌ {A = Bool} true false = sym pass ∙ ap p (sym s) ∙ h in let y : ◌≡◌ {A = ℕ} 0 1 = cc in omega arith
 
-    go : (b : Bool) → p x ≡ b → (first_of p cs ≡ some c → first_order (is_trigger c) cs ks ≡ first_order p cs ks)
-        → elim b [ true ↦ some x | false ↦ first_of p cs ] ≡ some c
+    go : (b : Bool) → p x ≡ b → (first_of p cs ≡ Some c → first_order (is_trigger c) cs ks ≡ first_order p cs ks)
+        → elim b [ true ↦ Some x | false ↦ first_of p cs ] ≡ Some c
         → ◌≡◌ {A = Option ℕ}
-        (elim (is_trigger c x) [ true ↦ some k | false ↦ first_order (is_trigger c) cs ks ])
-        (elim b [ true ↦ some k | false ↦ first_order p cs ks ])
-    go true h later q = rw (eq-eqb x c (some-injective x c q))
+        (elim (is_trigger c x) [ true ↦ Some k | false ↦ first_order (is_trigger c) cs ks ])
+        (elim b [ true ↦ Some k | false ↦ first_order p cs ks ])
+    go true h later q = rw (eq-eqb x c (same_Some x c q))
     go false h later q = rw (ne_eqb x c (apart h)) (later q)
 
 -- ---- one turn of the loop over the triggers of orders from i to n, and its end
 
 module _ (p : ℕ → Bool) (triggers : List ℕ) (i n : ℕ) where
-  pub sounds_here : {b : Bool} → i < n → n ≤ length triggers → b ≡ p (get_or triggers i 0) → b ≡ true → some (get_or triggers i 0) ≡ first_of p (slice i n triggers)
+  pub sounds_here : {b : Bool} → i < n → n ≤ length triggers → b ≡ p (get_or triggers i 0) → b ≡ true → Some (get_or triggers i 0) ≡ first_of p (slice i n triggers)
   unfolding first_of
   sounds_here h k e f = rw (slice-cons i n triggers 0 h k, first_of, ← e, f)
 
@@ -112,6 +113,6 @@ module _ (p : ℕ → Bool) (triggers : List ℕ) (i n : ℕ) where
   unfolding first_of
   sounds_on h k e f = rw (slice-cons i n triggers 0 h k, first_of, ← e, f, add-one i)
 
-  pub sounds_none : n ≤ i → none ≡ first_of p (slice i n triggers)
+  pub sounds_none : n ≤ i → None ≡ first_of p (slice i n triggers)
   unfolding first_of
   sounds_none h = rw (past triggers i n h)

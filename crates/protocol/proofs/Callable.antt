@@ -1,7 +1,7 @@
 -- What valid tables have for a call: all that the call reads, and an action that keeps valid states valid. Assumes nothing.
 use mathlib.Core.Path.{◌≡◌, ◌∙◌, subst}
 use mathlib.Core.Bool.{true}
-use mathlib.Core.Option.{Option, some, none}
+use Rattle.std.specs.Prelude.{Option, Some, None}
 use Prim.Native.Nat.{ℕ, ◌<◌}
 use native.Mathlib.Omega.{arith}
 use lib.ListN.{length, length-map}
@@ -64,8 +64,8 @@ module _ (t : Tables) (v : valid_tables t ≡ true) where
   retuning_valid Tones l = tt
 
   abbrev SomeValid : Option (Action cents) → Type 0
-  SomeValid none = Unit
-  SomeValid (some c) = ValidAction c
+  SomeValid None = Unit
+  SomeValid (Some c) = ValidAction c
 
   action_valid : (r : TableRow) → ValidRow t r → SomeValid (action_by t r)
   action_valid Unused h = tt
@@ -81,5 +81,5 @@ module _ (t : Tables) (v : valid_tables t ≡ true) where
   call_valid s k h w = go (action_at t k) (action_valid (row_at t k) (row_valid t v k h))
     where
       go : (o : Option (Action cents)) → SomeValid o → Whole (tuned s o).state
-      go none a = w
-      go (some c) a = state_valid s w.0 w.1 c a
+      go None a = w
+      go (Some c) a = state_valid s w.0 w.1 c a

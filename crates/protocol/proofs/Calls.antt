@@ -1,7 +1,7 @@
 -- The call of a declaration, by its row; what the tables hold of it; and a step by its call. Assumes nothing.
 use mathlib.Core.Path.{◌≡◌, refl, ap, sym, ◌∙◌, subst}
 use mathlib.Core.List.{List, [], ◌∷◌}
-use mathlib.Core.Option.{Option, some, none}
+use Rattle.std.specs.Prelude.{Option, Some, None}
 use Prim.Native.Nat.{ℕ}
 use types.Run.{OneOf, miss}
 use denote.Enum.Declared.{tag_of}
@@ -56,8 +56,8 @@ found_leaves t house d f unfound e = ap leaves e ∙ go f
     leaves r = record { desk = with_tuning r.state d; number = r.number }
 
     acted : (o : Option (Action cents)) → let r = by_action house d o in leaves (tuned d.tuning o) ≡ record { desk = r.desk; number = r.number }
-    acted none = refl
-    acted (some c) = refl
+    acted None = refl
+    acted (Some c) = refl
 
     go : (f : Callee) → leaves (found_tuned t d.tuning f unfound) ≡ calls_leave t house d (calls_of f) unfound
     go Nothing = refl

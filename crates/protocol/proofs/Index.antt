@@ -3,7 +3,7 @@ use mathlib.Core.Logic.{◌⊎◌, inl, inr}
 use mathlib.Core.Path.{◌≡◌, refl, sym, ap, ◌∙◌}
 use mathlib.Core.Bool.{Bool, true, false, cond, ◌&&◌}
 use mathlib.Core.List.{List}
-use mathlib.Core.Option.{Option, some, none}
+use Rattle.std.specs.Prelude.{Option, Some, None}
 use Prim.Native.Nat.{ℕ, zero, suc, ◌+◌, ◌-◌, ◌≤◌, ◌<◌}
 use native.Mathlib.Decide.{ℕ_discrete}
 use native.Mathlib.Nat.{sub-zero}
@@ -98,8 +98,8 @@ module _ (rows : List ℤ) (count : ℕ) where
   indexed trigger h x e = e ∙ ap (λ (n : ℕ). found (decoded n)) (x.first trigger h) ∙ ap found (back (first_logic rows (is_trigger trigger) 0 count))
     where
       back : (o : Option ℕ) → decoded (one_more o) ≡ o
-      back none = refl
-      back (some k) = refl
+      back None = refl
+      back (Some k) = refl
 
 -- ---- the logics whose trigger is a harmony, from row i on; `next` is the first of them
 
@@ -158,7 +158,7 @@ module _ (rows : List ℤ) (count : ℕ) where
 -- the next logic to try, as 1 more than its number, or 0: what is found from it on is what is found among all
 pub record Seeking (rows : List ℤ) (q : ℕ → Bool) (count next : ℕ) : Type 0 where
   pub most : next ≤ count
-  pub ended : next ≡ 0 → none ≡ first_logic rows q 0 count
+  pub ended : next ≡ 0 → None ≡ first_logic rows q 0 count
   pub rest : (i : ℕ) → next ≡ suc i → first_logic rows q i (count - i) ≡ first_logic rows q 0 count
 
 -- how many rows are left
@@ -178,7 +178,7 @@ module _ (rows : List ℤ) (q : ℕ → Bool) (only : (c : ℕ) → is_harmonic 
   seek i n l e same = go (first_logic rows is_harmonic i (count - i)) refl e
     where
       go : (o : Option ℕ) → first_logic rows is_harmonic i (count - i) ≡ o → n ≡ one_more o → Seeking rows q count n × ((n ≡ 0) ⊎ (i < n))
-      go none f g = (
+      go None f g = (
         record {
           most = omega (arith, g);
           ended = λ z. sym (none_only rows is_harmonic q only i (count - i) f) ∙ same;
@@ -186,7 +186,7 @@ module _ (rows : List ℤ) (q : ℕ → Bool) (only : (c : ℕ) → is_harmonic 
         },
         inl g,
       )
-      go (some k) f g =
+      go (Some k) f g =
           let r = some_only rows is_harmonic q only i (count - i) f in
           let m : i + (count - i) - k ≡ count - k = omega arith in (
             record {

@@ -3,7 +3,7 @@ use mathlib.Core.Path.{◌≡◌, refl, sym, ap, ◌∙◌, subst}
 use mathlib.Core.Logic.{◌≢◌}
 use mathlib.Core.Bool.{Bool, true, false, cond}
 use mathlib.Core.List.{List, [], ◌∷◌, ◌++◌}
-use mathlib.Core.Option.{Option, some, none}
+use Rattle.std.specs.Prelude.{Option, Some, None}
 use Prim.Native.Nat.{ℕ, zero, suc}
 use lib.Dec.{eqb}
 use lib.ListN.{length}
@@ -30,8 +30,8 @@ use Rattle.protocol.proofs.Callable.{Whole}
 
 one_kept : (house : ℕ) (d : Desk) → valid_state d.tuning ≡ true → length d.tuning.tones ≡ places → (o : Option (Action cents))
     → (by_action house d o).number ≢ 0 → (by_action house d o).desk.tuning ≡ d.tuning
-one_kept house d v n none h = refl
-one_kept house d v n (some c) h = ap coded (refused_keeps (held d.tuning) c h) ∙ coded_held d.tuning v n
+one_kept house d v n None h = refl
+one_kept house d v n (Some c) h = ap coded (refused_keeps (held d.tuning) c h) ∙ coded_held d.tuning v n
 
 pub call_keeps : CallKeeps
 unfolding CallKeeps call_on
@@ -57,8 +57,8 @@ module _ (t : Tables) (d : Desk) (n : length d.tuning.tones ≡ places) (v : val
     logic_kept k (a_logic c (suc j) from to) = call_kept (active.Logic k) j
 
     called_kept : (o : Option ℕ) → let z = called t d.active o in Keeps z.active z.calls
-    called_kept none = no_call_holds d.active
-    called_kept (some k) = logic_kept k (as_logic (row_at t k))
+    called_kept None = no_call_holds d.active
+    called_kept (Some k) = logic_kept k (as_logic (row_at t k))
 
     step_kept : (x : Sought) → (triggered t house d x unfound).number ≢ 0 → (triggered t house d x unfound).desk.tuning ≡ d.tuning
     unfolding triggered struck

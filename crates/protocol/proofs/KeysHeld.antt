@@ -2,7 +2,7 @@
 use mathlib.Core.Path.{◌≡◌, refl, sym, ap, ◌∙◌}
 use mathlib.Core.Bool.{Bool, true, false, cond, ◌&&◌}
 use mathlib.Core.List.{List, [], ◌∷◌}
-use mathlib.Core.Option.{Option, some, none}
+use Rattle.std.specs.Prelude.{Option, Some, None}
 use Prim.Native.Nat.{ℕ}
 use native.Mathlib.Omega.{arith}
 use borrow.Author.Tests.{eq-eqb, ne_eqb, eqb-true, eqb-false}
@@ -31,8 +31,8 @@ use Rattle.protocol.specs.KeysHeld.{Moved, move_by, moves_of, is_down, held_by, 
 -- ---- calls leave the held keys
 
 by_action_holds : (house : ℕ) (d : Desk) (o : Option (Action cents)) → (by_action house d o).desk.keys ≡ d.keys
-by_action_holds house d none = refl
-by_action_holds house d (some c) = refl
+by_action_holds house d None = refl
+by_action_holds house d (Some c) = refl
 
 calls_leave_holds : (t : Tables) (house : ℕ) (d : Desk) (ks : List ℕ) → (desk_from t house d ks).keys ≡ d.keys
 unfolding desk_from call_on

@@ -2,7 +2,7 @@
 use mathlib.Core.Path.{◌≡◌, refl, sym, subst}
 use mathlib.Core.Bool.{Bool, true, false, cond}
 use mathlib.Core.List.{List, [], ◌∷◌, get_last_d}
-use mathlib.Core.Option.{Option, some, none}
+use Rattle.std.specs.Prelude.{Option, Some, None}
 use Prim.Native.Nat.{ℕ}
 use lib.Dec.{eqb}
 use lib.IntN.{ℤ}
@@ -77,8 +77,8 @@ module _ (P : ℕ → Type 0) where
     made_number t house d (k ∷ ks) n = made_number t house (call_on t house d k).desk ks (go (action_at t k))
       where
         go : (o : Option (Action cents)) → P (by_action house d o).number
-        go none = h.taken
-        go (some c) = call_number_step (held d.tuning) c
+        go None = h.taken
+        go (Some c) = call_number_step (held d.tuning) c
 
     pub step_number : (t : Tables) (house : ℕ) (d : Desk) (x : Sought) {unfound : ℕ} → P unfound → P (triggered t house d x unfound).number
     unfolding triggered

@@ -1,7 +1,8 @@
 -- What valid tables have for a search: all that it reads; and what is called is one of the rows. Assumes nothing.
 use mathlib.Core.Path.{◌≡◌, refl, ◌∙◌, subst}
 use mathlib.Core.Bool.{Bool, true}
-use mathlib.Core.Option.{Option, some, none, none-ne-some}
+use Rattle.std.specs.Prelude.{Option, Some, None}
+use Rattle.std.proofs.lemmas.Option.{none-some}
 use Prim.Native.Nat.{ℕ, zero, suc, ◌<◌}
 use native.Mathlib.Omega.{arith}
 use borrow.Author.Tests.{ltb-true}
@@ -50,29 +51,29 @@ module _ (t : Tables) (v : valid_tables t ≡ true) where
   active_row i h = row_valid t v i (active_within i h)
 
   -- what an order calls
-  order_within_step : (p : ℕ → Bool) (r : TableRow) → ValidRow t r → {k : ℕ} → order_by t p r ≡ some k → k < row_count t
-  order_within_step p Unused h {k} e = absurd (none-ne-some k e)
-  order_within_step p (Interval d) h {k} e = absurd (none-ne-some k e)
-  order_within_step p (Tone f) h {k} e = absurd (none-ne-some k e)
-  order_within_step p (System a P from to) h {k} e = absurd (none-ne-some k e)
-  order_within_step p (Retuning r from to) h {k} e = absurd (none-ne-some k e)
-  order_within_step p (Harmony needed named) h {k} e = absurd (none-ne-some k e)
-  order_within_step p Pattern h {k} e = absurd (none-ne-some k e)
+  order_within_step : (p : ℕ → Bool) (r : TableRow) → ValidRow t r → {k : ℕ} → order_by t p r ≡ Some k → k < row_count t
+  order_within_step p Unused h {k} e = absurd (none-some k e)
+  order_within_step p (Interval d) h {k} e = absurd (none-some k e)
+  order_within_step p (Tone f) h {k} e = absurd (none-some k e)
+  order_within_step p (System a P from to) h {k} e = absurd (none-some k e)
+  order_within_step p (Retuning r from to) h {k} e = absurd (none-some k e)
+  order_within_step p (Harmony needed named) h {k} e = absurd (none-some k e)
+  order_within_step p Pattern h {k} e = absurd (none-some k e)
   order_within_step p (Logic c s from to) h {k} e =
       let o = order_called p t.triggers t.calls from to (orders_there (Logic c s from to) h).calls e in
       subst (λ (x : ℕ). x < row_count t) o.is (order_valid t v o.index (omega (arith, o.most, h.within))).within
 
   module _ (a : Active) (h : active_right t a ≡ true) (x : Sought) where
-    pub named_within : {k : ℕ} → named t a x ≡ some k → k < row_count t
+    pub named_within : {k : ℕ} → named t a x ≡ Some k → k < row_count t
     named_within {k} e = go (first_logic t.rows (answers_to t x) 0 (row_count t)) refl e
       where
-        ordered : (b : Active) → active_right t b ≡ true → order_of t (answers_to t x) b ≡ some k → k < row_count t
-        ordered active.Nothing r q = absurd (none-ne-some k q)
+        ordered : (b : Active) → active_right t b ≡ true → order_of t (answers_to t x) b ≡ Some k → k < row_count t
+        ordered active.Nothing r q = absurd (none-some k q)
         ordered (active.Logic i) r q = order_within_step (answers_to t x) (row_at t i) (row_valid t v i (active_within i r)) q
 
-        go : (o : Option ℕ) → first_logic t.rows (answers_to t x) 0 (row_count t) ≡ o → else_order t a (answers_to t x) o ≡ some k → k < row_count t
-        go none f q = ordered a h q
-        go (some i) f q = omega (arith, (logic_found t.rows (answers_to t x) 0 (row_count t) (f ∙ q)).0)
+        go : (o : Option ℕ) → first_logic t.rows (answers_to t x) 0 (row_count t) ≡ o → else_order t a (answers_to t x) o ≡ Some k → k < row_count t
+        go None f q = ordered a h q
+        go (Some i) f q = omega (arith, (logic_found t.rows (answers_to t x) 0 (row_count t) (f ∙ q)).0)
 
     calls_within : (k : ℕ) (r : TableRow) → ValidRow t r → k < row_count t → Within t (calls_as a k (as_logic r)).calls
     calls_within k Unused w l = (l, tt)
@@ -92,5 +93,5 @@ module _ (t : Tables) (v : valid_tables t ≡ true) where
     struck_within = go (named t a x) refl
       where
         go : (o : Option ℕ) → named t a x ≡ o → Within t (called t a o).calls
-        go none f = tt
-        go (some k) f = let l = named_within f in calls_within k (row_at t k) (row_valid t v k l) l
+        go None f = tt
+        go (Some k) f = let l = named_within f in calls_within k (row_at t k) (row_valid t v k l) l

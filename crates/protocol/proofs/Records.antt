@@ -2,7 +2,7 @@
 use mathlib.Core.Path.{◌≡◌, refl, sym, ap, ◌∙◌}
 use mathlib.Core.Bool.{Bool, true, false, cond}
 use mathlib.Core.List.{List, [], ◌∷◌, ◌++◌, zip_with}
-use mathlib.Core.Option.{Option, some, none}
+use Rattle.std.specs.Prelude.{Option, Some, None}
 use Prim.Native.Nat.{ℕ, zero, suc, ◌+◌, ◌-◌, ◌*◌, ◌≤◌, ◌<◌}
 use native.Mathlib.Numerals.{add-one}
 use native.Mathlib.Omega.{arith}
@@ -119,7 +119,7 @@ module _ (rows : List ℤ) (trigger : ℕ) where
       go : (b : Bool) → let x = record_of rows c k in let xs = records_of rows cs ks ++ rest in
           called_at (seen ++ x ∷ [] ++ xs) (match_from trigger (at + 1) xs (length cs)) ≡ called_in rows (first_order (is_trigger trigger) cs ks)
           → called_at (seen ++ x ∷ xs) (elim b [ true ↦ match.At at | false ↦ match_from trigger (at + 1) xs (length cs) ])
-          ≡ called_in rows (elim b [ true ↦ some k | false ↦ first_order (is_trigger trigger) cs ks ])
+          ≡ called_in rows (elim b [ true ↦ Some k | false ↦ first_order (is_trigger trigger) cs ks ])
       go true later = rw (get_or_at seen (record_of rows c k) (records_of rows cs ks ++ rest) no_order at l)
       go false later = rw append_snoc at later
 
@@ -160,8 +160,8 @@ slice_split (suc a) (suc b) (suc c) (x ∷ l) h k = slice_split a b c l (omega a
 
 -- the first of a list's orders, else the second's
 abbrev or_else : Option ℕ → Option ℕ → Option ℕ
-or_else none o = o
-or_else (some k) o = some k
+or_else None o = o
+or_else (Some k) o = Some k
 
 first_append : (p : ℕ → Bool) (cs ks ds ls : List ℕ) → length cs ≡ length ks
     → first_order p (cs ++ ds) (ks ++ ls) ≡ or_else (first_order p cs ks) (first_order p ds ls)
@@ -172,8 +172,8 @@ first_append p (c ∷ cs) [] ds ls e = let z : ⊥ = omega arith in absurd z
 first_append p (c ∷ cs) (k ∷ ks) ds ls e = go (p c) (first_append p cs ks ds ls (omega arith))
   where
     go : (b : Bool) → first_order p (cs ++ ds) (ks ++ ls) ≡ or_else (first_order p cs ks) (first_order p ds ls)
-        → elim b [ true ↦ some k | false ↦ first_order p (cs ++ ds) (ks ++ ls) ]
-        ≡ or_else (elim b [ true ↦ some k | false ↦ first_order p cs ks ]) (first_order p ds ls)
+        → elim b [ true ↦ Some k | false ↦ first_order p (cs ++ ds) (ks ++ ls) ]
+        ≡ or_else (elim b [ true ↦ Some k | false ↦ first_order p cs ks ]) (first_order p ds ls)
     go true later = refl
     go false later = later
 
@@ -218,13 +218,13 @@ module _ (rows : List ℤ) {p : ℕ → Bool} {triggers calls : List ℕ} {from 
         other k false e = let z : ◌≡◌ {A = ℕ} 0 1 = cc in omega arith
 
         go : (o : Option ℕ) → called.Nothing ≡ called_in rows o → behind ≡ or_else o behind
-        go none e = refl
-        go (some k) e = absurd (other k (is_logic_kind (kind_at rows k)) e)
+        go None e = refl
+        go (Some k) e = absurd (other k (is_logic_kind (kind_at rows k)) e)
 
     -- something is found in it
     pub searching_found : (f : Called) → (f ≡ called.Nothing → ⊥) → f ≡ called_in rows here → f ≡ called_in rows (order_within p triggers calls from to)
     searching_found f n h = go here h ∙ ap (called_in rows) (sym parted ∙ s.same)
       where
         go : (o : Option ℕ) → f ≡ called_in rows o → f ≡ called_in rows (or_else o behind)
-        go none e = absurd (n e)
-        go (some k) e = e
+        go None e = absurd (n e)
+        go (Some k) e = e

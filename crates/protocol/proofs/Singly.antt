@@ -2,7 +2,8 @@
 use mathlib.Core.Path.{◌≡◌, refl, sym, ap, ap₂, ◌∙◌}
 use mathlib.Core.Bool.{Bool, true, false, cond, ◌&&◌, false≢true}
 use mathlib.Core.List.{List, [], ◌∷◌, ◌++◌, get_last_d, append_assoc, append-nil}
-use mathlib.Core.Option.{some, Option-elim}
+use Rattle.std.specs.Prelude.{Some}
+use Rattle.std.specs.Option.{option_map_or}
 use Prim.Native.Nat.{ℕ, ◌≤◌, ◌<◌}
 use native.Mathlib.Decide.{dec_lt}
 use native.Mathlib.Omega.{arith}
@@ -39,7 +40,7 @@ capital_bytes [] e = tt
 capital_bytes (c ∷ cs) e = let a = each (is_capital c) (are_capitals cs) e in (omega (arith, (in_range_holds first_letter last_letter c a.0).1), capital_bytes cs a.1)
 
 letter_read : (house c : ℕ) → is_house house ≡ true → is_capital c ≡ true → frame_of (hexes (house ∷ letter_kind ∷ c ∷ [])) ≡ letter house c
-unfolding frame_of framed Option-elim
+unfolding frame_of framed
 letter_read house c h l =
     rw (
       bytes_back (house ∷ letter_kind ∷ c ∷ [])
@@ -49,7 +50,7 @@ letter_read house c h l =
     )
 
 pub rows_are_read : RowsAreRead
-unfolding RowsAreRead frame_of framed Option-elim
+unfolding RowsAreRead frame_of framed
 rows_are_read house cs r =
     rw (
       bytes_back (house ∷ letter_row_kind ∷ length cs ∷ cs)
@@ -61,9 +62,9 @@ rows_are_read house cs r =
     )
 
 -- any other line of kind 04 is a bad frame
-wrong_frame : (line : List ℕ) (house : ℕ) (rest : List ℕ) → bytes_of line ≡ some (house ∷ letter_row_kind ∷ rest)
+wrong_frame : (line : List ℕ) (house : ℕ) (rest : List ℕ) → bytes_of line ≡ Some (house ∷ letter_row_kind ∷ rest)
     → ((cs : List ℕ) → rest ≡ length cs ∷ cs → RightRow house cs → ⊥) → frame_of line ≡ bad
-unfolding frame_of framed Option-elim
+unfolding frame_of framed
 wrong_frame line house rest e n = rw e (by_rest rest n)
   where
     by_tests : (count : ℕ) (cs : List ℕ) (a b c z : Bool) → is_house house ≡ a → is_count count ≡ b → eqb (length cs) count ≡ c → are_capitals cs ≡ z

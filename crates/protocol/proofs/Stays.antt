@@ -2,7 +2,7 @@
 use mathlib.Core.Path.{◌≡◌, refl, subst}
 use mathlib.Core.Bool.{Bool, true, false, cond, ◌&&◌}
 use mathlib.Core.List.{List, [], ◌∷◌}
-use mathlib.Core.Option.{Option, some, none}
+use Rattle.std.specs.Prelude.{Option, Some, None}
 use Prim.Native.Nat.{ℕ, ◌<◌}
 use native.Mathlib.Decide.{dec_lt}
 use native.Mathlib.Omega.{arith}
@@ -67,8 +67,8 @@ module _ (t : Tables) (v : valid_tables t ≡ true) where
     struck_right = go (named t a x) refl
       where
         go : (o : Option ℕ) → named t a x ≡ o → active_right t (called t a o).active ≡ true
-        go none e = h
-        go (some k) e = called_right k (row_at t k) refl (named_within t v a h x e)
+        go None e = h
+        go (Some k) e = called_right k (row_at t k) refl (named_within t v a h x e)
 
   -- a desk stays right along calls of rows
   call_right : (house : ℕ) (d : Desk) (k : ℕ) → k < row_count t → Right d → Right (call_on t house d k).desk
@@ -76,8 +76,8 @@ module _ (t : Tables) (v : valid_tables t ≡ true) where
   call_right house d k h r = go (action_at t k) (call_valid t v d.tuning k h r.tuning)
     where
       go : (o : Option (Action cents)) → Whole (tuned d.tuning o).state → Right (by_action house d o).desk
-      go none w = r
-      go (some c) w = record { tuning = w; active = r.active }
+      go None w = r
+      go (Some c) w = record { tuning = w; active = r.active }
 
   pub desk_valid : (house : ℕ) (d : Desk) (ks : List ℕ) → Within t ks → Right d → Right (desk_from t house d ks)
   unfolding desk_from

@@ -2,7 +2,7 @@
 use mathlib.Core.Path.{◌≡◌, refl, sym, ap, ◌∙◌}
 use mathlib.Core.Bool.{Bool, true, false, cond, false≢true}
 use mathlib.Core.List.{List, [], ◌∷◌}
-use mathlib.Core.Option.{Option, some, none}
+use Rattle.std.specs.Prelude.{Option, Some, None}
 use Prim.Native.Nat.{ℕ}
 use borrow.Author.Tests.{eqb-true}
 use types.Run.{OneOf, miss}
@@ -28,15 +28,15 @@ use Rattle.protocol.proofs.Forms.{logic_kind}
 -- ---- what the code's enum says
 
 abbrev pub option_of : Callee → Option ℕ
-option_of Nothing = none
-option_of (Row k) = some k
+option_of Nothing = None
+option_of (Row k) = Some k
 
 pub told : (o : Option ℕ) {f g : Callee} → f ≡ found o → f ≡ g → o ≡ option_of g
 told o e h = back o ∙ ap option_of (sym e ∙ h)
   where
     back : (o : Option ℕ) → o ≡ option_of (found o)
-    back none = refl
-    back (some k) = refl
+    back None = refl
+    back (Some k) = refl
 
 -- ---- an order, where no logic passes
 
@@ -45,7 +45,7 @@ abbrev pub no_logic : List ℕ
 no_logic = 0 ∷ 1 ∷ 2 ∷ 3 ∷ 4 ∷ 6 ∷ 7 ∷ []
 
 module _ (t : Tables) (p : ℕ → Bool) where
-  pub no_orders : (r : TableRow) → OneOf no_logic (tag_of variants.the_type r) → none ≡ order_by t p r
+  pub no_orders : (r : TableRow) → OneOf no_logic (tag_of variants.the_type r) → None ≡ order_by t p r
   no_orders Unused h = refl
   no_orders (Interval d) h = refl
   no_orders (Tone f) h = refl
@@ -55,11 +55,11 @@ module _ (t : Tables) (p : ℕ → Bool) where
   no_orders (Harmony needed named) h = refl
   no_orders Pattern h = refl
 
-  module _ (a : Active) {o : Option ℕ} (e : o ≡ none) where
+  module _ (a : Active) {o : Option ℕ} (e : o ≡ None) where
     else_order_step : order_of t p a ≡ else_order t a p o
     else_order_step = ap (else_order t a p) (sym e)
 
-    pub order_inactive : a ≡ active.Nothing → none ≡ else_order t a p o
+    pub order_inactive : a ≡ active.Nothing → None ≡ else_order t a p o
     order_inactive h = ap (order_of t p) (sym h) ∙ else_order_step
 
     pub order_active : {i : ℕ} {r : TableRow} → a ≡ active.Logic i → r ≡ row_at t i → order_by t p r ≡ else_order t a p o
@@ -67,7 +67,7 @@ module _ (t : Tables) (p : ℕ → Bool) where
 
 -- ---- what is called, by its kind
 
-pub logic_called : (p : ℕ → Bool) (rows : List ℤ) (k : ℕ) → passes p (as_logic (row_of (read_at rows k))) ≡ true → name.Logic k ≡ called_in rows (some k)
+pub logic_called : (p : ℕ → Bool) (rows : List ℤ) (k : ℕ) → passes p (as_logic (row_of (read_at rows k))) ≡ true → name.Logic k ≡ called_in rows (Some k)
 logic_called p rows k h = ap (λ (x : Kind). by_kind x k) (sym (go (row_of (read_at rows k)) h))
   where
     go : (r : TableRow) → passes p (as_logic r) ≡ true → kind_of r ≡ kind.Logic
@@ -93,8 +93,8 @@ calls_itself a k Pattern h = refl
 
 struck_as_holds : (t : Tables) (a : Active) (o : Option ℕ) → struck_as t.rows a (called_in t.rows o) ≡ called t a o
 unfolding row_of
-struck_as_holds t a none = refl
-struck_as_holds t a (some k) = go (is_logic_kind (kind_at t.rows k)) refl
+struck_as_holds t a None = refl
+struck_as_holds t a (Some k) = go (is_logic_kind (kind_at t.rows k)) refl
   where
     go : (b : Bool) → is_logic_kind (kind_at t.rows k) ≡ b
         → struck_as t.rows a (cond b (name.Logic k) (name.Other k)) ≡ calls_as a k (as_logic (row_at t k))

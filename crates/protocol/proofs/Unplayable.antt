@@ -2,7 +2,8 @@
 use mathlib.Core.Path.{◌≡◌, refl, sym, ap, ◌∙◌}
 use mathlib.Core.Bool.{Bool, true, false, cond, false≢true}
 use mathlib.Core.List.{List}
-use mathlib.Core.Option.{some, some-injective}
+use Rattle.std.specs.Prelude.{Some}
+use Rattle.std.proofs.lemmas.Option.{same_Some}
 use Prim.Native.Nat.{ℕ, ◌≤◌, ◌<◌}
 use native.Mathlib.Omega.{arith}
 use borrow.Author.Tests.{le-ltb}
@@ -96,7 +97,7 @@ number_small : (x : Sound ℤ) → key_number x < 256
 number_small = asked_number (λ (n : ℕ). n < 256) (omega arith) (omega arith) (omega arith)
 
 -- of a key asked: its number, and its pitch where an instrument has it
-pub asked_told : (d : Desk) (house k : ℕ) → house < 256 → k < 256 → told_by (key_outcome d house k).line ≡ some (told_of (sound_at d k))
+pub asked_told : (d : Desk) (house k : ℕ) → house < 256 → k < 256 → told_by (key_outcome d house k).line ≡ Some (told_of (sound_at d k))
 unfolding key_outcome
 asked_told d house k a b = let x = sound_at d k in key_told house k (key_number x) a b (number_small x) (playable x) (playable_told x)
 
@@ -117,6 +118,6 @@ module _ (z : ℤ) where
 pub pitch_given : PitchGiven
 unfolding PitchGiven
 pitch_given d house k a b told e z s =
-    let same : told ≡ told_of (sound_at d k) = some-injective _ _ (sym e ∙ asked_told d house k a b) in
+    let same : told ≡ told_of (sound_at d k) = same_Some _ _ (sym e ∙ asked_told d house k a b) in
     let h = has_pitch z (sound_at d k) (sym (ap (λ (x : KeyTold). x.sound) same) ∙ s) in
     record { within = h.0; sounding = h.1; number = ap (λ (x : KeyTold). x.number) same ∙ h.2 }

@@ -1,7 +1,6 @@
 -- What the contracts of private functions cite: no part of the rules.
-use Rattle.std.specs.Prelude.{◌≡◌, Bool, true, false, cond, ◌&&◌, ℕ, zero, suc, ◌+◌, ◌-◌, ◌^◌, ◌≤◌, ◌<◌, eqb, leb, ℤ, length, take, get_or}
+use Rattle.std.specs.Prelude.{◌≡◌, Bool, true, false, cond, ◌&&◌, ℕ, zero, suc, ◌+◌, ◌-◌, ◌^◌, ◌≤◌, ◌<◌, eqb, leb, ℤ, length, take, get_or, Option, Some, None}
 use mathlib.Core.List.{List, [], ◌∷◌, ◌++◌, map, zip_with, get_last_d}
-use Rattle.std.proofs.Math.Option.{Option, some, none}
 use Rattle.std.proofs.Math.Seq.{slice}
 use Rattle.orders.specs.declared.Kind.{Kind}
 use Rattle.orders.specs.declared.Kind.TheVariants as kind
@@ -52,17 +51,17 @@ use Rattle.protocol.specs.Answers.{active_right, Outcome, unchanged, key_outcome
 
 -- a declaration's number, or none, as the code's enum
 abbrev pub found : Option ℕ → Callee
-found none = Nothing
-found (some k) = Row k
+found None = Nothing
+found (Some k) = Row k
 
 -- a declaration in an index: 1 more than its number, or 0 for none
 abbrev pub one_more : Option ℕ → ℕ
-one_more none = 0
-one_more (some k) = suc k
+one_more None = 0
+one_more (Some k) = suc k
 
 abbrev pub decoded : ℕ → Option ℕ
-decoded zero = none
-decoded (suc k) = some k
+decoded zero = None
+decoded (suc k) = Some k
 
 -- letters and harmonies have codes below this, which is no trigger
 abbrev pub trigger_codes : ℕ
@@ -126,8 +125,8 @@ abbrev pub by_kind : Kind → ℕ → Called
 by_kind x k = cond (is_logic_kind x) (called.Logic k) (called.Other k)
 
 abbrev pub called_in : List ℤ → Option ℕ → Called
-called_in rows none = called.Nothing
-called_in rows (some k) = by_kind (kind_at rows k) k
+called_in rows None = called.Nothing
+called_in rows (Some k) = by_kind (kind_at rows k) k
 
 -- what is found for what is looked for
 abbrev pub called_by : Tables → Active → Sought → Called
@@ -168,8 +167,8 @@ struck_in t d f = struck_as t.rows d.active f
 
 -- what a call does to the tuning
 abbrev pub tuned : State → Option (Action cents) → Reply
-tuned s none = record { state = s; number = done }
-tuned s (some c) = replied s c
+tuned s None = record { state = s; number = done }
+tuned s (Some c) = replied s c
 
 abbrev pub tuned_by : Tables → State → ℕ → Reply
 tuned_by t s k = tuned s (action_at t k)
@@ -245,12 +244,12 @@ sounds_in rows x code = leb harmony_base code && matches_as x (as_harmony (row_o
 
 -- the first of some triggers that is one
 unfoldable pub first_of : (ℕ → Bool) → List ℕ → Option ℕ
-first_of p [] = none
-first_of p (c ∷ cs) = elim (p c) [ true ↦ some c | false ↦ first_of p cs ]
+first_of p [] = None
+first_of p (c ∷ cs) = elim (p c) [ true ↦ Some c | false ↦ first_of p cs ]
 
 abbrev pub code_of : Option ℕ → Code
-code_of none = code.Nothing
-code_of (some c) = code.Trigger c
+code_of None = code.Nothing
+code_of (Some c) = code.Trigger c
 
 -- a chord's positions and width are those of a state
 pub record ChordFits (x : Chord) : Type 0 where

@@ -1,7 +1,6 @@
 -- Document 02, 3/13: "The state and numbers must equal those of the same presses sent singly."
-use Rattle.std.specs.Prelude.{◌≡◌, true, ℕ, ◌≤◌, length}
+use Rattle.std.specs.Prelude.{◌≡◌, true, ℕ, ◌≤◌, length, Some}
 use mathlib.Core.List.{List, [], ◌∷◌, ◌++◌, map, get_last_d}
-use Rattle.std.proofs.Math.Option.{some}
 use Rattle.status.specs.Status.{done}
 use Rattle.tuning.specs.State.{places, held}
 use Rattle.tables.specs.Layout.{Tables}
@@ -29,7 +28,7 @@ RowsAreRead = (house : ℕ) (cs : List ℕ) → RightRow house cs → frame_of (
 -- "22 for a wrong count or letter, before any press is tried": any other line of kind 04 is a bad frame, which leaves the desk as it was and calls nothing
 unfoldable pub WrongRows : Type 0
 WrongRows =
-    (t : Tables) (d : Desk) → valid_desk t d ≡ true → (line : List ℕ) (house : ℕ) (rest : List ℕ) → bytes_of line ≡ some (house ∷ letter_row_kind ∷ rest)
+    (t : Tables) (d : Desk) → valid_desk t d ≡ true → (line : List ℕ) (house : ℕ) (rest : List ℕ) → bytes_of line ≡ Some (house ∷ letter_row_kind ∷ rest)
     → ((cs : List ℕ) → rest ≡ length cs ∷ cs → RightRow house cs → ⊥) → (room : ℕ) → smallest_buffer ≤ room → answer_of t d line room ≡ bad_outcome d
 
 -- ---- a row, and its presses sent singly

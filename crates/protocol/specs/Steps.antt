@@ -1,6 +1,5 @@
 -- Calls, and what a trigger, a key or a row of letters does to the desk. Document 01, "Frames" and "Numbers returned"; document 02, 3/13 and 5/13.
-use Rattle.std.specs.Prelude.{cond, List, [], ◌∷◌, ◌++◌, ℕ, eqb}
-use Rattle.std.proofs.Math.Option.{Option, some, none}
+use Rattle.std.specs.Prelude.{cond, List, [], ◌∷◌, ◌++◌, ℕ, eqb, Option, Some, None}
 use Rattle.status.specs.Status.{done, letter_unbound}
 use Rattle.tuning.specs.Tuning.{Action, width}
 use Rattle.tuning.specs.Desk.{cents}
@@ -38,8 +37,8 @@ pub record Replied : Type 0 where
 
 -- a call that a frame of this house makes
 abbrev pub by_action : ℕ → Desk → Option (Action cents) → Replied
-by_action house d none = record { desk = d; number = done }
-by_action house d (some c) = let r = replied d.tuning c in record { desk = with_tuning r.state d; number = r.number }
+by_action house d None = record { desk = d; number = done }
+by_action house d (Some c) = let r = replied d.tuning c in record { desk = with_tuning r.state d; number = r.number }
 
 unfoldable pub call_on : Tables → ℕ → Desk → ℕ → Replied
 call_on t house d k = by_action house d (action_at t k)

@@ -2,8 +2,7 @@
 -- is called, and the search ends. Else the active logic's orders in declared order, the first with it being called; a called logic becomes active,
 -- its start called." Document 02, 5/13: "A harmony matches when exactly its numbers are held, starred ones apart"; "triggers are tried in declared order,
 -- logics first".
-use Rattle.std.specs.Prelude.{Bool, true, false, ◌&&◌, List, [], ◌∷◌, ℕ, zero, suc, ◌-◌, eqb, leb, ℤ}
-use Rattle.std.proofs.Math.Option.{Option, some, none}
+use Rattle.std.specs.Prelude.{Bool, true, false, ◌&&◌, List, [], ◌∷◌, ℕ, zero, suc, ◌-◌, eqb, leb, ℤ, Option, Some, None}
 use Rattle.std.proofs.Math.Seq.{slice}
 use Rattle.tuning.specs.Tuning.{Action, system}
 use Rattle.tuning.specs.Desk.{cents}
@@ -38,14 +37,14 @@ answers_to t (matching x) code = leb harmony_base code && matches_as x (as_harmo
 
 -- the call of a tone system or retuning; the other rows call nothing
 abbrev pub action_by : Tables → Row → Option (Action cents)
-action_by t Unused = none
-action_by t (Interval d) = none
-action_by t (Tone p) = none
-action_by t (System a P from to) = some (system (values.system a.0 (tones_from t from to) P.0))
-action_by t (Retuning r from to) = some (meant r (listed (changes_from t from to)))
-action_by t (Logic c s from to) = none
-action_by t (Harmony needed named) = none
-action_by t Pattern = none
+action_by t Unused = None
+action_by t (Interval d) = None
+action_by t (Tone p) = None
+action_by t (System a P from to) = Some (system (values.system a.0 (tones_from t from to) P.0))
+action_by t (Retuning r from to) = Some (meant r (listed (changes_from t from to)))
+action_by t (Logic c s from to) = None
+action_by t (Harmony needed named) = None
+action_by t Pattern = None
 
 abbrev pub action_at : Tables → ℕ → Option (Action cents)
 action_at t k = action_by t (row_at t k)
@@ -59,30 +58,30 @@ passes p (a_logic c s from to) = p c
 
 -- the first of n rows from row i on that is a logic whose trigger passes the test
 unfoldable pub first_logic : List ℤ → (ℕ → Bool) → ℕ → ℕ → Option ℕ
-first_logic rows p i zero = none
-first_logic rows p i (suc n) = elim (passes p (as_logic (row_of (read_at rows i)))) [ true ↦ some i | false ↦ first_logic rows p (suc i) n ]
+first_logic rows p i zero = None
+first_logic rows p i (suc n) = elim (passes p (as_logic (row_of (read_at rows i)))) [ true ↦ Some i | false ↦ first_logic rows p (suc i) n ]
 
 -- the declaration that the first order whose trigger passes calls
 unfoldable pub first_order : (ℕ → Bool) → List ℕ → List ℕ → Option ℕ
-first_order p [] calls = none
-first_order p (c ∷ cs) [] = none
-first_order p (c ∷ cs) (k ∷ ks) = elim (p c) [ true ↦ some k | false ↦ first_order p cs ks ]
+first_order p [] calls = None
+first_order p (c ∷ cs) [] = None
+first_order p (c ∷ cs) (k ∷ ks) = elim (p c) [ true ↦ Some k | false ↦ first_order p cs ks ]
 
 abbrev pub order_in : Tables → (ℕ → Bool) → AsLogic → Option ℕ
-order_in t p no_logic_holds = none
+order_in t p no_logic_holds = None
 order_in t p (a_logic c s from to) = first_order p (slice from to t.triggers) (slice from to t.calls)
 
 abbrev pub order_by : Tables → (ℕ → Bool) → Row → Option ℕ
 order_by t p r = order_in t p (as_logic r)
 
 abbrev pub order_of : Tables → (ℕ → Bool) → Active → Option ℕ
-order_of t p active.Nothing = none
+order_of t p active.Nothing = None
 order_of t p (active.Logic i) = order_by t p (row_at t i)
 
 -- a logic whose trigger passes, else an order of the active logic
 abbrev pub else_order : Tables → Active → (ℕ → Bool) → Option ℕ → Option ℕ
-else_order t a p none = order_of t p a
-else_order t a p (some i) = some i
+else_order t a p None = order_of t p a
+else_order t a p (Some i) = Some i
 
 -- ---- what is found: the logic that is active then, and the declarations that are called, in order; none where nothing is found
 
@@ -102,8 +101,8 @@ calls_as a k no_logic_holds = record { active = a; calls = k ∷ [] }
 calls_as a k (a_logic c s from to) = record { active = active.Logic k; calls = start_calls k s }
 
 abbrev pub called : Tables → Active → Option ℕ → Struck
-called t a none = record { active = a; calls = [] }
-called t a (some k) = calls_as a k (as_logic (row_at t k))
+called t a None = record { active = a; calls = [] }
+called t a (Some k) = calls_as a k (as_logic (row_at t k))
 
 unfoldable pub struck : Tables → Active → Sought → Struck
 struck t a x = let p = answers_to t x in called t a (else_order t a p (first_logic t.rows p 0 (row_count t)))

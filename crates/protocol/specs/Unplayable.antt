@@ -1,6 +1,5 @@
 -- Document 02, 6/13, of any tables, desk, frame and buffer: where 15 is answered, what that leaves, and which pitches an answer gives.
-use Rattle.std.specs.Prelude.{◌≡◌, true, false, List, [], ℕ, ◌≤◌, ◌<◌, ℤ}
-use Rattle.std.proofs.Math.Option.{some}
+use Rattle.std.specs.Prelude.{◌≡◌, true, false, List, [], ℕ, ◌≤◌, ◌<◌, ℤ, Some}
 use Rattle.status.specs.Status.{done, key_unplayable}
 use Rattle.tuning.specs.Scale.{Sound, muted, sounds}
 use Rattle.tuning.specs.Desk.{is_playable, playable}
@@ -50,5 +49,5 @@ pub record GivesPitch (d : Desk) (k : ℕ) (told : KeyTold) (z : ℤ) : Type 0 w
 
 unfoldable pub PitchGiven : Type 0
 PitchGiven =
-    (d : Desk) (house k : ℕ) → house < 256 → k < 256 → (told : KeyTold) → told_by (key_outcome d house k).line ≡ some told → (z : ℤ) → told.sound ≡ sounds z
+    (d : Desk) (house k : ℕ) → house < 256 → k < 256 → (told : KeyTold) → told_by (key_outcome d house k).line ≡ Some told → (z : ℤ) → told.sound ≡ sounds z
     → GivesPitch d k told z

@@ -4,7 +4,8 @@ use Prim.Native.Nat.{ℕ, zero, suc, ◌+◌, ◌-◌, ◌<◌, ◌≤◌, min}
 use mathlib.Core.Path.{◌≡◌, refl, sym, ◌∙◌, ap, subst}
 use mathlib.Core.List.{List, [], ◌∷◌}
 use mathlib.Core.Bool.{Bool, true, false, cond}
-use mathlib.Core.Option.{Option, none, some, none-ne-some, some-injective}
+use Rattle.std.specs.Prelude.{Option, None, Some}
+use Rattle.std.proofs.lemmas.Option.{none-some, same_Some}
 use native.Mathlib.Nat.{le_refl}
 use native.Mathlib.Numerals.{add-one}
 use native.Mathlib.Omega.{arith}
@@ -102,9 +103,9 @@ module _ (text : List ℕ) (low at b : ℕ) (rest : List ℕ) (h : low ≤ at) (
   unfolding mark_or
   mark_placed word other k m p = go (mark_in marks word)
     where
-      go : (o : Option MarkKind) → Placed text low (elim o [ none ↦ other | some kind ↦ Mark kind at (at + length word) ])
-      go none = p
-      go (some kind) = (h, omega arith, omega arith)
+      go : (o : Option MarkKind) → Placed text low (elim o [ None ↦ other | Some kind ↦ Mark kind at (at + length word) ])
+      go None = p
+      go (Some kind) = (h, omega arith, omega arith)
 
   marks_placed : Placed text low (mark_at at (b ∷ rest))
   unfolding mark_at
@@ -196,36 +197,36 @@ module _ (text : List ℕ) (at : ℕ) (h : at ≤ length text) where
       size = ap (λ (n : ℕ). take n (drop start text)) long
 
   -- the text goes on after a symbol, and within the text
-  pub after_within : {end : ℕ} → after (next_symbol text at) ≡ some end → (at < end) × (end ≤ length text)
+  pub after_within : {end : ℕ} → after (next_symbol text at) ≡ Some end → (at < end) × (end ≤ length text)
   unfolding after
   after_within {end} e = go (next_symbol text at) next_placed e
     where
-      go : (s : Symbol) → Placed text at s → after s ≡ some end → (at < end) × (end ≤ length text)
-      go (Bad place) p q = absurd (none-ne-some end q)
-      go (End place) p q = absurd (none-ne-some end q)
-      go (Name start x) p q = let w = some-injective x end q in (omega arith, omega arith)
-      go (Number start x) p q = let w = some-injective x end q in (omega arith, omega arith)
-      go (Mark kind start x) p q = let w = some-injective x end q in (omega arith, omega arith)
+      go : (s : Symbol) → Placed text at s → after s ≡ Some end → (at < end) × (end ≤ length text)
+      go (Bad place) p q = absurd (none-some end q)
+      go (End place) p q = absurd (none-some end q)
+      go (Name start x) p q = let w = same_Some x end q in (omega arith, omega arith)
+      go (Number start x) p q = let w = same_Some x end q in (omega arith, omega arith)
+      go (Mark kind start x) p q = let w = same_Some x end q in (omega arith, omega arith)
 
 -- the cut
 
 -- the symbols from where the text goes on
 abbrev pub going_on : List ℕ → Option ℕ → List Symbol
-going_on text none = []
-going_on text (some end) = symbols_from text end
+going_on text None = []
+going_on text (Some end) = symbols_from text end
 
 -- the same with at most so many
 abbrev cut_on : ℕ → List ℕ → Option ℕ → List Symbol
-cut_on most text none = []
-cut_on most text (some end) = cut most text end
+cut_on most text None = []
+cut_on most text (Some end) = cut most text end
 
 cut_step : (most : ℕ) (text : List ℕ) (at : ℕ) → cut (suc most) text at ≡ next_symbol text at ∷ cut_on most text (after (next_symbol text at))
 unfolding cut
 cut_step most text at = ap (λ (l : List Symbol). next_symbol text at ∷ l) (go (after (next_symbol text at)))
   where
-    go : (o : Option ℕ) → ◌≡◌ {A = List Symbol} (elim o [ none ↦ [] | some end ↦ cut most text end ]) (cut_on most text o)
-    go none = refl
-    go (some end) = refl
+    go : (o : Option ℕ) → ◌≡◌ {A = List Symbol} (elim o [ None ↦ [] | Some end ↦ cut most text end ]) (cut_on most text o)
+    go None = refl
+    go (Some end) = refl
 
 -- two bounds that give the same further on give the same after a symbol
 cut_alike : (text : List ℕ) (m n at : ℕ) → at ≤ length text
@@ -234,8 +235,8 @@ cut_alike : (text : List ℕ) (m n at : ℕ) → at ≤ length text
 cut_alike text m n at h f = go (after (next_symbol text at)) refl
   where
     go : (o : Option ℕ) → after (next_symbol text at) ≡ o → cut_on m text o ≡ cut_on n text o
-    go none e = refl
-    go (some end) e = let w = after_within text at h e in f end w.0 w.1
+    go None e = refl
+    go (Some end) e = let w = after_within text at h e in f end w.0 w.1
 
 -- a bound that is large enough changes nothing
 cut_enough : (text : List ℕ) (m n at : ℕ) → at ≤ length text → length text < m + at → length text < n + at → cut m text at ≡ cut n text at
@@ -262,5 +263,5 @@ symbols_next text at h =
     whole = rw add-one
 
     same_on : (o : Option ℕ) → cut_on (length text + 1) text o ≡ going_on text o
-    same_on none = refl
-    same_on (some end) = refl
+    same_on None = refl
+    same_on (Some end) = refl

@@ -4,7 +4,7 @@ use Prim.Native.Nat.{ℕ, ◌+◌, ◌<◌, ◌≤◌}
 use mathlib.Core.Path.{◌≡◌, refl, sym, ◌∙◌, ap}
 use mathlib.Core.List.{List, [], ◌∷◌}
 use mathlib.Core.Bool.{Bool, true, false, not, cond, ◌&&◌, and-true, and-false}
-use mathlib.Core.Option.{Option, none, some}
+use Rattle.std.specs.Prelude.{Option, None, Some}
 use native.Mathlib.Nat.{add-zero, add-suc, suc-add}
 use native.Mathlib.Numerals.{add-one}
 use native.Mathlib.Omega.{arith}
@@ -189,34 +189,34 @@ module _ (at : ℕ) (word : List ℕ) (other : Symbol) {s : Sign} (e : s ≡ as_
   unfolding mark_or
   mark_missing q = go (mark_in marks word) (sym q ∙ e)
     where
-      go : (o : Option MarkKind) → Missing ≡ as_sign o → other ≡ elim o [ none ↦ other | some kind ↦ Mark kind at (at + length word) ]
-      go none f = refl
-      go (some kind) f = let z : ◌≡◌ {A = ℕ} 0 1 = cc in absurd (omega arith)
+      go : (o : Option MarkKind) → Missing ≡ as_sign o → other ≡ elim o [ None ↦ other | Some kind ↦ Mark kind at (at + length word) ]
+      go None f = refl
+      go (Some kind) f = let z : ◌≡◌ {A = ℕ} 0 1 = cc in absurd (omega arith)
 
   pub mark_found : {kind : MarkKind} → s ≡ Kind kind → {end : ℕ} → end ≡ at + length word → Mark kind at end ≡ mark_or at word other
   unfolding mark_or
   mark_found {kind} q f = rw f (go (mark_in marks word) (sym q ∙ e))
     where
       go : (o : Option MarkKind) → Kind kind ≡ as_sign o
-          → Mark kind at (at + length word) ≡ elim o [ none ↦ other | some kind ↦ Mark kind at (at + length word) ]
-      go none f = let z : ◌≡◌ {A = ℕ} 0 1 = cc in absurd (omega arith)
-      go (some k) f = let q : kind ≡ k = cc in rw q
+          → Mark kind at (at + length word) ≡ elim o [ None ↦ other | Some kind ↦ Mark kind at (at + length word) ]
+      go None f = let z : ◌≡◌ {A = ℕ} 0 1 = cc in absurd (omega arith)
+      go (Some k) f = let q : kind ≡ k = cc in rw q
 
 mark_twice : (at : ℕ) (word : List ℕ) (other : Symbol) → mark_or at word other ≡ mark_or at word (mark_or at word other)
 unfolding mark_or
 mark_twice at word other = go (mark_in marks word) (mark_or at word other) refl
   where
-    go : (o : Option MarkKind) (x : Symbol) → x ≡ elim o [ none ↦ other | some kind ↦ Mark kind at (at + length word) ]
-        → x ≡ elim o [ none ↦ x | some kind ↦ Mark kind at (at + length word) ]
-    go none x e = refl
-    go (some kind) x e = e
+    go : (o : Option MarkKind) (x : Symbol) → x ≡ elim o [ None ↦ other | Some kind ↦ Mark kind at (at + length word) ]
+        → x ≡ elim o [ None ↦ x | Some kind ↦ Mark kind at (at + length word) ]
+    go None x e = refl
+    go (Some kind) x e = e
 
 -- the marks of two bytes
 pub double_marks : (a b : ℕ)
     → mark_in marks (a ∷ b ∷ [])
-    ≡ cond (eqb a (byte "<") && eqb b (byte "<")) (some WidthOpen)
-    (cond (eqb a (byte ">") && eqb b (byte ">")) (some WidthClose)
-    (cond (eqb a (byte "-") && eqb b (byte ">")) (some Arrow) none))
+    ≡ cond (eqb a (byte "<") && eqb b (byte "<")) (Some WidthOpen)
+    (cond (eqb a (byte ">") && eqb b (byte ">")) (Some WidthClose)
+    (cond (eqb a (byte "-") && eqb b (byte ">")) (Some Arrow) None))
 unfolding marks mark_in same
 double_marks a b = simp (and-true, and-false)
 

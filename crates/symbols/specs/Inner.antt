@@ -1,6 +1,5 @@
 -- What the contracts of private functions cite: no part of the rules.
-use Rattle.std.specs.Prelude.{ℕ, ◌+◌, ◌-◌, ◌*◌, ◌%◌, List, [], ◌∷◌, map, Bool, not, eqb, length, get_or}
-use Rattle.std.proofs.Math.Option.{Option, none, some}
+use Rattle.std.specs.Prelude.{ℕ, ◌+◌, ◌-◌, ◌*◌, ◌%◌, List, [], ◌∷◌, map, Bool, not, eqb, length, get_or, Option, None, Some}
 use Rattle.symbols.specs.declared.MarkKind.{MarkKind}
 use Rattle.symbols.specs.declared.Sign.{Sign}
 use Rattle.symbols.specs.declared.Sign.TheVariants.{Missing, Kind}
@@ -22,8 +21,8 @@ in_run Comment = λ b. not (eqb b quote)
 
 -- a mark, where there is one
 abbrev pub as_sign : Option MarkKind → Sign
-as_sign none = Missing
-as_sign (some kind) = Kind kind
+as_sign None = Missing
+as_sign (Some kind) = Kind kind
 
 -- the first letter of a spelled name; 0, which is none, where the name is empty
 abbrev pub first : List ℕ → ℕ

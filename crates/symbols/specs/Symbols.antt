@@ -1,7 +1,6 @@
 -- Symbols of the text (document 01): the bytes cut into placed symbols, or the place where none begins.
-use Rattle.std.specs.Prelude.{ℕ, zero, suc, ◌+◌, List, [], ◌∷◌, Bool, true, false, cond, length, take, drop, ltb, eqb}
+use Rattle.std.specs.Prelude.{ℕ, zero, suc, ◌+◌, List, [], ◌∷◌, Bool, true, false, cond, length, take, drop, ltb, eqb, Option, None, Some}
 use Prim.Native.String.{String}
-use Rattle.std.proofs.Math.Option.{Option, none, some}
 use Rattle.symbols.specs.declared.MarkKind.{MarkKind}
 use Rattle.symbols.specs.declared.MarkKind.TheVariants.{Equals, Colon, Plus, Minus, Times, Divide, Open, Close, Comma, At, BraceOpen, BraceClose, BracketOpen, BracketClose, WidthOpen, WidthClose, Arrow}
 use Rattle.symbols.specs.declared.Symbol.{Symbol}
@@ -33,12 +32,12 @@ marks =
 
 -- which of some marks these bytes are
 unfoldable pub mark_in : List (String × MarkKind) → List ℕ → Option MarkKind
-mark_in [] word = none
-mark_in (m ∷ more) word = cond (same word (bytes m.0)) (some m.1) (mark_in more word)
+mark_in [] word = None
+mark_in (m ∷ more) word = cond (same word (bytes m.0)) (Some m.1) (mark_in more word)
 
 -- the mark that `word`, the bytes from `at` on, is, or else another symbol
 unfoldable pub mark_or : ℕ → List ℕ → Symbol → Symbol
-mark_or at word other = elim (mark_in marks word) [ none ↦ other | some kind ↦ Mark kind at (at + length word) ]
+mark_or at word other = elim (mark_in marks word) [ None ↦ other | Some kind ↦ Mark kind at (at + length word) ]
 
 -- a mark of two bytes before one of one; `rest` is the text from `at` on
 unfoldable pub mark_at : ℕ → List ℕ → Symbol
@@ -94,16 +93,16 @@ next_symbol text at = symbol_from at (drop at text)
 
 -- where the text goes on after a symbol: nowhere at its end, and where no symbol begins
 unfoldable pub after : Symbol → Option ℕ
-after (Bad place) = none
-after (End place) = none
-after (Name start end) = some end
-after (Number start end) = some end
-after (Mark kind start end) = some end
+after (Bad place) = None
+after (End place) = None
+after (Name start end) = Some end
+after (Number start end) = Some end
+after (Mark kind start end) = Some end
 
 -- the symbols from `at` on, at most so many
 unfoldable pub cut : ℕ → List ℕ → ℕ → List Symbol
 cut zero text at = []
-cut (suc most) text at = next_symbol text at ∷ elim (after (next_symbol text at)) [ none ↦ [] | some end ↦ cut most text end ]
+cut (suc most) text at = next_symbol text at ∷ elim (after (next_symbol text at)) [ None ↦ [] | Some end ↦ cut most text end ]
 
 -- the symbols from `at` on, to the end of the text or to the place where none begins; a text has no more than its bytes, and
 -- the last one (`symbols_next` of proofs/Progress.antt: each is `next_symbol` from where the one before it ends)

@@ -3,7 +3,7 @@ use Prim.Native.Nat.{ℕ}
 use mathlib.Core.Path.{◌≡◌, ap, sym, ◌∙◌}
 use mathlib.Core.Bool.{true}
 use mathlib.Core.List.{List, ◌∷◌}
-use mathlib.Core.Option.{Option-elim}
+use Rattle.std.specs.Option.{option_map_or}
 use native.Mathlib.Omega.{arith}
 use borrow.Author.Tests.{ne_eqb}
 use lib.ListN.{drop}
@@ -35,7 +35,7 @@ module _ (r : goal.In-Of-byte_value-2) where
   abbrev value : ℕ
   value = r.in-Of-byte_value-2.value
 
-  three : frame_of line ≡ Option-elim (bytes_of (drop 6 line)) bad (λ (cs : List ℕ). framed (house ∷ kind ∷ value ∷ cs))
+  three : frame_of line ≡ option_map_or (λ (cs : List ℕ). framed (house ∷ kind ∷ value ∷ cs)) (bytes_of (drop 6 line)) bad
   three =
       first_three line r.if-line-lt-HEAD_DIGITS.false
       ∙ rw (
@@ -48,14 +48,12 @@ pub returns-then-line-lt-HEAD_DIGITS : goal.returns-then-line-lt-HEAD_DIGITS
 returns-then-line-lt-HEAD_DIGITS c = whole _ (ap decoded_as (sym (too_short _ c.if-line-lt-HEAD_DIGITS.true)))
 
 pub returns-in_default : goal.returns-in_default
-unfolding Option-elim
 returns-in_default c =
     whole _ (sym (
     ap decoded_as (first_three _ c.if-line-lt-HEAD_DIGITS.false)
     ∙ rw (lacking (byte_of _ _) c.byte_value.ensures c.in_default.is)))
 
 pub returns-in_default-byte_value : goal.returns-in_default-byte_value
-unfolding Option-elim
 returns-in_default-byte_value c =
     whole _ (sym (
     ap decoded_as (first_three _ c.if-line-lt-HEAD_DIGITS.false)
@@ -65,7 +63,6 @@ returns-in_default-byte_value c =
     )))
 
 pub returns-in_default-byte_value-2 : goal.returns-in_default-byte_value-2
-unfolding Option-elim
 returns-in_default-byte_value-2 c =
     whole _ (sym (
     ap decoded_as (first_three _ c.if-line-lt-HEAD_DIGITS.false)

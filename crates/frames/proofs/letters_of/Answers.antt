@@ -2,7 +2,7 @@
 use Prim.Native.Nat.{ℕ, ◌≤◌}
 use mathlib.Core.Path.{◌≡◌, sym, ap, ◌∙◌, subst}
 use mathlib.Core.List.{List}
-use mathlib.Core.Option.{some-injective}
+use Rattle.std.proofs.lemmas.Option.{same_Some}
 use native.Mathlib.Omega.{arith}
 use lib.ListN.{length, take, length-drop}
 use Rattle.frames.specs.Frames.{Frame, bad, letter, key, dump, move, letter_row, frame_of, decoded_as}
@@ -59,5 +59,5 @@ returns c =
     let t = there k in
     let read = subst (λ (l : List ℕ). Reads l (count k) r.result) (behind_head (line k)) r.ensures in
     let good = read.good ∙ ap are_letters t.behind ∙ t.ranges.capitals in
-    let letters = some-injective _ _ (sym t.behind ∙ read.codes good) in
+    let letters = same_Some _ _ (sym t.behind ∙ read.codes good) in
     subst (HasLetters r.result.codes) (sym t.same) (ap (λ (n : ℕ). take n r.result.codes) t.size ∙ sym letters)

@@ -1,7 +1,7 @@
 -- The invariant: what the present item and those after it start with is what all start with. The measure is the items that are left.
 use borrow.Enum.Refused.{opened}
 use mathlib.Core.Path.{◌≡◌, refl, sym, ◌∙◌, ap}
-use mathlib.Core.Option.{some}
+use Rattle.std.specs.Prelude.{Some}
 use native.Mathlib.Numerals.{add-one}
 use native.Mathlib.Omega.{arith}
 use Rattle.program.specs.Program.{start_of}
@@ -12,7 +12,7 @@ use Rattle.filling.proofs.Items.{start_end, start_next}
 use Rattle.filling.proofs.lists.find_start.Goals as goal
 
 -- the start that is found
-found : (c : goal.In-Start) → start_of (items_between c.args.items.now c.args.from c.args.to) ≡ some c.in-Start.called
+found : (c : goal.In-Start) → start_of (items_between c.args.items.now c.args.from c.args.to) ≡ Some c.in-Start.called
 found c = sym c.loop-i.invariant ∙ start_next _ _ _ (sym c.in-Start.is ∙ c.item_at.ensures) c.loop-i-test.true
 
 pub loop-i-init : goal.loop-i-init

@@ -2,7 +2,7 @@
 use mathlib.Core.Path.{◌≡◌, sym, ap, ◌∙◌, subst}
 use mathlib.Core.Bool.{Bool, true}
 use mathlib.Core.List.{List}
-use mathlib.Core.Option.{Option, none}
+use Rattle.std.specs.Prelude.{Option, None}
 use Prim.Native.Nat.{ℕ, ◌*◌, ◌≤◌, ◌<◌}
 use native.Mathlib.Omega.{arith}
 use lib.ListN.{take, drop, get_or}
@@ -52,7 +52,7 @@ module _ (f : goal.After-find_logic) where
   looked = f.find_logic.ensures ∙ ap (λ (u : Counts). found (first_logic here.rows tried 0 u.rows)) f.read-used.ensures
 
   -- the chord matches no logic
-  none_found : f.find_logic.result ≡ callee.Nothing → first_logic here.rows tried 0 (row_count here) ≡ none
+  none_found : f.find_logic.result ≡ callee.Nothing → first_logic here.rows tried 0 (row_count here) ≡ None
   none_found e = told (first_logic here.rows tried 0 (row_count here)) looked e
 
 -- the active logic is one, its row can be read, and its orders

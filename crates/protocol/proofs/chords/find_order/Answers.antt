@@ -1,6 +1,6 @@
 -- `protocol::chords::find_order` meets its contract: the first order with the trigger that was found is the first that the chord matches. Assumes nothing.
 use mathlib.Core.Path.{◌≡◌, refl, sym, ap, ◌∙◌}
-use mathlib.Core.Option.{Option, some, none}
+use Rattle.std.specs.Prelude.{Option, Some, None}
 use Prim.Native.Nat.{ℕ}
 use lib.Seq.{slice}
 use Rattle.tables.specs.Layout.{triggers_in, calls_in}
@@ -12,15 +12,15 @@ use Rattle.protocol.proofs.chords.find_order.Goals as goal
 
 -- what the code's enum says
 abbrev option_of : Code → Option ℕ
-option_of Nothing = none
-option_of (Trigger c) = some c
+option_of Nothing = None
+option_of (Trigger c) = Some c
 
 told : (o : Option ℕ) {f g : Code} → f ≡ code_of o → f ≡ g → o ≡ option_of g
 told o e h = back o ∙ ap option_of (sym e ∙ h)
   where
     back : (o : Option ℕ) → o ≡ option_of (code_of o)
-    back none = refl
-    back (some k) = refl
+    back None = refl
+    back (Some k) = refl
 
 pub returns-in_default : goal.returns-in_default
 returns-in_default c =

@@ -1,7 +1,7 @@
 -- `protocol::chords::find_sounding` meets its contract. The loop's invariant: what is found from the present order on is what is found from the first.
 -- Assumes nothing.
 use mathlib.Core.Path.{refl, sym, ap, ◌∙◌, subst}
-use mathlib.Core.Option.{some}
+use Rattle.std.specs.Prelude.{Some}
 use Prim.Native.Nat.{◌*◌}
 use native.Mathlib.Omega.{arith}
 use Rattle.tables.specs.Layout.{order_width, triggers_in}
@@ -34,7 +34,7 @@ pub returns-then-is_sounding : goal.returns-then-is_sounding
 returns-then-is_sounding c =
     let p = sounds_in c.args.rows.now c.args.chord in
     let os = c.args.orders.now in
-    ap code_of (ap some (trigger_at os c.loop-i.i)
+    ap code_of (ap Some (trigger_at os c.loop-i.i)
     ∙ sounds_here p (triggers_in os) c.loop-i.i c.args.to c.loop-i-test.true c.requires.order_part.triggers (c.is_sounding.ensures ∙ ap p (trigger_at os c.loop-i.i)) c.if-is_sounding.true
     ∙ c.loop-i.invariant)
 

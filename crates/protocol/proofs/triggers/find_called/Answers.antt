@@ -1,7 +1,7 @@
 -- `protocol::triggers::find_called` meets its contract. Assumes nothing.
 use mathlib.Core.Path.{◌≡◌, sym, ap, ◌∙◌, subst}
 use mathlib.Core.List.{List}
-use mathlib.Core.Option.{Option, none}
+use Rattle.std.specs.Prelude.{Option, None}
 use Prim.Native.Nat.{ℕ, ◌*◌}
 use lib.ListN.{take, drop}
 use lib.Seq.{slice}
@@ -25,7 +25,7 @@ abbrev logic : goal.Start → Option ℕ
 logic a = first_logic (lent a).rows (is_trigger a.args.trigger) 0 (row_count (lent a))
 
 -- no logic has the trigger
-no_logic_holds : (a : goal.Start) → a.args.logic ≡ Nothing → logic a ≡ none
+no_logic_holds : (a : goal.Start) → a.args.logic ≡ Nothing → logic a ≡ None
 no_logic_holds a e = told (logic a) a.requires.logic_value e
 
 -- the active logic's row can be read, and its orders
