@@ -1,6 +1,9 @@
 // The numbers that calls return: document 01, "Numbers returned", and what document 02 adds to it.
 #![tactic(auto)]
 
+ghost use Rattle.std.specs.Prelude.{◌≡◌};
+ghost use Rattle.status.specs.Reasons.{number_of};
+
 pub const DONE: u8 = 0;
 
 // Of a text.
@@ -53,3 +56,33 @@ pub const LETTER_UNBOUND: u8 = 21;
 pub const BAD_FRAME: u8 = 22;
 
 pub const TABLE_DAMAGED: u8 = 23;
+
+// Why a text is refused, by its number.
+#[derive(Clone, Copy, PartialEq, Eq, Debug)]
+pub enum Reason {
+    TextTooLong = 1,
+    NoSymbol = 2,
+    SymbolNotAllowed = 3,
+    NumberOutOfRange = 4,
+    NameTwice = 5,
+    NameNotDeclared = 6,
+    DependsOnItself = 7,
+    ValueOutOfRange = 8,
+    ItemTooMany = 9,
+    PlaceholderWrong = 24,
+}
+
+impl Reason {
+    pub fn number(self) -> u8
+        ensures { result ≡ number_of self }
+    {
+        self as u8
+    }
+}
+
+// A text's refusal; `place` counts the bytes that stand before it.
+#[derive(Clone, Copy, PartialEq, Eq, Debug)]
+pub struct Refusal {
+    pub reason: Reason,
+    pub place: u32,
+}

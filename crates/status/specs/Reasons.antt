@@ -1,0 +1,17 @@
+-- The number of each reason for which a text is refused.
+use Rattle.std.specs.Prelude.{ℕ}
+use Rattle.status.specs.declared.Reason.{Reason}
+use Rattle.status.specs.declared.Reason.TheVariants.{TextTooLong, NoSymbol, SymbolNotAllowed, NumberOutOfRange, NameTwice, NameNotDeclared, DependsOnItself, ValueOutOfRange, ItemTooMany, PlaceholderWrong}
+use Rattle.status.specs.Status.{text_too_long, no_symbol, symbol_not_allowed, number_out_of_range, name_twice, name_not_declared, depends_on_itself, value_out_of_range, item_too_many, placeholder_wrong}
+
+abbrev pub number_of : Reason → ℕ
+number_of TextTooLong = text_too_long
+number_of NoSymbol = no_symbol
+number_of SymbolNotAllowed = symbol_not_allowed
+number_of NumberOutOfRange = number_out_of_range
+number_of NameTwice = name_twice
+number_of NameNotDeclared = name_not_declared
+number_of DependsOnItself = depends_on_itself
+number_of ValueOutOfRange = value_out_of_range
+number_of ItemTooMany = item_too_many
+number_of PlaceholderWrong = placeholder_wrong
