@@ -4,7 +4,7 @@ use mathlib.Core.Bool.{false}
 use mathlib.Core.List.{[], ◌∷◌}
 use Rattle.symbols.specs.declared.MarkKind.TheVariants.{Minus, WidthOpen, Arrow}
 use Rattle.symbols.specs.declared.Symbol.TheVariants.{Bad, End, Name, Number, Mark}
-use Rattle.symbols.specs.declared.spelling.Letter.TheVariants.{Missing, Capital}
+use Rattle.std.specs.Prelude.{None, Some}
 use Rattle.symbols.specs.declared.words.Word.TheVariants.{Plain, Retuning, Harmony, Unused}
 use Rattle.ascii.specs.Ascii.{byte, bytes}
 use Rattle.symbols.specs.Bytes.{is_blank, is_digit, is_hex_digit, is_capital, is_letter, in_name, small, same, take_while}
@@ -90,10 +90,10 @@ no_word : word_of (spelled (bytes "HARMONY_ANALYSIS")) ≡ Plain
 unfolding opened
 no_word = refl
 
-letter : letter_of (bytes "m") ≡ Capital (byte "M")
+letter : letter_of (bytes "m") ≡ Some (byte "M")
 unfolding opened
 letter = refl
 
-no_letter_holds : letter_of (bytes "_") ≡ Missing
+no_letter_holds : letter_of (bytes "_") ≡ None
 unfolding opened
 no_letter_holds = refl

@@ -1,36 +1,21 @@
 -- Laws of names: of the name that stands at a place, and of the test that two names are the same.
 -- Assumes nothing.
-use Prim.Native.Nat.{ℕ, ◌+◌, ◌-◌, ◌<◌, ◌≤◌, min}
+use Prim.Native.Nat.{ℕ, ◌+◌, ◌-◌, ◌<◌, ◌≤◌}
 use mathlib.Core.Path.{◌≡◌, refl, sym, ◌∙◌, ap}
 use mathlib.Core.Logic.{◌↔◌}
-use mathlib.Core.List.{List, [], ◌∷◌}
-use mathlib.Core.Bool.{Bool, true, false, cond, ◌&&◌, and-eq-true_iff, false≢true}
+use mathlib.Core.List.{List, [], ◌∷◌, map}
+use mathlib.Core.Bool.{Bool, true, false, ◌&&◌, and-eq-true_iff, false≢true}
 use native.Mathlib.Omega.{arith}
-use native.Mathlib.Decide.{dec_lt, ℕ_discrete}
-use borrow.Author.Tests.{le-leb, lt-leb, eqb-true, eq-eqb, ne_eqb}
+use borrow.Author.Tests.{eqb-true, eq-eqb}
 use lib.ListN.{length, get_or, drop_of_length-le}
-use lib.Seq.{slice}
-use lib.Dec.{leb, eqb}
-use Rattle.symbols.specs.declared.spelling.Letter.TheVariants.{Missing, Capital}
-use Rattle.ascii.specs.Ascii.{byte}
-use Rattle.symbols.specs.Bytes.{is_digit, is_capital, is_letter, in_name, small, same, take_while}
+use lib.Dec.{eqb}
+use Rattle.std.specs.Bool.{IsTrue, Decides}
+use Rattle.std.specs.Prelude.{Option, None, Some}
+use Rattle.std.specs.Char.{to_ascii_lowercase, to_ascii_uppercase, is_ascii_alphabetic}
+use Rattle.std.proofs.lemmas.Bool.Decides.{same_from_decides, nat_tests}
+use Rattle.symbols.specs.Bytes.{among, is_capital, in_name, small, same, take_while}
 use Rattle.symbols.specs.Names.{spelled, name_at, letter_of}
-use Rattle.symbols.specs.Inner.{first}
 use Rattle.symbols.proofs.Scan.{drop_here}
-use Rattle.symbols.proofs.Parts.{part_empty, part_cons, part_none, part_some}
-
--- no byte of a name is 0, nor is its small letter
-zero_outside : (b : ℕ) → in_name b ≡ true → b ≡ 0 → ⊥
-unfolding in_name is_letter is_digit is_capital
-zero_outside b e z = false≢true (ap in_name (sym z) ∙ e)
-
-small_some : (b : ℕ) → in_name b ≡ true → small b ≡ 0 → ⊥
-unfolding small
-small_some b e = go (is_capital b)
-  where
-    go : (c : Bool) → cond c (b + 32) b ≡ 0 → ⊥
-    go true z = omega arith
-    go false z = zero_outside b e z
 
 -- the test that two names are the same is true just where the lists are equal
 pub same_true : (xs ys : List ℕ) → same xs ys ≡ true → xs ≡ ys
@@ -66,75 +51,56 @@ module _ (text : List ℕ) (i : ℕ) where
   unfolding name_at spelled take_while
   name_on h e = rw (drop_here text i h, take_while, e)
 
-  -- the name's first letter, `a`, tells whether there is a name
-  module _ {a : ℕ} (e : a ≡ first (name_at text i)) where
-    pub first_some : (a ≡ 0 → ⊥) → (i < length text) × (name_at text i ≡ a ∷ name_at text (i + 1))
-    first_some n = inside (dec_lt i (length text))
-      where
-        letter : i < length text → (t : Bool) → in_name (get_or text i 0) ≡ t → name_at text i ≡ a ∷ name_at text (i + 1)
-        letter h true q = let l = name_on h q in l ∙ ap (λ (x : ℕ). x ∷ name_at text (i + 1)) (sym (e ∙ ap first l))
-        letter h false q = absurd (n (e ∙ ap first (name_stop h q)))
+-- a small letter, as the library has it
+pub small_lower : (b : ℕ) → small b ≡ to_ascii_lowercase b
+unfolding small is_capital
+small_lower b = grind (arith, nat_tests)
 
-        inside : Dec (i < length text) → (i < length text) × (name_at text i ≡ a ∷ name_at text (i + 1))
-        inside (yes h) = (h, letter h (in_name (get_or text i 0)) refl)
-        inside (no h) = absurd (n (e ∙ ap first (name_out (omega arith))))
+pub spelled_lower : (name : List ℕ) → spelled name ≡ map to_ascii_lowercase name
+unfolding spelled
+spelled_lower [] = refl
+spelled_lower (b ∷ rest) = let h = spelled_lower rest in let k = small_lower b in cc
 
-    pub first_none : a ≡ 0 → name_at text i ≡ []
-    first_none z = inside (dec_lt i (length text))
-      where
-        letter : i < length text → (t : Bool) → in_name (get_or text i 0) ≡ t → name_at text i ≡ []
-        letter h true q = absurd (small_some _ q (sym (ap first (name_on h q)) ∙ sym e ∙ z))
-        letter h false q = name_stop h q
+-- the library's test without regard to capitals
+pub same_lower : (r : Bool) (a b : List ℕ) → IsTrue r ↔ (map to_ascii_lowercase a ≡ map to_ascii_lowercase b)
+    → r ≡ same (spelled a) (spelled b)
+same_lower r a b e = same_from_decides r (same (spelled a) (spelled b)) e tells
+  where
+    tells : Decides (same (spelled a) (spelled b)) (map to_ascii_lowercase a ≡ map to_ascii_lowercase b)
+    tells = (
+      λ q. sym (spelled_lower a) ∙ same_true (spelled a) (spelled b) q ∙ spelled_lower b,
+      λ q. ap (λ (l : List ℕ). same l (spelled b)) (spelled_lower a ∙ q ∙ sym (spelled_lower b)) ∙ same_refl (spelled b),
+    )
 
-        inside : Dec (i < length text) → name_at text i ≡ []
-        inside (yes h) = letter h (in_name (get_or text i 0)) refl
-        inside (no h) = name_out (omega arith)
+-- one byte as a letter
+pub letter_none : (l : List ℕ) → length l ≡ 0 → None ≡ letter_of l
+unfolding letter_of
+letter_none [] h = refl
+letter_none (b ∷ rest) h = absurd (omega arith)
 
--- the names at `i` and at `j`, with the first letters `a` and `b`, are compared letter by letter
-module _ (text : List ℕ) (i j : ℕ) {a b : ℕ} (e : a ≡ first (name_at text i)) (f : b ≡ first (name_at text j)) where
-  pub same_on : (a ≡ 0 → ⊥) → b ≡ a → same (name_at text (i + 1)) (name_at text (j + 1)) ≡ same (name_at text i) (name_at text j)
-  unfolding same
-  same_on n q =
-      rw ((first_some text i e n).1, (first_some text j f (λ z. n (sym q ∙ z))).1, eq-eqb a b (sym q))
+pub letter_more : (l : List ℕ) → 2 ≤ length l → None ≡ letter_of l
+unfolding letter_of
+letter_more [] h = absurd (omega arith)
+letter_more (b ∷ []) h = absurd (omega arith)
+letter_more (b ∷ c ∷ rest) h = refl
 
-  pub same_differ : (a ≡ 0 → ⊥) → (b ≡ a → ⊥) → false ≡ same (name_at text i) (name_at text j)
-  unfolding same
-  same_differ n q = rw (first_some text i e n).1 (go (ℕ_discrete b 0))
-    where
-      go : Dec (b ≡ 0) → false ≡ same (a ∷ name_at text (i + 1)) (name_at text j)
-      go (yes z) = rw (first_none text j f z)
-      go (no z) = rw ((first_some text j f z).1, ne_eqb a b (λ p. q (sym p)))
+letter_test : (b : ℕ) → among "a" "z" (small b) ≡ is_ascii_alphabetic b
+unfolding small is_capital
+letter_test b = grind (arith, nat_tests)
 
-  pub same_end : a ≡ 0 → eqb b 0 ≡ same (name_at text i) (name_at text j)
-  unfolding same
-  same_end z = rw (first_none text i e z) (go (ℕ_discrete b 0))
-    where
-      go : Dec (b ≡ 0) → eqb b 0 ≡ same [] (name_at text j)
-      go (yes q) = rw (first_none text j f q, eq-eqb b 0 q)
-      go (no q) = rw ((first_some text j f q).1, ne_eqb b 0 q)
+letter_capital : (b : ℕ) → is_ascii_alphabetic b ≡ true → to_ascii_uppercase b ≡ small b - 32
+unfolding small is_capital
+letter_capital b h = grind (arith, nat_tests)
 
--- a part of the text as a letter
-module _ (text : List ℕ) (start end : ℕ) {e : ℕ} (w : e ≡ min end (length text)) where
-  pub letter_none : e ≤ start → Missing ≡ letter_of (slice start end text)
-  unfolding letter_of
-  letter_none h = rw (part_none text start end w h)
+pub letter_other : (l : List ℕ) → length l ≡ 1 → is_ascii_alphabetic (get_or l 0 0) ≡ false → None ≡ letter_of l
+unfolding letter_of
+letter_other [] h a = refl
+letter_other (b ∷ []) h a = rw (letter_test b, a)
+letter_other (b ∷ c ∷ rest) h a = refl
 
-  pub letter_more : start < e → (e - start ≡ 1 → ⊥) → Missing ≡ letter_of (slice start end text)
-  unfolding letter_of
-  letter_more h n =
-      rw (part_some text start end w h, part_cons text (start + 1) e (omega arith) (omega arith))
-
-  -- one byte, whose small letter is `b`
-  module _ (h : start < e) (one : e - start ≡ 1) {b : ℕ} (q : b ≡ small (get_or text start 0)) where
-    letter_one : letter_of (slice start end text) ≡ cond (leb (byte "a") b && leb b (byte "z")) (Capital (b - 32)) Missing
-    unfolding letter_of
-    letter_one = rw (part_some text start end w h, part_empty text (start + 1) e (omega arith), q)
-
-    pub letter_low : b < byte "a" → Missing ≡ letter_of (slice start end text)
-    letter_low l = rw (letter_one, lt-leb _ _ l)
-
-    pub letter_high : byte "a" ≤ b → byte "z" < b → Missing ≡ letter_of (slice start end text)
-    letter_high l m = rw (letter_one, le-leb _ _ l, lt-leb _ _ m)
-
-    pub letter_right : byte "a" ≤ b → b ≤ byte "z" → Capital (b - 32) ≡ letter_of (slice start end text)
-    letter_right l m = rw (letter_one, le-leb _ _ l, le-leb _ _ m)
+pub letter_right : (l : List ℕ) → length l ≡ 1 → is_ascii_alphabetic (get_or l 0 0) ≡ true → {u : ℕ} → u ≡ to_ascii_uppercase (get_or l 0 0)
+    → Some u ≡ letter_of l
+unfolding letter_of
+letter_right [] h a e = absurd (omega arith)
+letter_right (b ∷ []) h a e = rw (e, letter_test b, a) (ap Some (letter_capital b a))
+letter_right (b ∷ c ∷ rest) h a e = absurd (omega arith)

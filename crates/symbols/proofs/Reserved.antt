@@ -1,81 +1,50 @@
--- The tables of reserved words are right, each by one equation that antt computes; so a name is the word of its row, or plain.
+-- The table of reserved words is right, by equations that antt computes; so a name is the word of its row, or plain.
 -- Assumes nothing.
 use Prim.Native.Nat.{ℕ, ◌+◌, ◌-◌, ◌*◌, ◌%◌, ◌<◌, ◌≤◌}
 use Prim.Native.String.{String}
 use mathlib.Core.Path.{◌≡◌, refl, sym, ◌∙◌, ap}
-use mathlib.Core.List.{List, [], ◌∷◌, ◌++◌, map}
+use mathlib.Core.Logic.{◌↔◌}
+use mathlib.Core.List.{List, [], ◌∷◌, map}
 use mathlib.Core.Bool.{Bool, true, false, cond, ◌&&◌, and-eq-true_iff, false≢true}
 use native.Mathlib.Omega.{arith}
-use borrow.Author.Tests.{leb-true, ltb-true, eq-eqb, ne_eqb}
-use lib.ListN.{length, get_or, take, drop, replicate, drop_of_length-le, length-map, get_or-map}
-use lib.Dec.{leb, ltb}
+use lib.ListN.{length, get_or, get_or-map, get_or-eq_default, length-map}
+use denote.Ref.{Bor}
+use Rattle.std.specs.Bool.{IsTrue}
+use Rattle.std.specs.Char.{to_ascii_lowercase}
+use Rattle.std.proofs.lemmas.List.{get_or_default}
 use Rattle.symbols.specs.declared.words.Word.{Word}
 use Rattle.symbols.specs.declared.words.Word.TheVariants.{Plain}
 use Rattle.ascii.specs.Ascii.{bytes}
 use Rattle.symbols.specs.Bytes.{is_capital, small, same}
 use Rattle.symbols.specs.Names.{spelled}
 use Rattle.symbols.specs.Words.{words, word_in, word_of}
-use Rattle.symbols.specs.Inner.{row_word, row_kind, rows, row_of}
-use Rattle.symbols.proofs.Scan.{drop_here}
-use Rattle.symbols.proofs.Letters.{same_true}
+use Rattle.symbols.specs.Inner.{rows, row_of}
+use Rattle.symbols.proofs.Letters.{same_true, same_lower, small_lower}
 use Rattle.symbols.proofs.Table.{each}
 
--- the tables of the code
+-- the spelled words, and what they are, in rows
+unfoldable pub spellings : List (List ℕ)
+spellings = map (λ w. spelled (bytes w.0)) words
 
-abbrev pub lengths : List ℕ
-unfolding words
-lengths = map (λ w. length (bytes w.0)) words ++ (0 ∷ [])
+unfoldable pub kinds : List Word
+kinds = map (λ w. w.1) words
 
-abbrev pub kinds : List Word
-unfolding words
-kinds = map (λ w. w.1) words ++ (Plain ∷ [])
+-- the word of a row: none past the last
+pub row_word : ℕ → List ℕ
+row_word row = get_or spellings row []
 
--- each word in twelve bytes, with blanks after it
-abbrev in_rows : List (String × Word) → List ℕ
-in_rows [] = []
-in_rows (w ∷ more) = take 12 (spelled (bytes w.0) ++ replicate 12 32) ++ in_rows more
+pub row_kind : ℕ → Word
+row_kind row = get_or kinds row Plain
 
-abbrev pub spellings : List ℕ
-unfolding words
-spellings = in_rows words
+-- the word of a row is what the row says
+row_right : (row : ℕ) → row < 25 → word_of (row_word row) ≡ row_kind row
+unfolding row_word row_kind spellings kinds words spelled small is_capital word_of word_in same
+row_right row h = each 25 (λ k. word_of (row_word k)) row_kind refl row h
 
-module _ (row : ℕ) (h : row < 26) where
-  pub row_length : get_or lengths row 0 ≡ length (row_word row)
-  unfolding words row_word spelled
-  row_length = each 26 (λ k. get_or lengths k 0) (λ k. length (row_word k)) refl row h
-
-  pub row_fits : 12 * row + length (row_word row) ≤ 300
-  unfolding words row_word spelled
-  row_fits = leb-true _ _ (each 26 (λ k. leb (12 * k + length (row_word k)) 300) (λ k. true) refl row h)
-
-  pub row_kind_step : get_or kinds row Plain ≡ row_kind row
-  unfolding words row_kind
-  row_kind_step = each 26 (λ k. get_or kinds k Plain) row_kind refl row h
-
-  row_word_step : take (length (row_word row)) (drop (12 * row) spellings) ≡ row_word row
-  unfolding words row_word spelled small is_capital
-  row_word_step = each 26 (λ k. take (length (row_word k)) (drop (12 * k) spellings)) row_word refl row h
-
-  -- the same for a part of the table that begins with the row and has `n` letters
-  row_part : {n : ℕ} → length (row_word row) ≡ n → take (12 * row + n - 12 * row) (drop (12 * row) spellings) ≡ row_word row
-  row_part {n} e = ap (λ (k : ℕ). take k (drop (12 * row) spellings)) size ∙ row_word_step
-    where
-      size : 12 * row + n - 12 * row ≡ length (row_word row)
-      size = omega arith
-
-  -- the part has been compared with a name
-  pub row_compared : (name : List ℕ) {n : ℕ} → length (row_word row) ≡ n → {b : Bool}
-      → b ≡ same (take (12 * row + n - 12 * row) (drop (12 * row) spellings)) name → b ≡ same (row_word row) name
-  row_compared name l f = f ∙ ap (λ (k : List ℕ). same k name) (row_part l)
-
-  -- the word of a row is what the row says
-  row_right : word_of (row_word row) ≡ row_kind row
-  unfolding words row_word row_kind spelled small is_capital word_of word_in same
-  row_right = each 26 (λ k. word_of (row_word k)) row_kind refl row h
-
-pub row_below : (k : ℕ) → k < 64 → get_or rows k 0 < 26
-unfolding rows
-row_below k h = ltb-true _ _ (each 64 (λ k. ltb (get_or rows k 0) 26) (λ k. true) refl k h)
+-- it is spelled already
+row_small : (row : ℕ) → row < 25 → spelled (row_word row) ≡ row_word row
+unfolding row_word spellings words spelled small is_capital
+row_small row h = each 25 (λ k. spelled (row_word k)) row_word refl row h
 
 -- each word stands in the row that its letters lead to
 abbrev found : List (String × Word) → Bool
@@ -83,7 +52,7 @@ found [] = true
 found (w ∷ more) = same (row_word (row_of (spelled (bytes w.0)))) (spelled (bytes w.0)) && found more
 
 all_found : found words ≡ true
-unfolding words row_word row_of rows spelled small is_capital same
+unfolding row_word spellings words row_of rows spelled small is_capital same
 all_found = refl
 
 -- a name that is not the word of its row is plain
@@ -104,53 +73,78 @@ none_in name n (w ∷ more) t =
         let e = same_true word name q in
         absurd (false≢true (sym n ∙ rw e at f))
 
--- a name and the word of its row, `row`
-module _ (name : List ℕ) {row : ℕ} (e : row ≡ row_of name) where
-  word_none : same (row_word row) name ≡ false → Plain ≡ word_of name
-  unfolding word_of
-  word_none n = none_in name (rw e at n) words all_found
+word_none : (name : List ℕ) {row : ℕ} → row ≡ row_of name → same (row_word row) name ≡ false → Plain ≡ word_of name
+unfolding word_of
+word_none name e n = none_in name (rw e at n) words all_found
 
-  pub word_differs : {b : Bool} → b ≡ same (row_word row) name → b ≡ false → Plain ≡ word_of name
-  word_differs f q = word_none (sym f ∙ q)
+-- a row of the code's table: its words, and what they are, are those of `words`
+abbrev pub Row : Type 0
+Row = Bor (List ℕ) × Word
 
-  pub word_same : row < 26 → {b : Bool} → b ≡ same (row_word row) name → b ≡ true → row_kind row ≡ word_of name
-  word_same h f q = sym (row_right row h) ∙ ap word_of (same_true (row_word row) name (sym f ∙ q))
+pub spelling_at : (table : List Row) (row : ℕ) (d : Row) → (get_or table row d).0.now ≡ get_or (map (λ (r : Row). r.0.now) table) row d.0.now
+spelling_at table row d = sym (get_or-map (λ (r : Row). r.0.now) table row d)
 
-  pub word_length : (length (row_word row) ≡ length name → ⊥) → Plain ≡ word_of name
-  word_length n = go (same (row_word row) name) refl
-    where
-      go : (b : Bool) → same (row_word row) name ≡ b → Plain ≡ word_of name
-      go true q = absurd (n (ap length (same_true (row_word row) name q)))
-      go false q = word_none q
+pub meaning_at : (table : List Row) (row : ℕ) (d : Row) → (get_or table row d).1 ≡ get_or (map (λ (r : Row). r.1) table) row d.1
+meaning_at table row d = sym (get_or-map (λ (r : Row). r.1) table row d)
 
-pub word_empty : Plain ≡ word_of (spelled [])
+module _ {row : ℕ} (h : row < 25) where
+  pub row_spelled : (d : List ℕ) → get_or spellings row d ≡ row_word row
+  unfolding row_word spellings words
+  row_spelled d = get_or_default spellings row d [] h
+
+  pub row_meant : (d : Word) → get_or kinds row d ≡ row_kind row
+  unfolding row_kind kinds words
+  row_meant d = get_or_default kinds row d Plain h
+
+  -- the row's word has been compared with a name
+  module _ {word : List ℕ} (is : word ≡ row_word row) (name : List ℕ) {b : Bool}
+      (told : IsTrue b ↔ (map to_ascii_lowercase word ≡ map to_ascii_lowercase name)) where
+    row_compared : b ≡ same (row_word row) (spelled name)
+    row_compared =
+        same_lower b word name told ∙ ap (λ (l : List ℕ). same l (spelled name)) (ap spelled is ∙ row_small row h)
+
+    pub word_same : b ≡ true → row_kind row ≡ word_of (spelled name)
+    word_same q = sym (row_right row h) ∙ ap word_of (same_true (row_word row) (spelled name) (sym row_compared ∙ q))
+
+    pub word_differs : row ≡ row_of (spelled name) → b ≡ false → Plain ≡ word_of (spelled name)
+    word_differs f q = word_none (spelled name) f (sym row_compared ∙ q)
+
+-- past the rows
+past_none : (row : ℕ) → 25 ≤ row → row_word row ≡ []
+unfolding row_word spellings words
+past_none row h = get_or-eq_default spellings [] h
+
+past_differs : (b : ℕ) (rest : List ℕ) → same [] (spelled (b ∷ rest)) ≡ false
+unfolding same spelled
+past_differs b rest = refl
+
+empty_plain : Plain ≡ word_of (spelled [])
 unfolding word_of word_in words spelled same
-word_empty = refl
+empty_plain = refl
 
-pub spelled_length : (name : List ℕ) → length (spelled name) ≡ length name
+pub word_past : (name : List ℕ) {row : ℕ} → row ≡ row_of (spelled name) → 25 ≤ row → Plain ≡ word_of (spelled name)
+word_past [] e h = empty_plain
+word_past (b ∷ rest) {row} e h =
+    word_none (spelled (b ∷ rest)) e (ap (λ (l : List ℕ). same l (spelled (b ∷ rest))) (past_none row h) ∙ past_differs b rest)
+
+spelled_length : (name : List ℕ) → length (spelled name) ≡ length name
 unfolding spelled
 spelled_length name = length-map name small
 
-pub spelled_at : (name : List ℕ) (i : ℕ) → get_or (spelled name) i 0 ≡ small (get_or name i 0)
+spelled_at : (name : List ℕ) (i : ℕ) → get_or (spelled name) i 0 ≡ small (get_or name i 0)
 unfolding spelled small is_capital
 spelled_at name i = get_or-map small name i 0
 
-pub row_of_name : (name : List ℕ) {first last : ℕ} → first ≡ small (get_or name 0 0) → last ≡ small (get_or name (length name - 1) 0)
-    → get_or rows ((8 * first + 2 * last + length name % 64) % 64) 0 ≡ row_of (spelled name)
+-- the row of a name, by its first byte and its last
+pub row_of_name : (name : List ℕ) {f l : ℕ} → f ≡ to_ascii_lowercase (get_or name 0 0)
+    → l ≡ to_ascii_lowercase (get_or name (length name - 1) 0)
+    → get_or rows ((8 * f + 2 * l + length name % 64) % 64) 0 ≡ row_of (spelled name)
 unfolding row_of
-row_of_name name f l = rw (f, l, spelled_length name, spelled_at name 0, spelled_at name (length name - 1))
-
--- a word and a name, from the place `i` on
-module _ (word name : List ℕ) (i : ℕ) where
-  module _ (h : i < length word) (k : i < length name) {s : ℕ} (e : s ≡ small (get_or name i 0)) where
-    pub spell_on : s ≡ get_or word i 0 → same (drop (i + 1) word) (spelled (drop (i + 1) name)) ≡ same (drop i word) (spelled (drop i name))
-    unfolding same spelled
-    spell_on q = rw (drop_here word i h, drop_here name i k, eq-eqb _ _ (sym q ∙ e))
-
-    pub spell_differs : (s ≡ get_or word i 0 → ⊥) → false ≡ same (drop i word) (spelled (drop i name))
-    unfolding same spelled
-    spell_differs n = rw (drop_here word i h, drop_here name i k, ne_eqb _ _ (λ q. n (e ∙ sym q)))
-
-  pub spell_end : length word ≤ i → length name ≤ i → true ≡ same (drop i word) (spelled (drop i name))
-  unfolding same spelled
-  spell_end h k = rw (drop_of_length-le word h, drop_of_length-le name k)
+row_of_name name p q =
+    rw (
+      p ∙ sym (small_lower (get_or name 0 0)),
+      q ∙ sym (small_lower (get_or name (length name - 1) 0)),
+      spelled_length name,
+      spelled_at name 0,
+      spelled_at name (length name - 1),
+    )

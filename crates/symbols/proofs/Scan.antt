@@ -4,25 +4,23 @@ use Prim.Native.Nat.{ℕ, ◌+◌, ◌<◌, ◌≤◌}
 use mathlib.Core.Path.{◌≡◌, refl, sym, ◌∙◌, ap}
 use mathlib.Core.List.{List, [], ◌∷◌}
 use mathlib.Core.Bool.{Bool, true, false, not, cond, ◌&&◌, and-true, and-false}
-use Rattle.std.specs.Prelude.{Option, None, Some}
+use Rattle.std.specs.Prelude.{Option, None, Some, unwrap_or}
+use Rattle.std.specs.List.{position_or_len}
 use native.Mathlib.Nat.{add-zero, add-suc, suc-add}
 use native.Mathlib.Numerals.{add-one}
 use native.Mathlib.Omega.{arith}
+use native.Mathlib.Decide.{dec_lt}
 use borrow.Author.Tests.{lt-ltb, le-ltb, eq-eqb, ne_eqb}
-use lib.ListN.{length, get_or, take, drop, drop_of_length-le}
+use lib.ListN.{length, get_or, take, drop, drop_of_length-le, length-take}
 use lib.Seq.{drop-cons, drop-drop}
-use lib.Dec.{eqb}
+use lib.Dec.{ltb, eqb}
 use Rattle.symbols.specs.declared.MarkKind.{MarkKind}
 use Rattle.symbols.specs.declared.MarkKind.TheVariants.{WidthOpen, WidthClose, Arrow}
-use Rattle.symbols.specs.declared.Sign.{Sign}
-use Rattle.symbols.specs.declared.Sign.TheVariants.{Missing, Kind}
 use Rattle.symbols.specs.declared.Symbol.{Symbol}
 use Rattle.symbols.specs.declared.Symbol.TheVariants.{Bad, End, Name, Number, Mark}
-use Rattle.symbols.specs.declared.runs.Run.TheVariants.{Comment}
 use Rattle.ascii.specs.Ascii.{byte}
 use Rattle.symbols.specs.Bytes.{same, quote, point, hash, is_blank, is_digit, is_letter, in_name, take_while}
 use Rattle.symbols.specs.Symbols.{marks, mark_in, mark_or, mark_at, run_end, digits_to, pointed, decimal_at, hex_at, symbol_at, symbol_from, after_comment}
-use Rattle.symbols.specs.Inner.{in_run, as_sign}
 
 -- at a place of the text
 module _ (text : List ℕ) (i : ℕ) (h : i < length text) where
@@ -51,6 +49,34 @@ while_front p (b ∷ rest) = go (p b) (while_front p rest)
         ≡ elim t [ true ↦ b ∷ take_while p rest | false ↦ [] ]
     go true e = ap (λ (k : List ℕ). b ∷ k) e
     go false e = refl
+
+-- where the first byte stands that does not pass
+run_length : (p : ℕ → Bool) (rest : List ℕ) → position_or_len (λ b. not (p b)) rest ≡ length (take_while p rest)
+unfolding take_while
+run_length p [] = refl
+run_length p (b ∷ rest) = go (p b) (run_length p rest)
+  where
+    go : (t : Bool) → position_or_len (λ b. not (p b)) rest ≡ length (take_while p rest)
+        → cond (not (not t)) (1 + position_or_len (λ b. not (p b)) rest) 0
+        ≡ length {A = ℕ} (elim t [ true ↦ b ∷ take_while p rest | false ↦ [] ])
+    go true e = rw e (omega arith)
+    go false e = refl
+
+pub run_short : (p : ℕ → Bool) (rest : List ℕ) → length (take_while p rest) ≤ length rest
+run_short p rest = let h = ap length (while_front p rest) in omega (arith, simp length-take at h)
+
+pub run_found : (p : ℕ → Bool) (at : ℕ) (rest : List ℕ) {r : Option ℕ}
+    → r ≡ cond (ltb (position_or_len (λ b. not (p b)) rest) (length rest)) (Some (position_or_len (λ b. not (p b)) rest)) None
+    → at + unwrap_or r (length rest) ≡ run_end p at rest
+unfolding run_end
+run_found p at rest e = rw (e, run_length p rest) (go (dec_lt (length (take_while p rest)) (length rest)))
+  where
+    n : ℕ
+    n = length (take_while p rest)
+
+    go : Dec (n < length rest) → at + unwrap_or (cond (ltb n (length rest)) (Some n) None) (length rest) ≡ at + n
+    go (yes h) = rw (lt-ltb _ _ h)
+    go (no h) = let k : length rest ≤ n = omega arith in rw (le-ltb _ _ k) (omega (arith, run_short p rest))
 
 -- a run ends at or after its place
 pub run_from : (p : ℕ → Bool) (at : ℕ) (rest : List ℕ) {w : ℕ} → w ≡ run_end p at rest → at ≤ w
@@ -154,14 +180,17 @@ abbrev closed : ℕ → ℕ → List ℕ → Symbol
 closed start w [] = Bad start
 closed start w (b ∷ rest) = symbol_from (w + 1) rest
 
+abbrev pub not_quote : ℕ → Bool
+not_quote b = not (eqb b quote)
+
 comment_passed : (start at : ℕ) (rest : List ℕ)
-    → closed start (run_end (in_run Comment) at rest) (drop (length (take_while (in_run Comment) rest)) rest) ≡ after_comment start at rest
+    → closed start (run_end not_quote at rest) (drop (length (take_while not_quote rest)) rest) ≡ after_comment start at rest
 unfolding run_end take_while symbol_from
 comment_passed start at [] = refl
 comment_passed start at (b ∷ rest) = go (eqb b quote) (comment_passed start (at + 1) rest)
   where
     past : List ℕ
-    past = take_while (in_run Comment) rest
+    past = take_while not_quote rest
 
     go : (q : Bool) → closed start (at + 1 + length past) (drop (length past) rest) ≡ after_comment start (at + 1) rest
         → closed start
@@ -171,9 +200,9 @@ comment_passed start at (b ∷ rest) = go (eqb b quote) (comment_passed start (a
     go true ih = rw add-zero
     go false ih = rw (add-suc, ← suc-add, ← add-one) ih
 
-module _ (text : List ℕ) (start at : ℕ) {w : ℕ} (e : w ≡ run_end (in_run Comment) at (drop at text)) where
+module _ (text : List ℕ) (start at : ℕ) {w : ℕ} (e : w ≡ run_end not_quote at (drop at text)) where
   comment_here : closed start w (drop w text) ≡ after_comment start at (drop at text)
-  comment_here = rw (e, ← run_rest (in_run Comment) text at) (comment_passed start at (drop at text))
+  comment_here = rw (e, ← run_rest not_quote text at) (comment_passed start at (drop at text))
 
   pub comment_closed : w < length text → symbol_from (w + 1) (drop (w + 1) text) ≡ after_comment start at (drop at text)
   comment_closed h = rw (drop_here text w h) at comment_here
@@ -184,23 +213,14 @@ module _ (text : List ℕ) (start at : ℕ) {w : ℕ} (e : w ≡ run_end (in_run
 -- marks
 
 -- the mark that a word is, or another symbol, by what has been found
-module _ (at : ℕ) (word : List ℕ) (other : Symbol) {s : Sign} (e : s ≡ as_sign (mark_in marks word)) where
-  pub mark_missing : s ≡ Missing → other ≡ mark_or at word other
+module _ (at : ℕ) (word : List ℕ) (other : Symbol) where
+  pub mark_missing : mark_in marks word ≡ None → other ≡ mark_or at word other
   unfolding mark_or
-  mark_missing q = go (mark_in marks word) (sym q ∙ e)
-    where
-      go : (o : Option MarkKind) → Missing ≡ as_sign o → other ≡ elim o [ None ↦ other | Some kind ↦ Mark kind at (at + length word) ]
-      go None f = refl
-      go (Some kind) f = let z : ◌≡◌ {A = ℕ} 0 1 = cc in absurd (omega arith)
+  mark_missing q = rw (mark_or, q)
 
-  pub mark_found : {kind : MarkKind} → s ≡ Kind kind → {end : ℕ} → end ≡ at + length word → Mark kind at end ≡ mark_or at word other
+  pub mark_found : {kind : MarkKind} → mark_in marks word ≡ Some kind → Mark kind at (at + length word) ≡ mark_or at word other
   unfolding mark_or
-  mark_found {kind} q f = rw f (go (mark_in marks word) (sym q ∙ e))
-    where
-      go : (o : Option MarkKind) → Kind kind ≡ as_sign o
-          → Mark kind at (at + length word) ≡ elim o [ None ↦ other | Some kind ↦ Mark kind at (at + length word) ]
-      go None f = let z : ◌≡◌ {A = ℕ} 0 1 = cc in absurd (omega arith)
-      go (Some k) f = let q : kind ≡ k = cc in rw q
+  mark_found q = rw (mark_or, q)
 
 mark_twice : (at : ℕ) (word : List ℕ) (other : Symbol) → mark_or at word other ≡ mark_or at word (mark_or at word other)
 unfolding mark_or
@@ -226,7 +246,7 @@ module _ (text : List ℕ) (i : ℕ) (h : i < length text) where
   unfolding mark_at
   mark_last l = rw (drop_here text i h, drop_of_length-le text l) (mark_twice i (get_or text i 0 ∷ []) (Bad i))
 
-  pub mark_here : i + 1 < length text
-      → mark_or i (get_or text i 0 ∷ get_or text (i + 1) 0 ∷ []) (mark_or i (get_or text i 0 ∷ []) (Bad i)) ≡ mark_at i (drop i text)
+  pub mark_here : {second : ℕ} → second ≡ get_or text (i + 1) 0 → i + 1 < length text
+      → mark_or i (get_or text i 0 ∷ second ∷ []) (mark_or i (get_or text i 0 ∷ []) (Bad i)) ≡ mark_at i (drop i text)
   unfolding mark_at
-  mark_here l = rw (drop_here text i h, drop_here text (i + 1) l)
+  mark_here e l = rw (e, drop_here text i h, drop_here text (i + 1) l)

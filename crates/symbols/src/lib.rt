@@ -8,10 +8,7 @@ pub mod words;
 
 ghost use Rattle.std.specs.Prelude.{◌≡◌, List, [], ◌∷◌, ℕ, ◌+◌, ◌<◌, length, get_or, drop};
 ghost use Rattle.symbols.specs.Symbols.{marks, mark_in, mark_or, mark_at, decimal_at, hex_at, symbol_at, next_symbol};
-ghost use Rattle.symbols.specs.Inner.{as_sign};
 ghost use Rattle.symbols.specs.declared.Symbol.TheVariants.{Bad};
-
-use runs::Run;
 
 // The marks `= : + - * / [ ] , @ { } << >> ->`.
 #[derive(Clone, Copy)]
@@ -33,13 +30,6 @@ pub enum MarkKind {
     WidthOpen,
     WidthClose,
     Arrow,
-}
-
-// A mark, where there is one.
-#[derive(Clone, Copy)]
-enum Sign {
-    Missing,
-    Kind(MarkKind),
 }
 
 // Places count the bytes of the text from 0; `end` is the place after the symbol.
@@ -68,6 +58,7 @@ pub enum Symbol {
 pub fn next_symbol(text: &[u8], at: usize) -> Symbol
     ensures { result ≡ next_symbol text.now at }
 {
+    // Kept as it is: a place that jumps past comments is no plainer as an iterator.
     let mut i = at;
     while i < text.len() {
         let b = text[i];
@@ -78,7 +69,7 @@ pub fn next_symbol(text: &[u8], at: usize) -> Symbol
         if b != b'"' {
             return symbol_at(text, i);
         }
-        let close = runs::run_end(Run::Comment, text, i + 1);
+        let close = runs::run_end(text, i + 1, |b| b != b'"');
         if text.len() <= close {
             return Symbol::Bad(i);
         }
@@ -94,7 +85,7 @@ fn symbol_at(text: &[u8], at: usize) -> Symbol
 {
     let b = text[at];
     if bytes::is_letter(b) {
-        let end = runs::run_end(Run::Name, text, at + 1);
+        let end = runs::run_end(text, at + 1, bytes::in_name);
         return Symbol::Name { start: at, end };
     }
     if bytes::is_digit(b) {
@@ -111,21 +102,15 @@ fn decimal_at(text: &[u8], at: usize) -> Symbol
     requires { at < length text.now }
     ensures { result ≡ decimal_at at (drop at text.now) }
 {
-    let whole = runs::run_end(Run::Digits, text, at);
-    if text.len() <= whole {
+    let whole = runs::run_end(text, at, bytes::is_digit);
+    let Some(b'.') = text.get(whole) else {
         return Symbol::Number {
             start: at,
             end: whole,
         };
-    }
-    if text[whole] != b'.' {
-        return Symbol::Number {
-            start: at,
-            end: whole,
-        };
-    }
+    };
     let first = whole + 1;
-    let end = runs::run_end(Run::Digits, text, first);
+    let end = runs::run_end(text, first, bytes::is_digit);
     if first < end {
         return Symbol::Number { start: at, end };
     }
@@ -138,7 +123,7 @@ fn hex_at(text: &[u8], at: usize) -> Symbol
     ensures { result ≡ hex_at at (drop (at + 1) text.now) }
 {
     let first = at + 1;
-    let end = runs::run_end(Run::HexDigits, text, first);
+    let end = runs::run_end(text, first, bytes::is_hex_digit);
     if first < end {
         return Symbol::Number { start: at, end };
     }
@@ -150,13 +135,11 @@ fn mark_at(text: &[u8], at: usize) -> Symbol
     requires { at < length text.now }
     ensures { result ≡ mark_at at (drop at text.now) }
 {
-    let first = text[at];
-    let next = at + 1;
-    if text.len() <= next {
-        return short_mark(first, at, next);
-    }
-    let Sign::Kind(kind) = double_mark(first, text[next]) else {
-        return short_mark(first, at, next);
+    let Some(&second) = text.get(at + 1) else {
+        return short_mark(text, at);
+    };
+    let Some(kind) = double_mark(text[at], second) else {
+        return short_mark(text, at);
     };
     Symbol::Mark {
         kind,
@@ -165,56 +148,54 @@ fn mark_at(text: &[u8], at: usize) -> Symbol
     }
 }
 
-// The mark of one byte from `at` to `next`.
-fn short_mark(b: u8, at: usize, next: usize) -> Symbol
-    requires { next ≡ at + 1 }
-    ensures { result ≡ mark_or at (b ∷ []) (Bad at) }
+// The mark of one byte at `at`.
+fn short_mark(text: &[u8], at: usize) -> Symbol
+    requires { at < length text.now }
+    ensures { result ≡ mark_or at (get_or text.now at 0 ∷ []) (Bad at) }
 {
-    let Sign::Kind(kind) = single_mark(b) else {
+    let Some(kind) = single_mark(text[at]) else {
         return Symbol::Bad(at);
     };
     Symbol::Mark {
         kind,
         start: at,
-        end: next,
+        end: at + 1,
     }
 }
 
 // The mark that two bytes are.
-fn double_mark(first: u8, second: u8) -> Sign
-    ensures { result ≡ as_sign (mark_in marks (first ∷ second ∷ [])) }
+#[tactic(auto, unfolding(crate::specs::Symbols::marks, crate::specs::Symbols::mark_in, crate::specs::Bytes::same))]
+fn double_mark(first: u8, second: u8) -> Option<MarkKind>
+    ensures { result ≡ mark_in marks (first ∷ second ∷ []) }
 {
-    if (first == b'<') & (second == b'<') {
-        return Sign::Kind(MarkKind::WidthOpen);
+    match (first, second) {
+        (b'<', b'<') => Some(MarkKind::WidthOpen),
+        (b'>', b'>') => Some(MarkKind::WidthClose),
+        (b'-', b'>') => Some(MarkKind::Arrow),
+        _ => None,
     }
-    if (first == b'>') & (second == b'>') {
-        return Sign::Kind(MarkKind::WidthClose);
-    }
-    if (first == b'-') & (second == b'>') {
-        return Sign::Kind(MarkKind::Arrow);
-    }
-    Sign::Missing
 }
 
 // The mark that one byte is.
-fn single_mark(b: u8) -> Sign
-    ensures { result ≡ as_sign (mark_in marks (b ∷ [])) }
+#[tactic(auto, unfolding(crate::specs::Symbols::marks, crate::specs::Symbols::mark_in, crate::specs::Bytes::same))]
+fn single_mark(b: u8) -> Option<MarkKind>
+    ensures { result ≡ mark_in marks (b ∷ []) }
 {
     match b {
-        b'=' => Sign::Kind(MarkKind::Equals),
-        b':' => Sign::Kind(MarkKind::Colon),
-        b'+' => Sign::Kind(MarkKind::Plus),
-        b'-' => Sign::Kind(MarkKind::Minus),
-        b'*' => Sign::Kind(MarkKind::Times),
-        b'/' => Sign::Kind(MarkKind::Divide),
-        b'[' => Sign::Kind(MarkKind::Open),
-        b']' => Sign::Kind(MarkKind::Close),
-        b',' => Sign::Kind(MarkKind::Comma),
-        b'@' => Sign::Kind(MarkKind::At),
-        b'{' => Sign::Kind(MarkKind::BraceOpen),
-        b'}' => Sign::Kind(MarkKind::BraceClose),
-        b'(' => Sign::Kind(MarkKind::BracketOpen),
-        b')' => Sign::Kind(MarkKind::BracketClose),
-        _ => Sign::Missing,
+        b'=' => Some(MarkKind::Equals),
+        b':' => Some(MarkKind::Colon),
+        b'+' => Some(MarkKind::Plus),
+        b'-' => Some(MarkKind::Minus),
+        b'*' => Some(MarkKind::Times),
+        b'/' => Some(MarkKind::Divide),
+        b'[' => Some(MarkKind::Open),
+        b']' => Some(MarkKind::Close),
+        b',' => Some(MarkKind::Comma),
+        b'@' => Some(MarkKind::At),
+        b'{' => Some(MarkKind::BraceOpen),
+        b'}' => Some(MarkKind::BraceClose),
+        b'(' => Some(MarkKind::BracketOpen),
+        b')' => Some(MarkKind::BracketClose),
+        _ => None,
     }
 }

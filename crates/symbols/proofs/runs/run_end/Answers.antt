@@ -1,16 +1,17 @@
--- The invariant: the run from the present place ends where the run from `at` does. The measure is what is left of the text.
-use mathlib.Core.Path.{refl, sym, ◌∙◌}
-use Rattle.symbols.proofs.Scan.{run_on, run_stop, run_out}
+-- The run ends at the first byte that the closure does not take.
+use Prim.Native.Nat.{ℕ, ◌+◌}
+use mathlib.Core.Path.{◌∙◌, ap}
+use mathlib.Core.Bool.{not}
+use borrow.Author.Rules.{rules}
+use Rattle.std.proofs.lemmas.Iterator.{YieldsList-from_slice}
+use Rattle.std.proofs.lemmas.Iterator.Search.{position_from_yields_List}
+use Rattle.symbols.specs.Symbols.{run_end}
+use Rattle.symbols.proofs.Scan.{run_found}
+use Rattle.symbols.proofs.Parts.{rest_whole}
 use Rattle.symbols.proofs.runs.run_end.Goals as goal
 
-pub loop-i-init : goal.loop-i-init
-loop-i-init c = refl
-
-pub returns-then-not-in_run : goal.returns-then-not-in_run
-returns-then-not-in_run c = sym (run_stop _ _ c.loop-i-test.true _ (sym c.in_run.ensures ∙ c.if-not-in_run.true)) ∙ c.loop-i.invariant
-
-pub loop-i-preserved : goal.loop-i-preserved
-loop-i-preserved c = run_on _ _ c.loop-i-test.true _ (sym c.in_run.ensures ∙ c.if-not-in_run.false) ∙ c.loop-i.invariant
-
 pub returns : goal.returns
-returns c = sym (run_out _ _ _ c.loop-i-test.false) ∙ c.loop-i.invariant
+returns g c p told =
+    ap (λ (k : ℕ). c.args.at + k) c.unwrap_or.ensures
+    ∙ run_found p _ _ (position_from_yields_List (λ b. not (p b)) _ _ _ c.position.ensures.ran (YieldsList-from_slice _ cc) (λ x b q k. (search rules, search (rules, told) parts 8)))
+    ∙ ap (run_end p c.args.at) (rest_whole c.args.at c.args.text.now)

@@ -1,20 +1,21 @@
 -- The part of the text has one byte, and its small letter is from `a` to `z`.
-use Rattle.symbols.proofs.Letters.{letter_none, letter_more, letter_low, letter_high, letter_right}
+use mathlib.Core.Path.{sym, ◌∙◌, ap}
+use native.Mathlib.Omega.{arith}
+use Rattle.symbols.specs.Names.{letter_of}
+use Rattle.symbols.proofs.Letters.{letter_none, letter_more, letter_other, letter_right}
 use Rattle.symbols.proofs.spelling.letter_at.Goals as goal
 
-pub returns-then-end-start : goal.returns-then-end-start
-returns-then-end-start c = letter_none _ _ _ c.within-end.ensures c.if-end-start.true
+pub returns-in_default : goal.returns-in_default
+returns-in_default c = letter_none _ (omega arith) ∙ ap letter_of c.part.ensures
 
-pub returns-then-end-start-ne1 : goal.returns-then-end-start-ne1
-returns-then-end-start-ne1 c = letter_more _ _ _ c.within-end.ensures c.if-end-start.false c.if-end-start-ne1.true
+pub returns-in_default-2 : goal.returns-in_default-2
+returns-in_default-2 c = letter_more _ c.in_default.len_at_least ∙ ap letter_of c.part.ensures
 
-pub returns-then-b-lt97 : goal.returns-then-b-lt97
-returns-then-b-lt97 c = letter_low _ _ _ c.within-end.ensures c.if-end-start.false c.if-end-start-ne1.false c.small-b.ensures c.if-b-lt97.true
-
-pub returns-then-b-gt122 : goal.returns-then-b-gt122
-returns-then-b-gt122 c =
-    letter_high _ _ _ c.within-end.ensures c.if-end-start.false c.if-end-start-ne1.false c.small-b.ensures c.if-b-lt97.false c.if-b-gt122.true
+pub returns-then-not-is_ascii_alphabetic : goal.returns-then-not-is_ascii_alphabetic
+returns-then-not-is_ascii_alphabetic c =
+    letter_other _ (omega arith) (sym c.is_ascii_alphabetic.ensures.value ∙ c.if-not-is_ascii_alphabetic.true) ∙ ap letter_of c.part.ensures
 
 pub returns : goal.returns
 returns c =
-    letter_right _ _ _ c.within-end.ensures c.if-end-start.false c.if-end-start-ne1.false c.small-b.ensures c.if-b-lt97.false c.if-b-gt122.false
+    letter_right _ (omega arith) (sym c.is_ascii_alphabetic.ensures.value ∙ c.if-not-is_ascii_alphabetic.false) c.to_ascii_uppercase.ensures.value
+    ∙ ap letter_of c.part.ensures
