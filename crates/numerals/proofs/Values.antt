@@ -1,37 +1,47 @@
 -- Laws of specs/Numbers.antt: of digits, of a value that is kept at a cap, and of the parts of a number.
 -- Assumes nothing.
-use Prim.Native.Nat.{ℕ, ◌+◌, ◌-◌, ◌*◌, ◌<◌, ◌≤◌, ◌^◌, min}
-use mathlib.Core.Path.{◌≡◌, sym, ◌∙◌, ap}
+use Prim.Native.Nat.{ℕ, zero, suc, ◌+◌, ◌-◌, ◌*◌, ◌<◌, ◌≤◌, ◌^◌, min}
+use mathlib.Core.Path.{◌≡◌, refl, sym, ◌∙◌, ap}
 use mathlib.Core.Logic.{◌⊎◌, inl, inr, ⊎_elim}
 use mathlib.Core.List.{List, [], ◌∷◌}
-use mathlib.Core.Bool.{true, false, not, cond}
+use mathlib.Core.Bool.{Bool, true, false, not, cond, ◌&&◌, ◌||◌, false≢true}
 use native.Mathlib.Nat.{add-zero, min-eq_left, min-eq_right, min-le_right, le-mul_of_pos_right}
 use native.Mathlib.Omega.{arith}
-use native.Mathlib.Decide.{dec_le}
+use native.Mathlib.Decide.{dec_le, dec_lt}
 use borrow.Author.Tests.{lt-leb, le-leb, lt-ltb, le-ltb, eq-eqb, ne_eqb}
 use lib.ListN.{length, get_or, take, drop, drop_of_length-le}
 use lib.Seq.{take_all}
-use lib.Dec.{ltb, eqb}
+use lib.Dec.{ltb, leb, eqb}
 use Rattle.ascii.specs.Ascii.{byte}
-use Rattle.symbols.specs.Bytes.{is_digit, is_hex_digit, small, hash, point}
+use Rattle.symbols.specs.Bytes.{is_digit, is_hex_digit, is_capital, small, hash, point, take_while}
 use Rattle.symbols.proofs.Scan.{drop_here, while_front}
 use Rattle.symbols.proofs.Parts.{rest_whole}
-use Rattle.numerals.specs.declared.WrittenNumber.TheVariants.{Outside, Value}
+use Rattle.std.specs.Prelude.{Option, None, Some, unwrap_or}
+use Rattle.std.specs.Char.{digit_value}
+use Rattle.std.specs.Option.{SomeIff}
+use Rattle.std.specs.List.{position_or_len, list_any}
+use Rattle.std.specs.Ordering.{is_le, nat_cmp}
+use Rattle.std.proofs.lemmas.Bool.Decides.{nat_tests}
+use Rattle.std.proofs.lemmas.Option.{none-some, same_Some}
 use Rattle.numerals.specs.Numbers.{digit_of, numeral_after, numeral, before_point, places, ranged, ten_thousandths, point_of, decimal_of, whole_of}
 
 -- digits
 
-pub digit_decimal : (b : ℕ) → is_digit b ≡ true → b - byte "0" ≡ digit_of b
-unfolding digit_of
-digit_decimal b d = rw d
+digit_is : (b : ℕ) → digit_of b ≡ cond (ltb (digit_value b) 16) (digit_value b) 0
+unfolding digit_of is_digit is_hex_digit small is_capital
+digit_is b = grind (arith, nat_tests)
 
-pub digit_hex : (b : ℕ) → is_digit b ≡ false → is_hex_digit b ≡ true → {s : ℕ} → s ≡ small b → s - byte "a" + 10 ≡ digit_of b
-unfolding digit_of
-digit_hex b d x e = rw (d, x, e)
+pub digit_read : (b : ℕ) {c : ℕ} → c ≡ b → (o : Option ℕ) → SomeIff o (digit_value c < 16) (digit_value c) → {r : ℕ} → r ≡ unwrap_or o 0
+    → (r ≡ digit_of b) × (r < 16)
+digit_read b {c} e o s {r} q = (q ∙ given o s ∙ ap (λ (x : ℕ). cond (ltb (digit_value x) 16) (digit_value x) 0) e ∙ sym (digit_is b), rw q (below o s))
+  where
+    given : (o : Option ℕ) → SomeIff o (digit_value c < 16) (digit_value c) → unwrap_or o 0 ≡ cond (ltb (digit_value c) 16) (digit_value c) 0
+    given None s = let k : 16 ≤ digit_value c = omega (arith, s) in rw (le-ltb _ _ k)
+    given (Some v) s = s.1 ∙ rw (lt-ltb _ _ s.0)
 
-pub digit_none : (b : ℕ) → is_digit b ≡ false → is_hex_digit b ≡ false → 0 ≡ digit_of b
-unfolding digit_of
-digit_none b d x = rw (d, x)
+    below : (o : Option ℕ) → SomeIff o (digit_value c < 16) (digit_value c) → unwrap_or o 0 < 16
+    below None s = omega arith
+    below (Some v) s = omega (arith, s.0, s.1)
 
 -- a value kept at the cap `C`
 
@@ -67,27 +77,45 @@ pub numeral_end : (base v : ℕ) (xs : List ℕ) (i : ℕ) → length xs ≤ i �
 unfolding numeral_after
 numeral_end base v xs i l k = rw (drop_of_length-le xs l) (sym (min-eq_left k))
 
+pub pow_bounds : (n : ℕ) {k : ℕ} → k ≡ 10 ^ (4 - n) → (1 ≤ k) × (k ≤ 10000)
+pow_bounds zero e = (omega (arith, e), omega (arith, e))
+pow_bounds (suc zero) e = (omega (arith, e), omega (arith, e))
+pow_bounds (suc (suc zero)) e = (omega (arith, e), omega (arith, e))
+pow_bounds (suc (suc (suc zero))) e = (omega (arith, e), omega (arith, e))
+pow_bounds (suc (suc (suc (suc n)))) e = let none : 4 - suc (suc (suc (suc n))) ≡ 0 = omega arith in let one = rw none at e in (omega arith, omega arith)
+
 pub capped_le : (x : ℕ) {r : ℕ} → r ≡ min x C → r ≤ C
 capped_le x e = omega arith
 
 -- the range
 
-pub range_low : (low high x : ℕ) → x < low → Outside ≡ ranged low high x
+le_told : (a b : ℕ) → is_le (nat_cmp a b) ≡ leb a b
+le_told a b = grind (arith, nat_tests)
+
+pub range_out : (low high x : ℕ) → (is_le (nat_cmp low x) && is_le (nat_cmp x high)) ≡ false → None ≡ ranged low high x
+unfolding ranged
+range_out low high x h = rw (rw (le_told low x, le_told x high) at h)
+
+pub range_told : (low high x : ℕ) → (is_le (nat_cmp low x) && is_le (nat_cmp x high)) ≡ true → Some x ≡ ranged low high x
+unfolding ranged
+range_told low high x h = rw (rw (le_told low x, le_told x high) at h)
+
+range_low : (low high x : ℕ) → x < low → None ≡ ranged low high x
 unfolding ranged
 range_low low high x h = rw (lt-leb low x h)
 
-pub range_high : (low high x : ℕ) → low ≤ x → high < x → Outside ≡ ranged low high x
+range_high : (low high x : ℕ) → low ≤ x → high < x → None ≡ ranged low high x
 unfolding ranged
 range_high low high x h k = rw (le-leb low x h, lt-leb x high k)
 
-pub range_in : (low high x : ℕ) → low ≤ x → x ≤ high → Value x ≡ ranged low high x
+pub range_in : (low high x : ℕ) → low ≤ x → x ≤ high → Some x ≡ ranged low high x
 unfolding ranged
 range_in low high x h k = rw (le-leb low x h, le-leb x high k)
 
-above : (low high x : ℕ) → high < x → ranged low high x ≡ Outside
+above : (low high x : ℕ) → high < x → ranged low high x ≡ None
 above low high x h = go (dec_le low x)
   where
-    go : Dec (low ≤ x) → ranged low high x ≡ Outside
+    go : Dec (low ≤ x) → ranged low high x ≡ None
     go (yes l) = sym (range_high low high x l h)
     go (no l) = sym (range_low low high x (omega arith))
 
@@ -127,6 +155,62 @@ range_product low high x h = go (dec_le x C)
 
 -- the parts of a decimal number
 
+-- where the point was found, or was not
+point_place : (l : List ℕ) → position_or_len (λ b. eqb b point) l ≡ length (before_point l)
+unfolding before_point take_while
+point_place [] = refl
+point_place (b ∷ rest) = go (not (eqb b point)) (point_place rest)
+  where
+    go : (t : Bool) → position_or_len (λ b. eqb b point) rest ≡ length (take_while (λ b. not (eqb b point)) rest)
+        → cond t (1 + position_or_len (λ b. eqb b point) rest) 0
+        ≡ length {A = ℕ} (elim t [ true ↦ b ∷ take_while (λ b. not (eqb b point)) rest | false ↦ [] ])
+    go true e = rw e (omega arith)
+    go false e = refl
+
+pub before_any : (l : List ℕ) → list_any (λ b. eqb b point) l ≡ true → length (before_point l) < length l
+unfolding before_point take_while
+before_any [] h = absurd (false≢true h)
+before_any (b ∷ rest) h = go (eqb b point) h (before_any rest)
+  where
+    go : (t : Bool) → (t || list_any (λ b. eqb b point) rest) ≡ true
+        → (list_any (λ b. eqb b point) rest ≡ true → length (take_while (λ b. not (eqb b point)) rest) < length rest)
+        → length {A = ℕ} (elim (not t) [ true ↦ b ∷ take_while (λ b. not (eqb b point)) rest | false ↦ [] ]) < suc (length rest)
+    go true h e = omega arith
+    go false h e = omega (arith, e h)
+
+pub before_all : (l : List ℕ) → list_any (λ b. eqb b point) l ≡ false → length l ≤ length (before_point l)
+unfolding before_point take_while
+before_all [] h = omega arith
+before_all (b ∷ rest) h = go (eqb b point) h (before_all rest)
+  where
+    go : (t : Bool) → (t || list_any (λ b. eqb b point) rest) ≡ false
+        → (list_any (λ b. eqb b point) rest ≡ false → length rest ≤ length (take_while (λ b. not (eqb b point)) rest))
+        → suc (length rest) ≤ length {A = ℕ} (elim (not t) [ true ↦ b ∷ take_while (λ b. not (eqb b point)) rest | false ↦ [] ])
+    go true h e = absurd (false≢true (sym h))
+    go false h e = omega (arith, e h)
+
+module _ (l : List ℕ) {r : Option ℕ}
+    (e : r ≡ cond (ltb (position_or_len (λ b. eqb b point) l) (length l)) (Some (position_or_len (λ b. eqb b point) l)) None) where
+  placed : {n : ℕ} → n ≡ length (before_point l) → r ≡ cond (ltb n (length l)) (Some n) None
+  placed q = rw (q, ← (point_place l)) e
+
+  pub found_none : r ≡ None → length l ≤ length (before_point l)
+  found_none q = go (length (before_point l)) refl (dec_lt (length (before_point l)) (length l))
+    where
+      go : (n : ℕ) → n ≡ length (before_point l) → Dec (n < length l) → length l ≤ n
+      go n f (yes h) = let told : None ≡ Some n = sym q ∙ placed f ∙ rw (lt-ltb _ _ h) in absurd (none-some _ told)
+      go n f (no h) = omega arith
+
+  pub found_some : (p : ℕ) → r ≡ Some p → p ≡ length (before_point l)
+  found_some p q = go (length (before_point l)) refl (dec_lt (length (before_point l)) (length l))
+    where
+      go : (n : ℕ) → n ≡ length (before_point l) → Dec (n < length l) → p ≡ n
+      go n f (yes h) = let told : Some p ≡ Some n = sym q ∙ placed f ∙ rw (lt-ltb _ _ h) in same_Some _ _ told
+      go n f (no h) =
+          let k : length l ≤ n = omega arith in
+          let told : None ≡ Some p = sym (sym q ∙ placed f ∙ rw (le-ltb _ _ k)) in
+          absurd (none-some _ told)
+
 -- the point stands at `p`, or `p` is the end
 module _ (number : List ℕ) {p : ℕ} (e : p ≡ length (before_point number)) where
   point_parts : point_of (take p number) (drop (p + 1) number) ≡ point_of (before_point number) (places number)
@@ -149,7 +233,7 @@ module _ (number : List ℕ) {p : ℕ} (e : p ≡ length (before_point number)) 
     point_part : point_of (take p number) part ≡ point_of (before_point number) (places number)
     point_part = rw (f, rest_whole (p + 1) number) point_parts
 
-    pub point_many : 4 < length part → Outside ≡ point_of (before_point number) (places number)
+    pub point_many : 4 < length part → None ≡ point_of (before_point number) (places number)
     unfolding point_of
     point_many h = rw (lt-ltb 4 (length part) h) at point_part
 
@@ -163,8 +247,18 @@ module _ (number : List ℕ) {p : ℕ} (e : p ≡ length (before_point number)) 
     point_some h {v} {w} {k} q r s l =
         rw (q, r) (range_sum _ _ _ _ k (omega arith) l ∙ rw s (rw (le-ltb 4 (length part) h) at point_part))
 
+pub decimal_none : (number : List ℕ) → length number < 1 → None ≡ decimal_of number
+unfolding decimal_of
+decimal_none [] h = refl
+decimal_none (b ∷ rest) h = absurd (omega arith)
+
+pub whole_none : (number : List ℕ) → length number < 1 → (low high : ℕ) → None ≡ whole_of low high number
+unfolding whole_of
+whole_none [] h low high = refl
+whole_none (b ∷ rest) h low high = absurd (omega arith)
+
 -- the first byte of a number
-module _ (number : List ℕ) (h : 0 < length number) where
+module _ (number : List ℕ) (h : 1 ≤ length number) where
   front : number ≡ get_or number 0 0 ∷ drop 1 number
   front = drop_here number 0 h
 
@@ -195,13 +289,13 @@ module _ (number : List ℕ) (h : 0 < length number) where
 
     -- a whole number has no point
     whole_plain : (low high : ℕ)
-        → cond (ltb (length (before_point number)) (length number)) Outside (ranged low high (numeral 10 number)) ≡ whole_of low high number
+        → cond (ltb (length (before_point number)) (length number)) None (ranged low high (numeral 10 number)) ≡ whole_of low high number
     unfolding whole_of
     whole_plain low high =
-        ap (λ (l : List ℕ). cond (ltb (length (before_point l)) (length l)) Outside (ranged low high (numeral 10 l))) front
+        ap (λ (l : List ℕ). cond (ltb (length (before_point l)) (length l)) None (ranged low high (numeral 10 l))) front
         ∙ sym (ap (whole_of low high) front ∙ rw (ne_eqb _ _ n))
 
-    pub whole_point : (low high : ℕ) {p : ℕ} → p ≡ length (before_point number) → p < length number → Outside ≡ whole_of low high number
+    pub whole_point : (low high : ℕ) {p : ℕ} → p ≡ length (before_point number) → p < length number → None ≡ whole_of low high number
     whole_point low high e l = rw (← e, lt-ltb _ _ l) at (whole_plain low high)
 
     pub whole_digits : (low high : ℕ) {p : ℕ} → p ≡ length (before_point number) → length number ≤ p → high < C

@@ -1,29 +1,25 @@
 -- The number is the part of the text; its first byte tells its base.
-use mathlib.Core.Path.{◌∙◌, ap}
+use mathlib.Core.Path.{refl, sym, ◌∙◌, ap}
 use native.Mathlib.Omega.{arith}
 use borrow.Author.Rules.{rules}
 use Rattle.numerals.specs.Numbers.{whole_of}
-use Rattle.symbols.proofs.Parts.{part_none, part_window}
-use Rattle.numerals.proofs.Values.{whole_hex, whole_point, whole_digits}
+use Rattle.numerals.proofs.Values.{whole_none, whole_hex, whole_point, whole_digits, before_any, before_all}
 use Rattle.numerals.proofs.read_whole.Goals as goal
 
-pub returns-then-end-start : goal.returns-then-end-start
-unfolding whole_of
-returns-then-end-start c = rw (part_none _ _ _ c.within-end.ensures c.if-end-start.true)
+pub returns-in-empty : goal.returns-in-empty
+returns-in-empty c = whole_none _ c.in-empty.len_below _ _ ∙ ap (whole_of _ _) c.part.ensures
 
-pub returns-then-number-eq35 : goal.returns-then-number-eq35
-returns-then-number-eq35 c =
-    c.within_range.ensures
-    ∙ whole_hex _ (search rules) c.value_of.ensures c.if-number-eq35.true _ _ (search rules)
-    ∙ ap (whole_of _ _) (part_window _ _ _ c.within-end.ensures (omega arith))
+pub returns-in-35 : goal.returns-in-35
+returns-in-35 c =
+    c.within_range.ensures ∙ whole_hex _ c.in-35.len_at_least c.value_of.ensures (omega arith) _ _ (search rules) ∙ ap (whole_of _ _) c.part.ensures
 
-pub returns-then-find_point-number : goal.returns-then-find_point-number
-returns-then-find_point-number c =
-    whole_point _ (search rules) c.if-number-eq35.false _ _ c.find_point.ensures c.if-find_point-number.true
-    ∙ ap (whole_of _ _) (part_window _ _ _ c.within-end.ensures (omega arith))
+pub returns-in_default : goal.returns-in_default
+returns-in_default c =
+    whole_point _ c.in_default.len_at_least (λ q. omega arith) _ _ refl (before_any _ (sym c.contains.ensures.value ∙ c.if-contains.true))
+    ∙ ap (whole_of _ _) c.part.ensures
 
-pub returns : goal.returns
-returns c =
-    c.within_range-2.ensures
-    ∙ whole_digits _ (search rules) c.if-number-eq35.false _ _ c.find_point.ensures c.if-find_point-number.false (search rules) c.value_of-2.ensures
-    ∙ ap (whole_of _ _) (part_window _ _ _ c.within-end.ensures (omega arith))
+pub returns-in_default-2 : goal.returns-in_default-2
+returns-in_default-2 c =
+    c.within_range-in_default-2.ensures
+    ∙ whole_digits _ c.in_default.len_at_least (λ q. omega arith) _ _ refl (before_all _ (sym c.contains.ensures.value ∙ c.if-contains.false)) (search rules) c.value_of-in_default-2.ensures
+    ∙ ap (whole_of _ _) c.part.ensures

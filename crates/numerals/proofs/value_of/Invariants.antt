@@ -1,14 +1,13 @@
--- The invariant: the value read so far, read on, is up to the cap the value of all digits. The measure is the digits that are left.
-use Prim.Native.Nat.{◌≤◌, ◌-◌, min}
+-- The invariant: the value read so far, read on, is up to the cap the value of all digits.
+use Prim.Native.Nat.{◌≤◌, min}
 use mathlib.Core.Path.{◌≡◌}
-use lib.ListN.{length, drop}
+use lib.ListN.{drop}
 use Rattle.numerals.specs.Numbers.{numeral_after, numeral}
 use Rattle.numerals.proofs.Values.{C}
 use Rattle.numerals.proofs.value_of.Given as goal
 
-abbrev pub invariant-loop-i : goal.invariant-loop-i
-invariant-loop-i l =
-    (l.value ≤ C) × (min (numeral_after l.base l.value (drop l.i l.digits)) C ≡ min (numeral l.base l.digits) C)
-
-abbrev pub decreases-loop-i : goal.decreases-loop-i
-decreases-loop-i l = length l.digits - l.i
+abbrev pub invariant-loop-b : goal.invariant-loop-b
+invariant-loop-b l = record {
+  capped : l.value ≤ C;
+  read : min (numeral_after l.base l.value (drop l.b-index l.digits)) C ≡ min (numeral l.base l.digits) C;
+}

@@ -1,12 +1,12 @@
--- The tests are those of the range.
-use Rattle.numerals.proofs.Values.{range_low, range_high, range_in}
+-- The test is that of the range.
+use mathlib.Core.Path.{sym, ◌∙◌}
+use Rattle.numerals.proofs.Values.{range_out, range_told}
 use Rattle.numerals.proofs.within_range.Goals as goal
 
-pub returns-then-x-low : goal.returns-then-x-low
-returns-then-x-low c = range_low _ _ _ c.if-x-low.true
-
-pub returns-then-high-x : goal.returns-then-high-x
-returns-then-high-x c = range_high _ _ _ c.if-x-low.false c.if-high-x.true
+pub returns-then-not-contains : goal.returns-then-not-contains
+returns-then-not-contains c =
+    range_out _ _ _ (rw (c.new.ensures.start, c.new.ensures.end, c.new.ensures.exhausted) at (sym c.contains.ensures.value ∙ c.if-not-contains.true))
 
 pub returns : goal.returns
-returns c = range_in _ _ _ c.if-x-low.false c.if-high-x.false
+returns c =
+    range_told _ _ _ (rw (c.new.ensures.start, c.new.ensures.end, c.new.ensures.exhausted) at (sym c.contains.ensures.value ∙ c.if-not-contains.false))
