@@ -11,7 +11,6 @@ use lib.Dec.{T, eqb, ltb, ltb→lt, eqb→eq}
 use lib.ListN.{length, get_or, get_or-eq_default}
 use Rattle.grammar.specs.declared.Action.{Action}
 use Rattle.grammar.specs.declared.Action.TheVariants.{Pass}
-use Rattle.grammar.specs.declared.moves.Move.TheVariants.{Missing, To}
 use Rattle.grammar.specs.Syntax.{Terminal, end, nothing, Node, Finish, Rule, rules}
 use Rattle.grammar.specs.Terminals.{terminal_number, same_terminal, is_nothing, picked}
 use Rattle.grammar.specs.Moves.{node_number, nodes, node_at, terminals, terminal_at, action_number, action_at, move_by, move_of, MovesByName, next_by, action_by, next_entry, action_entry, node_count, terminal_count, next_table, action_table, Moves}
@@ -98,11 +97,11 @@ end_at_finish n t {r} e f = go (same_terminal r.symbol end) refl
 
 -- ---- where there is no move
 
-pub past_nodes : (k t : ℕ) → node_count ≤ k → Missing ≡ move_of k t
+pub past_nodes : (k t : ℕ) → node_count ≤ k → None ≡ move_of k t
 unfolding move_of picked rules
 past_nodes k t h = ap (λ (q : Node). move_by (picked (rules q) (terminal_at t))) (sym (get_or-eq_default nodes Finish h))
 
-pub past_terminals : (k t : ℕ) → terminal_count ≤ t → Missing ≡ move_of k t
+pub past_terminals : (k t : ℕ) → terminal_count ≤ t → None ≡ move_of k t
 unfolding move_of
 past_terminals k t h =
     ap move_by (sym (none_at_nothing (node_at k))) ∙ ap (λ (u : Terminal). move_by (picked (rules (node_at k)) u)) (sym (get_or-eq_default terminals nothing h))
@@ -140,18 +139,18 @@ module _ {next acts : List ℕ} (m : Moves next acts) where
     act_at = ap (λ (l : List ℕ). get_or l i 0) m.actions ∙ at action_entry (node_count * terminal_count) i h
 
 module _ (k t i : ℕ) (row : i / terminal_count ≡ k) (column : i % terminal_count ≡ t) {n : ℕ} (next : n ≡ next_entry i) where
-  pub no_move_step : n ≡ 0 → Missing ≡ move_of k t
+  pub no_move_step : n ≡ 0 → None ≡ move_of k t
   unfolding move_of
   no_move_step z = go (picked (rules (node_at k)) (terminal_at t)) refl (next ∙ rw (row, column))
     where
-      go : (o : Option Rule) → picked (rules (node_at k)) (terminal_at t) ≡ o → n ≡ next_by o → Missing ≡ move_by o
+      go : (o : Option Rule) → picked (rules (node_at k)) (terminal_at t) ≡ o → n ≡ next_by o → None ≡ move_by o
       go None e q = refl
       go (Some r) e q = let f = leaving (node_at k) (terminal_at t) e in absurd (omega (arith, f))
 
-  pub moved : (n ≡ 0 → ⊥) → {a : Action} → a ≡ action_at (action_entry i) → To a n ≡ move_of k t
+  pub moved : (n ≡ 0 → ⊥) → {a : Action} → a ≡ action_at (action_entry i) → Some (a, n) ≡ move_of k t
   unfolding move_of
   moved z {a} e = go (picked (rules (node_at k)) (terminal_at t)) (next ∙ rw (row, column)) (e ∙ rw (row, column))
     where
-      go : (o : Option Rule) → n ≡ next_by o → a ≡ action_at (action_by o) → To a n ≡ move_by o
+      go : (o : Option Rule) → n ≡ next_by o → a ≡ action_at (action_by o) → Some (a, n) ≡ move_by o
       go None q f = absurd (z q)
       go (Some r) q f = rw (q, f, action_back r.action)

@@ -5,11 +5,10 @@ use mathlib.Core.List.{List, [], ◌∷◌}
 use mathlib.Core.Path.{◌≡◌, refl, sym, ◌∙◌, subst}
 use Prim.Native.Nat.{ℕ, ◌≤◌}
 use borrow.Author.Tests.{leb-true}
+use Rattle.std.specs.Prelude.{Option, Some, None}
 use lib.Dec.{leb, ltb, eqb}
 use lib.ListN.{length}
 use Rattle.symbols.specs.Bytes.{hash}
-use Rattle.numerals.specs.declared.WrittenNumber.{WrittenNumber}
-use Rattle.numerals.specs.declared.WrittenNumber.TheVariants.{Outside, Value}
 use Rattle.numerals.specs.Numbers.{numeral, before_point, ranged, whole_of}
 use Rattle.grammar.specs.declared.NumberRange.{NumberRange}
 use Rattle.grammar.specs.declared.NumberRange.TheVariants.{Decimal, Whole}
@@ -17,11 +16,11 @@ use Rattle.grammar.specs.Reading.{number_in}
 use Rattle.grammar.specs.Inner.{in_range}
 
 -- what is outside, or at most `high`
-abbrev AtMost : ℕ → WrittenNumber → Type 0
-AtMost high Outside = Unit
-AtMost high (Value v) = v ≤ high
+abbrev AtMost : ℕ → Option ℕ → Type 0
+AtMost high None = Unit
+AtMost high (Some v) = v ≤ high
 
-either : (high : ℕ) (b : Bool) (o p : WrittenNumber) → AtMost high o → AtMost high p → AtMost high (cond b o p)
+either : (high : ℕ) (b : Bool) (o p : Option ℕ) → AtMost high o → AtMost high p → AtMost high (cond b o p)
 either high true o p h k = h
 either high false o p h k = k
 
@@ -29,7 +28,7 @@ ranged_most : (low high x : ℕ) → AtMost high (ranged low high x)
 unfolding ranged
 ranged_most low high x = go (leb low x && leb x high) refl
   where
-    go : (b : Bool) → (leb low x && leb x high) ≡ b → AtMost high (cond b (Value x) Outside)
+    go : (b : Bool) → (leb low x && leb x high) ≡ b → AtMost high (cond b (Some x) None)
     go true e = leb-true x high ((and-eq-true_iff (leb low x) (leb x high)).0 e).1
     go false e = tt
 
@@ -38,8 +37,8 @@ unfolding whole_of
 whole_most low high [] = tt
 whole_most low high (b ∷ rest) =
     either high (eqb b hash) _ _ (ranged_most low high (numeral 16 rest))
-    (either high (ltb (length (before_point (b ∷ rest))) (length (b ∷ rest))) Outside _ tt (ranged_most low high (numeral 10 (b ∷ rest))))
+    (either high (ltb (length (before_point (b ∷ rest))) (length (b ∷ rest))) None _ tt (ranged_most low high (numeral 10 (b ∷ rest))))
 
-pub judged_most : (r : NumberRange) (bytes : List ℕ) {o : WrittenNumber} {v : ℕ} → o ≡ number_in r bytes → o ≡ Value v → in_range r v
+pub judged_most : (r : NumberRange) (bytes : List ℕ) {o : Option ℕ} {v : ℕ} → o ≡ number_in r bytes → o ≡ Some v → in_range r v
 judged_most Decimal bytes e f = tt
 judged_most (Whole low high) bytes e f = subst (AtMost high) (sym e ∙ f) (whole_most low high bytes)

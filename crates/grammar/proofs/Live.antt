@@ -10,7 +10,6 @@ use native.Mathlib.Omega.{arith}
 use lib.Dec.{T, eqb, eqb→eq}
 use Rattle.status.specs.Status.{no_symbol, symbol_not_allowed, number_out_of_range}
 use Rattle.symbols.specs.declared.Symbol.{Symbol}
-use Rattle.numerals.specs.declared.WrittenNumber.{WrittenNumber}
 use Rattle.grammar.specs.declared.NumberUse.{NumberUse}
 use Rattle.grammar.specs.declared.Action.{Action}
 use Rattle.grammar.specs.declared.Outcome.{Outcome}
@@ -148,7 +147,7 @@ module _ (text : List ℕ) (s : Standing) (y : Symbol) where
   named_back t =
       ap (by_rule text s.kept y) t.picks
       ∙ ap (λ (a : Action). then_at t.rule.next (acted text s.kept a (span_of y))) t.reads
-      ∙ ap (λ (w : WrittenNumber). then_at t.rule.next (if_allowed s.kept t.purpose (start_of y) (span_of y) w)) t.is
+      ∙ ap (λ (w : Option ℕ). then_at t.rule.next (if_allowed s.kept t.purpose (start_of y) (span_of y) w)) t.is
       ∙ by t.purpose t.key
     where
       by : (u : NumberUse) → KeyUse u → then_at t.rule.next (used s.kept u t.value (span_of y)) ≡ reading.refuse symbol_not_allowed (start_of y)

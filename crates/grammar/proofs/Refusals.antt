@@ -2,7 +2,7 @@
 -- Assumes nothing.
 use mathlib.Core.Bool.{Bool, true, false, cond}
 use mathlib.Core.List.{List}
-use Rattle.std.specs.Prelude.{Some}
+use Rattle.std.specs.Prelude.{Option, Some, None}
 use mathlib.Core.Path.{◌≡◌, refl}
 use Prim.Native.Nat.{ℕ}
 use lib.Dec.{T, leb, eqb}
@@ -10,8 +10,6 @@ use lib.Seq.{slice}
 use Rattle.status.specs.Status.{symbol_not_allowed, number_out_of_range, item_too_many}
 use Rattle.limits.specs.Limits.{most_harmony_keys, most_placeholders}
 use Rattle.sets.specs.Sets.{has}
-use Rattle.numerals.specs.declared.WrittenNumber.{WrittenNumber}
-use Rattle.numerals.specs.declared.WrittenNumber.TheVariants.{Outside, Value}
 use Rattle.grammar.specs.declared.Kind.TheVariants.{Order as AnOrder}
 use Rattle.grammar.specs.declared.NumberUse.{NumberUse}
 use Rattle.grammar.specs.declared.NumberUse.TheVariants.{RatioFirst, RatioSecond, Degree, Radicand, FirstFactor, Factor, Frequency, AnchorKey, Amount, Key, StarredKey, Argument}
@@ -55,7 +53,7 @@ module _ (text : List ℕ) (s : Progress) (x : Span) where
   pub data Why (a : Action) : ℕ → Type 0 where
     outside : Why a number_out_of_range
     full : Why a item_too_many
-    again : {u : NumberUse} {v : ℕ} → KeyUse u → a ≡ Number u → judged u (slice x.start x.end text) ≡ Value v → has s.keys v ≡ true
+    again : {u : NumberUse} {v : ℕ} → KeyUse u → a ≡ Number u → judged u (slice x.start x.end text) ≡ Some v → has s.keys v ≡ true
         → Why a symbol_not_allowed
     held_key : {u : NumberUse} → KeyUse u → a ≡ Held u → Why a symbol_not_allowed
 
@@ -94,12 +92,12 @@ module _ (text : List ℕ) (s : Progress) (x : Span) where
   used_why a Argument v k = full_why a most_placeholders s.bracketed _ tt
 
   numbered_why : (a : Action) (u : NumberUse) (from to : ℕ)
-      → ((v : ℕ) → judged u (slice from to text) ≡ Value v → KeyUse u → has s.keys v ≡ true → Why a symbol_not_allowed) → Explained a (numbered text s u from to x)
+      → ((v : ℕ) → judged u (slice from to text) ≡ Some v → KeyUse u → has s.keys v ≡ true → Why a symbol_not_allowed) → Explained a (numbered text s u from to x)
   numbered_why a u from to k = go (judged u (slice from to text)) refl
     where
-      go : (w : WrittenNumber) → judged u (slice from to text) ≡ w → Explained a (if_allowed s u from x w)
-      go Outside e = outside
-      go (Value v) e = used_why a u v (k v e)
+      go : (w : Option ℕ) → judged u (slice from to text) ≡ w → Explained a (if_allowed s u from x w)
+      go None e = outside
+      go (Some v) e = used_why a u v (k v e)
 
   pub acted_why : (a : Action) → Explained a (acted text s a x)
   unfolding acted

@@ -6,6 +6,7 @@ use Rattle.std.specs.Prelude.{Option, Some, None}
 use mathlib.Core.Path.{◌≡◌, refl, sym, ◌∙◌, ap, subst}
 use Prim.Native.Nat.{ℕ, ◌+◌, ◌-◌, ◌*◌, ◌^◌, ◌≤◌, ◌<◌}
 use native.Mathlib.Omega.{arith}
+use Rattle.std.proofs.lemmas.Option.{same_Some}
 use borrow.Author.Tests.{eq-eqb, ne_eqb, le-leb, lt-leb}
 use lib.Dec.{leb, eqb}
 use lib.ListN.{length, length-append}
@@ -17,11 +18,7 @@ use Rattle.symbols.specs.declared.Symbol.{Symbol}
 use Rattle.symbols.specs.declared.Symbol.TheVariants.{Bad, End, Name as NameSymbol, Number as NumberSymbol, Mark as MarkSymbol}
 use Rattle.symbols.specs.declared.words.Word.{Word}
 use Rattle.symbols.specs.Words.{word_of}
-use Rattle.symbols.specs.declared.spelling.Letter.{Letter as Spelled}
-use Rattle.symbols.specs.declared.spelling.Letter.TheVariants as spelling
 use Rattle.symbols.specs.Names.{spelled, letter_of}
-use Rattle.numerals.specs.declared.WrittenNumber.{WrittenNumber}
-use Rattle.numerals.specs.declared.WrittenNumber.TheVariants.{Outside, Value}
 use Rattle.symbols.specs.Symbols.{next_symbol, after, symbols_from, symbols}
 use Rattle.symbols.proofs.Progress.{Placed as Within, next_placed, after_within, going_on, symbols_next}
 use Rattle.grammar.specs.declared.Kind.{Kind}
@@ -37,11 +34,10 @@ use Rattle.grammar.specs.declared.Progress.{Progress}
 use Rattle.grammar.specs.declared.Span.{Span}
 use Rattle.grammar.specs.declared.Outcome.{Outcome}
 use Rattle.grammar.specs.declared.Outcome.TheVariants.{Go, Give, Refuse}
-use Rattle.grammar.specs.declared.moves.Move.TheVariants.{Missing, To}
 use Rattle.grammar.specs.declared.reading.Reading.{Reading}
 use Rattle.grammar.specs.Syntax.{Terminal, end, nothing, Node, Begin, Finish, Rule, rules}
 use Rattle.grammar.specs.Terminals.{terminal_number, picked, of_letter, terminal_of, start_of, end_of, span_of}
-use Rattle.grammar.specs.Moves.{node_number, move_by, move_of}
+use Rattle.grammar.specs.Moves.{Move, node_number, move_by, move_of}
 use Rattle.grammar.specs.Reading.{Read, limit, most_terms, most_positions, so_far, one_more, with_counts, with_positions, no_term, next_term, unless_full, counted, positioned, judged, used, if_allowed, numbered, acted, standing, Moved, then_at, not_allowed, by_rule, stepped, begun, with, refused_at, read_from, most_bytes, read_items, answered, with_keys, with_key, with_bracketed, in_brackets, key_counted, key_named, order_counted}
 use Rattle.grammar.specs.Reading as reading
 use Rattle.grammar.specs.Items.{row, row_size, rows, holding, item_slots}
@@ -52,10 +48,10 @@ use Rattle.grammar.proofs.Rows.{holding_more, length_holding}
 -- ---- a step by its move
 
 module _ (n : Node) (t : Terminal) where
-  no_rule : Missing ≡ move_of (node_number n) (terminal_number t) → picked (rules n) t ≡ None
+  no_rule : None ≡ move_of (node_number n) (terminal_number t) → picked (rules n) t ≡ None
   no_rule e = go (picked (rules n) t) (e ∙ moves_by_name n t)
     where
-      go : (o : Option Rule) → Missing ≡ move_by o → o ≡ None
+      go : (o : Option Rule) → None ≡ move_by o → o ≡ None
       go None q = refl
       go (Some r) q = let z : ◌≡◌ {A = ℕ} 0 1 = cc in absurd (omega arith)
 
@@ -66,12 +62,14 @@ module _ (n : Node) (t : Terminal) where
     does : a ≡ rule.action
     leads : k ≡ node_number rule.next
 
-  ruled : {a : Action} {k : ℕ} → To a k ≡ move_of (node_number n) (terminal_number t) → Ruled a k
+  ruled : {a : Action} {k : ℕ} → Some (a, k) ≡ move_of (node_number n) (terminal_number t) → Ruled a k
   ruled {a} {k} e = go (picked (rules n) t) refl (e ∙ moves_by_name n t)
     where
-      go : (o : Option Rule) → picked (rules n) t ≡ o → To a k ≡ move_by o → Ruled a k
+      go : (o : Option Rule) → picked (rules n) t ≡ o → Some (a, k) ≡ move_by o → Ruled a k
       go None p q = let z : ◌≡◌ {A = ℕ} 0 1 = cc in absurd (omega arith)
-      go (Some r) p q = record { rule = r; picks = p; does = cc; leads = cc }
+      go (Some r) p q =
+          let same = same_Some (a, k) (r.action, node_number r.next) q in
+          record { rule = r; picks = p; does = ap (λ (m : Move). m.0) same; leads = ap (λ (m : Move). m.1) same }
 
 -- ---- an action adds at most one term
 
@@ -121,9 +119,9 @@ used_grown s Argument v x = bracketed_grown s _ x
 numbered_grown : (text : List ℕ) (s : Progress) (u : NumberUse) (a b : ℕ) (x : Span) → Grown s.term.before (numbered text s u a b x)
 numbered_grown text s u a b x = go (judged u (slice a b text))
   where
-    go : (v : WrittenNumber) → Grown s.term.before (if_allowed s u a x v)
-    go Outside = tt
-    go (Value v) = used_grown s u v x
+    go : (v : Option ℕ) → Grown s.term.before (if_allowed s u a x v)
+    go None = tt
+    go (Some v) = used_grown s u v x
 
 order_grown : (s : Progress) (x : Span) (o : Outcome) → Grown s.term.before o → Grown s.term.before (order_counted s x o)
 order_grown s x o h = full_grown s.term.before (limit AnOrder) (so_far AnOrder s.counts) x o h
@@ -161,9 +159,9 @@ none_after_end : (text : List ℕ) (y : Symbol) → terminal_of text y ≡ end �
 unfolding after terminal_of
 none_after_end text (NameSymbol a b) e = absurd (go (letter_of (slice a b text)) (word_of (spelled (slice a b text))) e)
   where
-    go : (l : Spelled) (w : Word) → of_letter l w ≡ end → ⊥
-    go spelling.Missing w q = (word_apart w).1 q
-    go (spelling.Capital c) w q = let z = ap terminal_number q in omega arith
+    go : (l : Option ℕ) (w : Word) → of_letter l w ≡ end → ⊥
+    go None w q = (word_apart w).1 q
+    go (Some c) w q = let z = ap terminal_number q in omega arith
 none_after_end text (NumberSymbol a b) e = let z = ap terminal_number e in absurd (omega arith)
 none_after_end text (MarkSymbol k a b) e = absurd ((mark_apart k).1 e)
 none_after_end text (End p) e = refl
@@ -429,14 +427,14 @@ module _ {text before items : List ℕ} {s : Progress} {node at count : ℕ} (w 
     fits = spans_fit (w.midway n) ey
 
     module _ {t : ℕ} (et : t ≡ terminal_number (terminal_of text y)) {x : Span} (ex : x ≡ span_of y) where
-      pub walk_unruled : Missing ≡ move_of node t → {k : ℕ} → k ≡ cond (eqb t (terminal_number nothing)) no_symbol symbol_not_allowed
+      pub walk_unruled : None ≡ move_of node t → {k : ℕ} → k ≡ cond (eqb t (terminal_number nothing)) no_symbol symbol_not_allowed
           → Answer text before items count k x.start
       walk_unruled e {k} ek =
           let q = no_rule w.stands (terminal_of text y) (e ∙ rw (w.number, et)) in
           rw (ex, ek, et) (unruled (w.midway n) ey q)
 
       -- its move's action leads to o
-      module _ {a : Action} {k : ℕ} (e : To a k ≡ move_of node t) {o : Outcome} (eo : o ≡ acted text s a x) where
+      module _ {a : Action} {k : ℕ} (e : Some (a, k) ≡ move_of node t) {o : Outcome} (eo : o ≡ acted text s a x) where
         by : Ruled w.stands (terminal_of text y) a k
         by = ruled w.stands (terminal_of text y) (e ∙ rw (w.number, et))
 

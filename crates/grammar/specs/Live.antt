@@ -5,7 +5,6 @@ use Rattle.std.proofs.Math.Seq.{slice}
 use Rattle.status.specs.Status.{no_symbol, symbol_not_allowed, number_out_of_range, item_too_many}
 use Rattle.sets.specs.Sets.{has}
 use Rattle.symbols.specs.declared.Symbol.{Symbol}
-use Rattle.numerals.specs.declared.WrittenNumber.TheVariants.{Outside, Value}
 use Rattle.grammar.specs.declared.NumberUse.{NumberUse}
 use Rattle.grammar.specs.declared.NumberUse.TheVariants.{Key, StarredKey}
 use Rattle.grammar.specs.declared.Action.TheVariants.{Number}
@@ -44,7 +43,7 @@ pub record NamedTwice (text : List ℕ) (s : Standing) (y : Symbol) : Type 0 whe
   pub key : KeyUse purpose
   pub reads : rule.action ≡ Number purpose
   pub value : ℕ
-  pub is : judged purpose (slice (start_of y) (end_of y) text) ≡ Value value
+  pub is : judged purpose (slice (start_of y) (end_of y) text) ≡ Some value
   pub named : has s.kept.keys value ≡ true
 
 -- a number "out of range, too many places, or a point where whole is asked": a continuation allows a number, and not this one
@@ -53,7 +52,7 @@ pub record UnfitNumber (text : List ℕ) (s : Standing) (y : Symbol) : Type 0 wh
   pub picks : picked (rules s.node) (terminal_of text y) ≡ Some rule
   pub purpose : NumberUse
   pub reads : rule.action ≡ Number purpose
-  pub outside : judged purpose (slice (start_of y) (end_of y) text) ≡ Outside
+  pub outside : judged purpose (slice (start_of y) (end_of y) text) ≡ None
 
 -- after symbols of which none is refused, a further symbol y is refused with 3, at its place, just where with it there is no continuation, or it names a
 -- number twice

@@ -11,8 +11,6 @@ use Rattle.grammar.specs.declared.MarkUse.{MarkUse}
 use Rattle.grammar.specs.declared.MarkUse.TheVariants.{MutedPosition, KeptPosition, KeptAnchor, KeptWidth, Period, Onward, Star}
 use Rattle.grammar.specs.declared.Action.{Action}
 use Rattle.grammar.specs.declared.Action.TheVariants.{Pass, Declare, Hold, Held, Number, Sign, Name, Mark, Letter, CountOrder}
-use Rattle.grammar.specs.declared.moves.Move.{Move}
-use Rattle.grammar.specs.declared.moves.Move.TheVariants.{Missing, To}
 use Rattle.grammar.specs.Syntax.{Terminal, interval, tone, tonesystem, retuning, logic, key, root, harmony, unused, letter, name, number, equals, colon, plus, minus, times, divide, opening, closing, comma, at, brace_open, brace_close, bracket_open, bracket_close, width_open, width_close, arrow, end, nothing, Node, Begin, Finish, IntervalName, IntervalEquals, IntervalBody, IntervalKind, SecondPart, RootRadicand, IntervalSign, IntervalTerm, IntervalTermName, IntervalNext, ToneName, ToneEquals, ToneBody, ToneSign, ToneTerm, ToneTermName, ToneNext, SystemName, SystemEquals, SystemAnchor, SystemOpen, SystemFirst, SystemPosition, SystemComma, SystemPeriod, SystemSign, SystemTerm, SystemTermName, RetuningName, RetuningEquals, RetuningBody, RetuningInside, RetuningNext, AnchorOperator, AnchorPlusNumber, AnchorMinusNumber, AnchorOpen, AnchorClose, WidthBody, WidthOperator, WidthPlusNumber, WidthMinusNumber, WidthTimesNumber, WidthOverNumber, WidthClose, WidthBracket, PeriodBody, PeriodSign, PeriodTerm, PeriodTermName, TonesSign, TonesTerm, TonesTermName, TonesPosition, LogicName, LogicTrigger, LogicLetter, LogicEquals, LogicStart, LogicOpen, OrderTrigger, OrderLetter, OrderArrow, OrderName, LogicNext, HarmonyName, HarmonyEquals, HarmonyOpen, HarmonyKey, HarmonyStarred, HarmonyComma, HarmonyNext, PlaceholderName, PlaceholderComma, PlaceholderEquals, StartNumber, StartComma, StartOpen, OrderCalled, OrderNumber, OrderComma, Rule, rules}
 use Rattle.grammar.specs.Terminals.{terminal_number, picked}
 use Rattle.grammar.specs.Items.{form_number}
@@ -233,14 +231,17 @@ action_number (Number u) = 96 + number_use_number u
 action_number (Name u) = 128 + name_use_number u
 action_number (Mark u) = 160 + mark_use_number u
 
--- ---- a move: a rule's action and its next node's number, if there is a rule
+-- ---- a move: a rule's action and its next node's number
 
-abbrev pub move_by : Option Rule → Move
-move_by None = Missing
-move_by (Some r) = To r.action (node_number r.next)
+abbrev pub Move : Type 0
+Move = Action × ℕ
+
+abbrev pub move_by : Option Rule → Option Move
+move_by None = None
+move_by (Some r) = Some (r.action, node_number r.next)
 
 -- at the numbers of a node and of a terminal
-unfoldable pub move_of : ℕ → ℕ → Move
+unfoldable pub move_of : ℕ → ℕ → Option Move
 move_of node terminal = move_by (picked (rules (node_at node)) (terminal_at terminal))
 
 -- the numbers stand for the names: the move there is that of the rule which is picked by name (`moves_by_name` of proofs/Diagrams.antt)

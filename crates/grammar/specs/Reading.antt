@@ -3,8 +3,6 @@ use Rattle.std.specs.Prelude.{Bool, true, false, cond, List, [], ◌∷◌, ℕ,
 use Rattle.std.proofs.Math.Seq.{slice}
 use Rattle.status.specs.Status.{done, text_too_long, no_symbol, symbol_not_allowed, number_out_of_range, item_too_many}
 use Rattle.numerals.specs.Numbers.{decimal_of, whole_of}
-use Rattle.numerals.specs.declared.WrittenNumber.{WrittenNumber}
-use Rattle.numerals.specs.declared.WrittenNumber.TheVariants.{Outside, Value}
 use Rattle.grammar.specs.declared.Kind.{Kind}
 use Rattle.grammar.specs.declared.Kind.TheVariants.{Interval, Tone, System, Retuning, Logic, Order as AnOrder, Harmony}
 use Rattle.grammar.specs.declared.Form.{Form}
@@ -67,11 +65,11 @@ allowed StarredKey = Whole 0 most_harmony_key
 allowed Argument = Whole 0 most_amount
 
 -- the value of the number that these bytes write, if it is in a range
-abbrev pub number_in : NumberRange → List ℕ → WrittenNumber
+abbrev pub number_in : NumberRange → List ℕ → Option ℕ
 number_in Decimal bytes = decimal_of bytes
 number_in (Whole low high) bytes = whole_of low high bytes
 
-abbrev pub judged : NumberUse → List ℕ → WrittenNumber
+abbrev pub judged : NumberUse → List ℕ → Option ℕ
 judged u bytes = number_in (allowed u) bytes
 
 -- "intervals, tones: 256 each; tone systems, logics: 32 each; retunings: 128; orders in all logics together: 512"; "at most 64 harmonies"
@@ -228,9 +226,9 @@ used s StarredKey v x = key_named s v (item.StarredKey v) x
 used s Argument v x = in_brackets s (item.Argument v) x
 
 -- "number out of range, too many places, or a point where whole is asked; its place": the number from `start` to `end`
-abbrev pub if_allowed : Progress → NumberUse → ℕ → Span → WrittenNumber → Outcome
-if_allowed s u start x Outside = Refuse number_out_of_range start
-if_allowed s u start x (Value v) = used s u v x
+abbrev pub if_allowed : Progress → NumberUse → ℕ → Span → Option ℕ → Outcome
+if_allowed s u start x None = Refuse number_out_of_range start
+if_allowed s u start x (Some v) = used s u v x
 
 abbrev pub numbered : List ℕ → Progress → NumberUse → ℕ → ℕ → Span → Outcome
 numbered text s u start end x = if_allowed s u start x (judged u (slice start end text))

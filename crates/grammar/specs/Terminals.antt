@@ -1,5 +1,5 @@
 -- The rule for a terminal; and of a symbol of the text, its terminal and its place.
-use Rattle.std.specs.Prelude.{Bool, true, false, List, [], ◌∷◌, ℕ, eqb, Option, Some, None}
+use Rattle.std.specs.Prelude.{Bool, true, false, List, [], ◌∷◌, ℕ, eqb, Option, Some, None, unwrap_or}
 use Rattle.std.proofs.Math.Seq.{slice}
 use Rattle.symbols.specs.declared.Symbol.{Symbol}
 use Rattle.symbols.specs.declared.Symbol.TheVariants as symbol
@@ -8,8 +8,6 @@ use Rattle.symbols.specs.declared.MarkKind.TheVariants as mark
 use Rattle.symbols.specs.declared.words.Word.{Word}
 use Rattle.symbols.specs.declared.words.Word.TheVariants as word
 use Rattle.symbols.specs.Words.{word_of}
-use Rattle.symbols.specs.declared.spelling.Letter.{Letter}
-use Rattle.symbols.specs.declared.spelling.Letter.TheVariants.{Missing, Capital}
 use Rattle.symbols.specs.Names.{spelled, letter_of}
 use Rattle.grammar.specs.declared.Span.{Span}
 use Rattle.grammar.specs.Syntax.{Terminal, interval, tone, tonesystem, retuning, logic, key, root, harmony, unused, letter, name, number, equals, colon, plus, minus, times, divide, opening, closing, comma, at, brace_open, brace_close, bracket_open, bracket_close, width_open, width_close, arrow, end, nothing, Rule}
@@ -75,9 +73,9 @@ of_word word.Unused = unused
 of_word word.Plain = name
 
 -- "A letter is a one-letter name from a to z."; no reserved word is one
-abbrev pub of_letter : Letter → Word → Terminal
-of_letter (Capital c) w = letter
-of_letter Missing w = of_word w
+abbrev pub of_letter : Option ℕ → Word → Terminal
+of_letter (Some c) w = letter
+of_letter None w = of_word w
 
 abbrev pub of_name : List ℕ → Terminal
 of_name letters = of_letter (letter_of letters) (word_of (spelled letters))
@@ -127,9 +125,5 @@ abbrev pub span_of : Symbol → Span
 span_of y = record { start = start_of y; end = end_of y }
 
 -- the letter that a one-letter name is, as a capital
-abbrev pub capital : Letter → ℕ
-capital Missing = 0
-capital (Capital c) = c
-
 abbrev pub letter_at : List ℕ → Span → ℕ
-letter_at text x = capital (letter_of (slice x.start x.end text))
+letter_at text x = unwrap_or (letter_of (slice x.start x.end text)) 0

@@ -16,9 +16,7 @@ use limits::{
     MOST_HARMONIES, MOST_HARMONY_KEY, MOST_HARMONY_KEYS, MOST_INTERVALS, MOST_LOGICS, MOST_ORDERS,
     MOST_PLACEHOLDERS, MOST_POSITIONS, MOST_RETUNINGS, MOST_SYSTEMS, MOST_TERMS, MOST_TONE_NAMES,
 };
-use numerals::WrittenNumber;
 use symbols::spelling;
-use symbols::spelling::Letter;
 
 const MOST_ANCHOR_KEY: u32 = MOST_ANCHOR as u32;
 
@@ -270,10 +268,7 @@ fn use_mark(s: Progress, purpose: MarkUse, x: Span) -> Outcome
 fn read_letter(text: &[u8], x: Span) -> u32
     ensures { result ≡ letter_at text.now x }
 {
-    let Letter::Capital(letter) = spelling::letter_at(text, x.start as usize, x.end as usize) else {
-        return 0;
-    };
-    letter as u32
+    spelling::letter_at(text, x.start as usize, x.end as usize).map_or(0, u32::from)
 }
 
 // An interval's first number is judged later.
@@ -332,7 +327,7 @@ fn range_of(purpose: NumberUse) -> NumberRange
 }
 
 // The number from `start` to `end`, where its use allows it.
-fn judge(text: &[u8], purpose: NumberUse, start: usize, end: usize) -> WrittenNumber
+fn judge(text: &[u8], purpose: NumberUse, start: usize, end: usize) -> Option<u32>
     ensures { result ≡ judged purpose (slice start end text.now) }
 {
     match range_of(purpose) {
@@ -373,7 +368,7 @@ fn read_number(
     requires { room_for_term s }
     ensures { result ≡ numbered text.now s purpose start end x }
 {
-    let WrittenNumber::Value(value) = judge(text, purpose, start as usize, end as usize) else {
+    let Some(value) = judge(text, purpose, start as usize, end as usize) else {
         return Outcome::Refuse {
             number: status::NUMBER_OUT_OF_RANGE,
             place: start,

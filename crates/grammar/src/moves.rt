@@ -184,30 +184,23 @@ pub const ACTIONS: [u8; 2573] = *b"\
     \x00\x00\x00\x00\x00\x00\x00\x00\x00\x00\x00\x72\x00\x00\x00\x00\x00\x00\x00\x00\x00\x00\x00\x00\x00\x00\x00\x00\x00\x00\x00\
     \x00\x00\x00\x00\x00\x00\x00\x00\x00\x00\x00\x00\x00\x00\x00\x00\x00\x00\x00\x00\x00\x00\x00\x00\x00\x00\x00\x00\x00\x00\x00";
 
-// What may be done at a symbol: nothing, or an action and then the next node.
-#[derive(Clone, Copy)]
-pub enum Move {
-    Missing,
-    To(Action, u8),
-}
-
-// The move at a node on a terminal, by the tables `NEXT` and `ACTIONS`.
-pub fn move_at(next: &[u8], acts: &[u8], node: u8, terminal: u8) -> Move
+// What is done at a node on a terminal, and then the next node, by the tables `NEXT` and `ACTIONS`.
+pub fn move_at(next: &[u8], acts: &[u8], node: u8, terminal: u8) -> Option<(Action, u8)>
     requires { Moves next.now acts.now }
     ensures { result ≡ move_of node terminal }
 {
     if NODES <= node {
-        return Move::Missing;
+        return None;
     }
     if TERMINALS <= terminal {
-        return Move::Missing;
+        return None;
     }
     let place = node as usize * TERMINALS as usize + terminal as usize;
     let then = next[place];
     if then == 0 {
-        return Move::Missing;
+        return None;
     }
-    Move::To(action_at(acts[place]), then)
+    Some((action_at(acts[place]), then))
 }
 
 fn kind_at(index: u8) -> Kind

@@ -8,12 +8,10 @@ ghost use Rattle.grammar.specs.Reading.{begun, most_bytes, read_items, answered}
 ghost use Rattle.grammar.specs.Moves.{Moves};
 ghost use Rattle.grammar.specs.Items.{holding, item_slots};
 
-use crate::moves::Move;
 use crate::{
     Counts, FirstNumber, NextTerm, Outcome, Progress, Span, actions, items, moves, terminals,
 };
 use limits::MOST_BYTES;
-use symbols::spelling::Letter;
 use symbols::{Symbol, spelling, words};
 
 // The node at which a text begins, and the one at which it is complete.
@@ -32,9 +30,9 @@ pub struct Reading {
 fn terminal_of_name(text: &[u8], start: usize, end: usize) -> u8
     ensures { result ≡ terminal_number (of_name (slice start end text.now)) }
 {
-    let Letter::Missing = spelling::letter_at(text, start, end) else {
+    if spelling::letter_at(text, start, end).is_some() {
         return terminals::LETTER;
-    };
+    }
     terminals::of_word(words::word_at(text, start, end))
 }
 
@@ -137,7 +135,7 @@ fn read_symbols(text: &[u8], next: &[u8], acts: &[u8], items: &mut [u32]) -> Rea
         let symbol = reader::find_symbol(text, at);
         let terminal = terminal_of(text, symbol);
         let x = span_of(symbol);
-        let Move::To(action, then) = moves::move_at(next, acts, node, terminal) else {
+        let Some((action, then)) = moves::move_at(next, acts, node, terminal) else {
             return answer(count, refusal_of(terminal), x.start);
         };
         at = x.end as usize;

@@ -11,12 +11,12 @@ returns-in_default c =
     )
 
 pub use_number-requires : goal.use_number-requires
-use_number-requires c = (c.requires, judged_most (allowed c.args.purpose) _ c.judge.ensures c.in-Value.is)
+use_number-requires c = (c.requires, judged_most (allowed c.args.purpose) _ c.judge.ensures c.in-Some.is)
 
 pub returns : goal.returns
 returns c =
     simp (
       ← c.use_number.ensures,
-      c.in-Value.is,
+      c.in-Some.is,
       ← c.judge.ensures,
     )

@@ -28,27 +28,27 @@ shape_of-items-in-Refuse c = c.loop-node.invariant.same_size
 
 pub returns-in-Refuse : goal.returns-in-Refuse
 returns-in-Refuse c =
-    let a = walk_refused c.loop-node.invariant c.loop-node-test.true c.find_symbol-symbol.ensures c.terminal_of-terminal.ensures c.span_of-x.ensures (sym c.in-To.is ∙ c.move_at.ensures) c.act.ensures c.in-Refuse.is in
+    let a = walk_refused c.loop-node.invariant c.loop-node-test.true c.find_symbol-symbol.ensures c.terminal_of-terminal.ensures c.span_of-x.ensures (sym c.in-Some.is ∙ c.move_at.ensures) c.act.ensures c.in-Refuse.is in
     (c.answer-in-Refuse.ensures ∙ a.0, a.1)
 
 pub loop-node-smaller-in-Go : goal.loop-node-smaller-in-Go
 loop-node-smaller-in-Go c =
-    (walks_on c.loop-node.invariant c.loop-node-test.true c.find_symbol-symbol.ensures c.terminal_of-terminal.ensures c.span_of-x.ensures (sym c.in-To.is ∙ c.move_at.ensures) c.act.ensures c.in-Go.is).0
+    (walks_on c.loop-node.invariant c.loop-node-test.true c.find_symbol-symbol.ensures c.terminal_of-terminal.ensures c.span_of-x.ensures (sym c.in-Some.is ∙ c.move_at.ensures) c.act.ensures c.in-Go.is).0
 
 pub loop-node-preserved-in-Go : goal.loop-node-preserved-in-Go
 loop-node-preserved-in-Go c =
-    (walks_on c.loop-node.invariant c.loop-node-test.true c.find_symbol-symbol.ensures c.terminal_of-terminal.ensures c.span_of-x.ensures (sym c.in-To.is ∙ c.move_at.ensures) c.act.ensures c.in-Go.is).1
+    (walks_on c.loop-node.invariant c.loop-node-test.true c.find_symbol-symbol.ensures c.terminal_of-terminal.ensures c.span_of-x.ensures (sym c.in-Some.is ∙ c.move_at.ensures) c.act.ensures c.in-Go.is).1
 
 pub overflow_add-count : goal.overflow_add-count
 overflow_add-count c = omega (arith, (enough_room c.loop-node.invariant c.loop-node-test.true).1)
 
 pub loop-node-smaller : goal.loop-node-smaller
 loop-node-smaller c =
-    (walks_with c.loop-node.invariant c.loop-node-test.true c.find_symbol-symbol.ensures c.terminal_of-terminal.ensures c.span_of-x.ensures (sym c.in-To.is ∙ c.move_at.ensures) c.act.ensures c.in-Give.is c.store_item.ensures).0
+    (walks_with c.loop-node.invariant c.loop-node-test.true c.find_symbol-symbol.ensures c.terminal_of-terminal.ensures c.span_of-x.ensures (sym c.in-Some.is ∙ c.move_at.ensures) c.act.ensures c.in-Give.is c.store_item.ensures).0
 
 pub loop-node-preserved : goal.loop-node-preserved
 loop-node-preserved c =
-    (walks_with c.loop-node.invariant c.loop-node-test.true c.find_symbol-symbol.ensures c.terminal_of-terminal.ensures c.span_of-x.ensures (sym c.in-To.is ∙ c.move_at.ensures) c.act.ensures c.in-Give.is c.store_item.ensures).1
+    (walks_with c.loop-node.invariant c.loop-node-test.true c.find_symbol-symbol.ensures c.terminal_of-terminal.ensures c.span_of-x.ensures (sym c.in-Some.is ∙ c.move_at.ensures) c.act.ensures c.in-Give.is c.store_item.ensures).1
 
 pub shape_of-items : goal.shape_of-items
 shape_of-items c = c.loop-node.invariant.same_size
