@@ -9,7 +9,7 @@ pub fn highest_bit(n: u32) -> u32
     requires { 0 < n }
     ensures { (result ≡ highest_bit n) × (2 ^ result ≤ n) × (n < 2 ^ (result + 1)) }
 {
-    31 - u32::leading_zeros(n)
+    31 - n.leading_zeros()
 }
 
 // The squaring of a turn.
@@ -26,8 +26,7 @@ pub fn logarithm_of(n: u32) -> u64
     let k = highest_bit(n);
     let mut m = n << (31 - k);
     let mut bits = k as u64;
-    let mut left = TURNS;
-    while 0 < left {
+    for _ in 0..TURNS {
         let q = square(m) / 0x8000_0000;
         if q < 0x1_0000_0000 {
             m = q as u32;
@@ -36,7 +35,6 @@ pub fn logarithm_of(n: u32) -> u64
             m = (q / 2) as u32;
             bits = 2 * bits + 1;
         }
-        left -= 1;
     }
     bits
 }
