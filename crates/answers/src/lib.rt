@@ -82,9 +82,7 @@ fn put_tones(buf: &mut [u8], s: State)
     let width = s.width as usize;
     let mut i: usize = 0;
     while i < width {
-        let p = s.tones[i];
-        let tone = p.tone;
-        put_four(buf, TONES_AT + TONE_BYTES * i, sound_bits(tone));
+        put_four(buf, TONES_AT + TONE_BYTES * i, sound_bits(s.tones[i]));
         i += 1;
     }
 }

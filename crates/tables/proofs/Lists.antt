@@ -1,11 +1,11 @@
 -- Lists: set to one value, filled up to a full size, and two joined to one. Assumes nothing.
 use mathlib.Core.Path.{◌≡◌, refl, sym, ap, ◌∙◌}
-use mathlib.Core.List.{List, [], ◌∷◌, ◌++◌, map, map-append, append-nil}
+use mathlib.Core.List.{List, [], ◌∷◌, ◌++◌, map, append-nil}
 use Prim.Native.Nat.{ℕ, suc, ◌+◌, ◌-◌, ◌≤◌, ◌<◌}
 use native.Mathlib.Numerals.{add-one}
 use native.Mathlib.Omega.{arith}
 use lib.IntN.{ℤ, pos}
-use lib.ListN.{length, length-append, length-drop, length-map, length-replicate, replicate, replicate-append-replicate, get_or, take, drop, set}
+use lib.ListN.{length, length-append, length-drop, length-replicate, replicate, replicate-append-replicate, get_or, take, drop, set}
 use lib.Seq.{sets, sets-eq, set_at, set_out, take_at, drop_at, drop-drop, drop-cons, drop-length, append_snoc, slice, slice_empty, length-slice, length-take-le, take-suc, drop-append-le}
 use Rattle.tables.specs.Layout.{full, joined, joined_from}
 
@@ -118,11 +118,9 @@ module _ {A : Type 0} (f : ℕ → ℤ → A) (ks : List ℕ) (zs : List ℤ) (f
       (joined_append f (slice from i ks) (slice from i zs) (get_or ks i 0) (get_or zs i (pos 0)) (length-slice from i ks (omega arith) ∙ sym (length-slice from i zs (omega arith))))
 
   -- a loop that fills an array with them
-  pub filled_next : {B : Type 0} (g : A → B) (nought : B) (size i : ℕ) → from ≤ i → i < from + size → i < length ks → i < length zs
-      → set (full nought size (map g (joined_from f ks zs from i))) (i - from) (g (f (get_or ks i 0) (get_or zs i (pos 0)))) ≡ full nought size (map g (joined_from f ks zs from (i + 1)))
-  filled_next g nought size i h b k m =
-      let l = map g (joined_from f ks zs from i) in
+  pub filled_next : (nought : A) (size i : ℕ) → from ≤ i → i < from + size → i < length ks → i < length zs
+      → set (full nought size (joined_from f ks zs from i)) (i - from) (f (get_or ks i 0) (get_or zs i (pos 0))) ≡ full nought size (joined_from f ks zs from (i + 1))
+  filled_next nought size i h b k m =
       let x = f (get_or ks i 0) (get_or zs i (pos 0)) in
-      let n : length l ≡ i - from = length-map (joined_from f ks zs from i) g ∙ part_length i (omega arith) (omega arith) in
-      full_next nought size l (g x ∷ []) (i - from) n (omega arith)
-      ∙ ap (full nought size) (sym (map-append g (joined_from f ks zs from i) (x ∷ [])) ∙ ap (map g) (sym (part_next i h k m)))
+      full_next nought size (joined_from f ks zs from i) (x ∷ []) (i - from) (part_length i (omega arith) (omega arith)) (omega arith)
+      ∙ ap (full nought size) (sym (part_next i h k m))

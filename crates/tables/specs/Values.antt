@@ -9,7 +9,6 @@ use Rattle.tuning.specs.State.{places, heard}
 use Rattle.tuning.specs.declared.Tone.{Tone}
 use Rattle.tuning.specs.declared.ToneChange.{ToneChange}
 use Rattle.tuning.specs.declared.ToneChange.TheVariants.{Mute}
-use Rattle.tuning.specs.declared.PositionChange.{PositionChange}
 use Rattle.tuning.specs.declared.ToneChanges.{ToneChanges}
 use Rattle.tables.specs.declared.Counts.{Counts}
 use Rattle.tables.specs.declared.Numbers.{Numbers}
@@ -20,11 +19,8 @@ abbrev pub system : ℕ → List Tone → ℤ → Tuning cents
 system anchor tones period = record { anchor = anchor; tones = map heard tones; period = period }
 
 -- the positions of a tones retuning; those after them are unused
-abbrev pub change_at : ToneChange → PositionChange
-change_at x = record { change = x }
-
 abbrev pub listed : List ToneChange → ToneChanges
-listed l = record { count = length l; positions = full (change_at Mute) places (map change_at l) }
+listed l = record { count = length l; positions = full Mute places l }
 
 -- ---- what the contracts require
 

@@ -13,8 +13,7 @@ use crate::{
 };
 use cents::{Interval, KeyNumber, Pitch};
 use tuning::{
-    Amount, Operator, PLACES, PeriodChange, Position, PositionChange, Retuning, State, Tone,
-    ToneChange, ToneChanges,
+    Amount, Operator, PLACES, PeriodChange, Retuning, State, Tone, ToneChange, ToneChanges,
 };
 
 // z, or 0 where it is negative.
@@ -186,13 +185,12 @@ pub fn system_at(
     let mut s = State {
         anchor,
         width: (to - from) as u8,
-        tones: [Position { tone: Tone::Muted }; PLACES],
+        tones: [Tone::Muted; PLACES],
         period,
     };
     let mut i = from;
     while i < to {
-        let tone = tone_at(sounding, tones, i);
-        s.tones[i - from] = Position { tone };
+        s.tones[i - from] = tone_at(sounding, tones, i);
         i += 1;
     }
     s
@@ -205,14 +203,11 @@ pub fn changes_from(kinds: &[u16], changes: &[i32], from: usize, to: usize) -> T
 {
     let mut list = ToneChanges {
         count: (to - from) as u8,
-        positions: [PositionChange {
-            change: ToneChange::Mute,
-        }; PLACES],
+        positions: [ToneChange::Mute; PLACES],
     };
     let mut i = from;
     while i < to {
-        let change = change_at(kinds, changes, i);
-        list.positions[i - from] = PositionChange { change };
+        list.positions[i - from] = change_at(kinds, changes, i);
         i += 1;
     }
     list

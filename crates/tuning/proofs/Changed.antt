@@ -8,8 +8,8 @@ use native.Mathlib.Numerals.{add-one}
 use native.Mathlib.Omega.{arith}
 use lib.IntN.{ℤ}
 use lib.ListN.{length, length-map, get_or, set, take, replicate}
-use Rattle.tuning.specs.declared.Position.{Position}
-use Rattle.tuning.specs.declared.PositionChange.{PositionChange}
+use Rattle.tuning.specs.declared.Tone.{Tone}
+use Rattle.tuning.specs.declared.ToneChange.{ToneChange}
 use Rattle.tuning.specs.declared.ToneChange.TheVariants.{Mute}
 use Rattle.tuning.specs.declared.State.{State}
 use Rattle.tuning.specs.declared.ToneChanges.{ToneChanges}
@@ -17,19 +17,19 @@ use Rattle.tuning.specs.Scale.{Sound, muted, sounds}
 use Rattle.tuning.specs.Tuning.{Tuning, PositionTo, raised, sound_of, keys_from, new_tone, new_tones, tones_to, anchored_by, widened_by, done}
 use Rattle.tuning.specs.Desk.{cents}
 use Rattle.tuning.specs.Capped.{capped_to}
-use Rattle.tuning.specs.State.{places, heard_at, position_of, tone_meant, tones_meant, held, coded, valid_state}
+use Rattle.tuning.specs.State.{places, heard, tone_of, tone_meant, tones_meant, held, coded, valid_state}
 use Rattle.tuning.proofs.Valid.{none}
 use Rattle.tuning.proofs.Part.{part, part_none, part_get, part_set}
 use Rattle.tuning.proofs.Keys.{keys_length}
 use Rattle.tuning.proofs.Held.{unused, heard_tone, held_width, places_held, valid_held}
 
-abbrev pub with_places : State → List Position → State
+abbrev pub with_places : State → List Tone → State
 with_places s l = record { anchor = s.anchor; width = s.width; tones = l; period = s.period }
 
-abbrev pub changed : (ℕ → Position → Position) → ℕ → State → State
+abbrev pub changed : (ℕ → Tone → Tone) → ℕ → State → State
 changed f i s = with_places s (part f i s.tones)
 
-module _ (f : ℕ → Position → Position) (s : State) where
+module _ (f : ℕ → Tone → Tone) (s : State) where
   pub changed_none : s ≡ changed f 0 s
   changed_none = ap (with_places s) (sym (part_none f s.tones))
 
@@ -38,19 +38,19 @@ module _ (f : ℕ → Position → Position) (s : State) where
     pub changed_get : get_or t.tones i none ≡ get_or s.tones i none
     changed_get = ap (λ (u : State). get_or u.tones i none) e ∙ part_get f i s.tones none
 
-    pub changed_next : (p : Position) → i < length s.tones → p ≡ f i (get_or s.tones i none) → with_places t (set t.tones i p) ≡ changed f (i + 1) s
+    pub changed_next : (p : Tone) → i < length s.tones → p ≡ f i (get_or s.tones i none) → with_places t (set t.tones i p) ≡ changed f (i + 1) s
     changed_next p h q =
         ap (λ (u : State). with_places u (set u.tones i p)) e
-        ∙ ap (λ (x : Position). with_places s (set (part f i s.tones) i x)) q
+        ∙ ap (λ (x : Tone). with_places s (set (part f i s.tones) i x)) q
         ∙ ap (with_places s) (rw add-one (part_set f i s.tones none h))
 
 -- ---- every sounding tone shifted
 
-abbrev pub shifted : ℤ → Position → Position
-shifted d p = position_of (raised cents d (heard_at p))
+abbrev pub shifted : ℤ → Tone → Tone
+shifted d p = tone_of (raised cents d (heard p))
 
 pub shifted_places : (d : ℤ) (l us : List (Sound ℤ))
-    → part (λ k. shifted d) (length l) (map position_of (l ++ us)) ≡ map position_of (map (raised cents d) l ++ us)
+    → part (λ k. shifted d) (length l) (map tone_of (l ++ us)) ≡ map tone_of (map (raised cents d) l ++ us)
 unfolding part
 shifted_places d [] us = refl
 shifted_places d (t ∷ l) us = rw (heard_tone t, shifted_places d l us)
@@ -58,17 +58,17 @@ shifted_places d (t ∷ l) us = rw (heard_tone t, shifted_places d l us)
 -- ---- the keys from x on as the tones
 
 module _ (s : Tuning cents) where
-  abbrev pub keyed : ℕ → ℕ → Position → Position
-  keyed x i p = position_of (sound_of cents s (x + i))
+  abbrev pub keyed : ℕ → ℕ → Tone → Tone
+  keyed x i p = tone_of (sound_of cents s (x + i))
 
-  keyed_next : (x : ℕ) → ◌≡◌ {A = ℕ → Position → Position} (λ i. keyed x (suc i)) (keyed (suc x))
-  keyed_next x = fun_ext (λ i. ap {B = Position → Position} (λ (k : ℕ). λ p. position_of (sound_of cents s k)) (omega arith))
+  keyed_next : (x : ℕ) → ◌≡◌ {A = ℕ → Tone → Tone} (λ i. keyed x (suc i)) (keyed (suc x))
+  keyed_next x = fun_ext (λ i. ap {B = Tone → Tone} (λ (k : ℕ). λ p. tone_of (sound_of cents s k)) (omega arith))
 
-  places_muted : (n : ℕ) → replicate n none ≡ map position_of (replicate n muted)
+  places_muted : (n : ℕ) → replicate n none ≡ map tone_of (replicate n muted)
   places_muted zero = refl
-  places_muted (suc n) = ap (λ (k : List Position). none ∷ k) (places_muted n)
+  places_muted (suc n) = ap (λ (k : List Tone). none ∷ k) (places_muted n)
 
-  pub keyed_places : (v n x : ℕ) → v ≤ n → part (keyed x) v (replicate n none) ≡ map position_of (keys_from cents s x v ++ replicate (n - v) muted)
+  pub keyed_places : (v n x : ℕ) → v ≤ n → part (keyed x) v (replicate n none) ≡ map tone_of (keys_from cents s x v ++ replicate (n - v) muted)
   unfolding part
   keyed_places zero n x h = rw sub-zero (places_muted n)
   keyed_places (suc v) zero x h = let e : ⊥ = omega arith in absurd e
@@ -76,21 +76,21 @@ module _ (s : Tuning cents) where
 
 -- ---- the tones within the width and the list
 
-abbrev pub no_change : PositionChange
-no_change = record { change = Mute }
+abbrev pub no_change : ToneChange
+no_change = Mute
 
-abbrev pub retoned : List PositionChange → ℕ → Position → Position
-retoned l i p = position_of (new_tone cents (capped_to (tone_meant (get_or l i no_change).change)) (heard_at p))
+abbrev pub retoned : List ToneChange → ℕ → Tone → Tone
+retoned l i p = tone_of (new_tone cents (capped_to (tone_meant (get_or l i no_change))) (heard p))
 
-abbrev meanings : List PositionChange → List (PositionTo cents)
-meanings l = map capped_to (map (λ (x : PositionChange). tone_meant x.change) l)
+abbrev meanings : List ToneChange → List (PositionTo cents)
+meanings l = map capped_to (map tone_meant l)
 
 none_new : (l : List (PositionTo cents)) → new_tones cents l [] ≡ []
 none_new [] = refl
 none_new (x ∷ l) = refl
 
-pub retoned_places : (l : List PositionChange) (ts : List (Sound ℤ)) (us : List (Sound ℤ)) (count n : ℕ) → length ts ≤ length l → n ≡ min (length ts) count
-    → part (retoned l) n (map position_of (ts ++ us)) ≡ map position_of (new_tones cents (meanings (take count l)) ts ++ us)
+pub retoned_places : (l : List ToneChange) (ts : List (Sound ℤ)) (us : List (Sound ℤ)) (count n : ℕ) → length ts ≤ length l → n ≡ min (length ts) count
+    → part (retoned l) n (map tone_of (ts ++ us)) ≡ map tone_of (new_tones cents (meanings (take count l)) ts ++ us)
 unfolding part
 retoned_places l [] us count zero h e = rw (none_new (meanings (take count l)))
 retoned_places l [] us count (suc n) h e = let z : ⊥ = omega arith in absurd z
@@ -116,7 +116,7 @@ keyed_state s v d h = rw (keyed_places s v places s.anchor h, keys_length cents 
 
 module _ (s : State) (h : valid_state s ≡ true) (n : length s.tones ≡ places) where
   -- as many tones as the state has
-  coded_places : (l : List (Sound ℤ)) → length l ≡ length (held s).tones → (p : List Position) → p ≡ map position_of (l ++ unused (held s).tones) → (a : ℕ) (d : ℤ)
+  coded_places : (l : List (Sound ℤ)) → length l ≡ length (held s).tones → (p : List Tone) → p ≡ map tone_of (l ++ unused (held s).tones) → (a : ℕ) (d : ℤ)
       → ◌≡◌ {A = State} (record { anchor = record { 0 = a }; width = s.width; tones = p; period = record { 0 = d } }) (coded (record { anchor = a; tones = l; period = d }))
   coded_places l e p q a d = rw (q, e, held_width s h n)
 
@@ -126,7 +126,7 @@ module _ (s : State) (h : valid_state s ≡ true) (n : length s.tones ≡ places
   anchored_state b d i e =
       coded_places (map (raised cents d) (held s).tones) (length-map (held s).tones (raised cents d)) _
       (ap (part (λ k. shifted d) i) (sym (places_held s h n))
-      ∙ ap (λ (k : ℕ). part (λ m. shifted d) k (map position_of ((held s).tones ++ unused (held s).tones))) (e ∙ sym (held_width s h n))
+      ∙ ap (λ (k : ℕ). part (λ m. shifted d) k (map tone_of ((held s).tones ++ unused (held s).tones))) (e ∙ sym (held_width s h n))
       ∙ shifted_places d (held s).tones (unused (held s).tones))
       b s.period.0
 

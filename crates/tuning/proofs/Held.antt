@@ -10,12 +10,11 @@ use lib.ListN.{length, length-map, length-append, length-drop, length-replicate,
 use lib.Seq.{take_at, drop_at}
 use Rattle.tuning.specs.declared.Tone.{Tone}
 use Rattle.tuning.specs.declared.Tone.TheVariants.{Muted, At}
-use Rattle.tuning.specs.declared.Position.{Position}
 use Rattle.tuning.specs.declared.State.{State}
 use Rattle.tuning.specs.Scale.{Sound, muted, sounds}
 use Rattle.tuning.specs.Tuning.{Tuning, width}
 use Rattle.tuning.specs.Desk.{cents, is_period, any_beyond}
-use Rattle.tuning.specs.State.{places, heard, heard_at, held, tone_of, position_of, coded, all_muted, valid_state}
+use Rattle.tuning.specs.State.{places, heard, held, tone_of, coded, all_muted, valid_state}
 use Rattle.tuning.proofs.Valid.{Valid, valid_of, valid_is}
 use Rattle.tuning.proofs.Tones as Tones
 
@@ -37,13 +36,13 @@ tone_heard : (t : Tone) → tone_of (heard t) ≡ t
 tone_heard Muted = refl
 tone_heard (At p) = refl
 
-heard_positions : (l : List (Sound ℤ)) → map heard_at (map position_of l) ≡ l
+heard_positions : (l : List (Sound ℤ)) → map heard (map tone_of l) ≡ l
 heard_positions [] = refl
 heard_positions (t ∷ l) = rw (heard_tone t, heard_positions l)
 
-positions_heard : (l : List Position) → map position_of (map heard_at l) ≡ l
+positions_heard : (l : List Tone) → map tone_of (map heard l) ≡ l
 positions_heard [] = refl
-positions_heard (p ∷ l) = rw (tone_heard p.tone, positions_heard l)
+positions_heard (p ∷ l) = rw (tone_heard p, positions_heard l)
 
 muted_all : (l : List (Sound ℤ)) → all_muted l ≡ true → l ≡ replicate (length l) muted
 unfolding all_muted
@@ -63,15 +62,15 @@ abbrev pub unused : List (Sound ℤ) → List (Sound ℤ)
 unused l = replicate (places - length l) muted
 
 module _ (t : Tuning cents) where
-  used_heard : map heard_at (take (length t.tones) (map position_of (t.tones ++ unused t.tones))) ≡ t.tones
+  used_heard : map heard (take (length t.tones) (map tone_of (t.tones ++ unused t.tones))) ≡ t.tones
   used_heard =
       let l = t.tones in
-      rw (map-append, take_at (map position_of l) (map position_of (unused l)) (length l) (length-map l position_of)) (heard_positions l)
+      rw (map-append, take_at (map tone_of l) (map tone_of (unused l)) (length l) (length-map l tone_of)) (heard_positions l)
 
-  unused_heard : map heard_at (drop (length t.tones) (map position_of (t.tones ++ unused t.tones))) ≡ unused t.tones
+  unused_heard : map heard (drop (length t.tones) (map tone_of (t.tones ++ unused t.tones))) ≡ unused t.tones
   unused_heard =
       let l = t.tones in
-      rw (map-append, drop_at (map position_of l) (map position_of (unused l)) (length l) (length-map l position_of)) (heard_positions (unused l))
+      rw (map-append, drop_at (map tone_of l) (map tone_of (unused l)) (length l) (length-map l tone_of)) (heard_positions (unused l))
 
   pub held_coded : held (coded t) ≡ t
   held_coded = ap (λ (k : List (Sound ℤ)). record { anchor = t.anchor; tones = k; period = t.period }) used_heard
@@ -79,7 +78,7 @@ module _ (t : Tuning cents) where
   pub length_coded : length t.tones ≤ places → length (coded t).tones ≡ places
   length_coded h =
       let l = t.tones in
-      length-map (l ++ unused l) position_of ∙ length-append l (unused l) ∙ omega (arith, length-replicate {A = Sound ℤ} (places - length l) muted)
+      length-map (l ++ unused l) tone_of ∙ length-append l (unused l) ∙ omega (arith, length-replicate {A = Sound ℤ} (places - length l) muted)
 
   pub valid_coded : ValidTuning t → valid_state (coded t) ≡ true
   valid_coded v =
@@ -105,13 +104,13 @@ module _ (s : State) (h : valid_state s ≡ true) (n : length s.tones ≡ places
   pub valid_held : ValidTuning (held s)
   valid_held = record { anchor = v.anchor; least = omega (arith, v.least, held_width); most = omega (arith, v.most, held_width); period = v.period; tones = v.tones }
 
-  pub places_held : map position_of ((held s).tones ++ unused (held s).tones) ≡ s.tones
+  pub places_held : map tone_of ((held s).tones ++ unused (held s).tones) ≡ s.tones
   places_held =
       let l = drop s.width s.tones in
-      let e : places - length (held s).tones ≡ length (map heard_at l) = omega (arith, n, held_width, length-map l heard_at, length-drop s.width s.tones) in
-      rw (e, ← (muted_all (map heard_at l) v.rest), ← (map-append heard_at (take s.width s.tones) l), take-append-drop s.width s.tones) (positions_heard s.tones)
+      let e : places - length (held s).tones ≡ length (map heard l) = omega (arith, n, held_width, length-map l heard, length-drop s.width s.tones) in
+      rw (e, ← (muted_all (map heard l) v.rest), ← (map-append heard (take s.width s.tones) l), take-append-drop s.width s.tones) (positions_heard s.tones)
 
   pub coded_held : coded (held s) ≡ s
   coded_held =
-      ap (λ (k : List Position). record { anchor = s.anchor; width = length (held s).tones; tones = k; period = s.period }) places_held
+      ap (λ (k : List Tone). record { anchor = s.anchor; width = length (held s).tones; tones = k; period = s.period }) places_held
       ∙ ap (λ (w : ℕ). record { anchor = s.anchor; width = w; tones = s.tones; period = s.period }) held_width

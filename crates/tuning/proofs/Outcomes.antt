@@ -11,20 +11,20 @@ use lib.IntN.{ℤ, pos, nat_abs}
 use lib.ListN.{length, get_or}
 use lib.Dec.{T}
 use lib.Signed.{le_z, non_neg}
+use Rattle.std.specs.Prelude.{Option, Some, None}
+use Rattle.cents.specs.declared.Interval.{Interval}
 use Rattle.integers.specs.Parts.{up}
 use Rattle.integers.proofs.Signed.{signed, abs}
 use Rattle.status.specs.Status.{division_by_zero, anchor_out_of_range, width_out_of_range, period_out_of_range, end_silent, tone_out_of_range}
 use Rattle.tuning.specs.declared.Tone.{Tone}
 use Rattle.tuning.specs.declared.State.{State}
 use Rattle.tuning.specs.declared.Reply.{Reply}
-use Rattle.tuning.specs.declared.Reach.{Reach}
-use Rattle.tuning.specs.declared.Reach.TheVariants.{Silent, By}
 use Rattle.tuning.specs.declared.Amount.{Amount}
 use Rattle.tuning.specs.Scale.{Scale, Sound, muted, sounds}
 use Rattle.tuning.specs.Tuning.{Tuning, PeriodTo, PositionTo, Action, anchor_to, width_to, period_to, tones_to, system, amounts, width, key_position, key_rise, sound_of, apart, span_to, reach_by, reach, anchored_by, anchored, widened_by, widened, new_period, new_tones, done}
 use Rattle.tuning.specs.Desk.{cents, between, is_anchor, is_width, is_period, any_beyond, Check, first_failing, divides_by_zero, bad_divisor, bad_anchor, bad_width, bad_period, bad_tone, unreached, if_taken, Called, called}
 use Rattle.tuning.specs.State.{places, heard, held, tone_of, coded, valid_state, replied}
-use Rattle.tuning.specs.Inner.{reach_of}
+use Rattle.tuning.specs.Inner.{interval_of}
 use Rattle.tuning.proofs.Lists.{both}
 use Rattle.tuning.proofs.Valid.{Valid, none}
 use Rattle.tuning.proofs.Tones.{heard_at_holds}
@@ -33,7 +33,7 @@ use Rattle.tuning.proofs.Held.{heard_tone, held_coded, coded_held}
 -- ---- "pitch(b) - t(0)", by the tones that the code finds at the two ends
 
 pub span_held : (s : State) → Valid s → (x : ℕ) {k : Tone} → k ≡ tone_of (sound_of cents (held s) x)
-    → apart cents (heard (get_or s.tones 0 none).tone) (heard k) ≡ span_to cents (held s) x
+    → apart cents (heard (get_or s.tones 0 none)) (heard k) ≡ span_to cents (held s) x
 span_held s v x e = ap₂ (apart cents) (sym (heard_at_holds s.tones s.width 0 v.least)) (ap heard e ∙ heard_tone (sound_of cents (held s) x))
 
 -- ---- the distance to the key at the other end, by the position of that key
@@ -50,15 +50,15 @@ module _ (S : Scale) (t : Tuning S) (x : ℕ) where
       go (suc r) k = refl
 
 -- what the code's distance says
-abbrev pub spanned : Reach → Sound ℤ
-spanned Silent = muted
-spanned (By d) = sounds d.0
+abbrev pub spanned : Option Interval → Sound ℤ
+spanned None = muted
+spanned (Some d) = sounds d.0
 
-span_reach : (y : Sound ℤ) → spanned (reach_of y) ≡ y
+span_reach : (y : Sound ℤ) → spanned (interval_of y) ≡ y
 span_reach muted = refl
 span_reach (sounds d) = refl
 
-pub reached : {r u : Reach} {y : Sound ℤ} → r ≡ reach_of y → r ≡ u → y ≡ spanned u
+pub reached : {r u : Option Interval} {y : Sound ℤ} → r ≡ interval_of y → r ≡ u → y ≡ spanned u
 reached {r} {u} {y} e f = sym (span_reach y) ∙ ap spanned (sym e ∙ f)
 
 -- ---- the first check that fails decides

@@ -2,7 +2,8 @@
 -- Assumes nothing.
 use mathlib.Core.Path.{◌≡◌, refl, ap}
 use mathlib.Core.List.{List, [], ◌∷◌, map}
-use Prim.Native.Nat.{ℕ, zero, suc, ◌≤◌, ◌<◌}
+use Prim.Native.Nat.{ℕ, zero, suc, ◌+◌, ◌≤◌, ◌<◌}
+use native.Mathlib.Numerals.{add-one}
 use native.Mathlib.Omega.{arith}
 use lib.ListN.{length, get_or, set}
 
@@ -35,6 +36,11 @@ module _ {A : Type 0} where
   part_set f n [] d h = let e : ⊥ = omega arith in absurd e
   part_set f zero (x ∷ l) d h = refl
   part_set f (suc n) (x ∷ l) d h = ap (λ (k : List A). f 0 x ∷ k) (part_set (λ i. f (suc i)) n l d (omega arith))
+
+  -- and so a loop that sets the next element has changed one more
+  pub part_next : (f : ℕ → A → A) (l : List A) (d : A) {n : ℕ} {m : List A} {x : A} → m ≡ part f n l → n < length l → x ≡ f n (get_or l n d)
+      → set m n x ≡ part f (n + 1) l
+  part_next f l d {n} e h q = rw (e, q, add-one) (part_set f n l d h)
 
   -- all of them changed in the same way
   pub part_all : (g : A → A) (n : ℕ) (l : List A) → length l ≤ n → part (λ i. g) n l ≡ map g l

@@ -6,9 +6,8 @@ use native.Mathlib.Omega.{arith}
 use borrow.Author.Tests.{le-leb}
 use lib.IntN.{ℤ, pos, nat_abs}
 use lib.Signed.{le_z}
-use mir.Facts.{to_z-of_z}
 use mir.Syntax.{w32}
-use mir.Val.{SFits, to_z, of_z}
+use mir.Val.{to_z}
 use mir.ValLaws.{to_z_pos}
 use Rattle.cents.specs.Passages.{key_shift, key_distance}
 use Rattle.integers.proofs.Signed.{signed, abs, minus, sum}
@@ -19,10 +18,6 @@ natural n = le-leb 0 n (omega arith)
 module _ (z : ℤ) (least : le_z (pos 0) z ≡ true) where
   pub whole : z ≡ pos (nat_abs z)
   whole = omega (signed, abs z)
-
-  -- as 32 bits hold them
-  pub held_whole : nat_abs z ≤ 255 → to_z w32 (of_z w32 z) ≡ pos (nat_abs z)
-  held_whole most = let f : SFits w32 z = omega (signed, abs z) in to_z-of_z f ∙ whole
 
 -- the key i keys above another
 pub key_above : (a i : ℕ) → i ≤ 255 → key_shift a (to_z w32 i) ≡ pos (a + i)

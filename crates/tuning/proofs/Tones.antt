@@ -16,22 +16,21 @@ use Rattle.integers.proofs.Floor.{floor_range}
 use Rattle.tuning.specs.Scale.{muted}
 use Rattle.tuning.specs.Tuning.{width, raised, key_position, key_periods, sound_of}
 use Rattle.tuning.specs.Desk.{cents}
-use Rattle.tuning.specs.State.{heard, heard_at, held, tone_of}
+use Rattle.tuning.specs.State.{heard, held, tone_of}
 use Rattle.tuning.specs.Inner.{located_at, size}
 use Rattle.tuning.specs.declared.State.{State}
 use Rattle.tuning.specs.declared.Located.{Located}
-use Rattle.tuning.specs.declared.Position.{Position}
 use Rattle.tuning.specs.declared.Tone.{Tone}
 use Rattle.tuning.specs.declared.Tone.TheVariants.{Muted, At}
 use Rattle.tuning.proofs.Valid.{Valid, none, period_size, tone_size}
 
 -- the width is the number of tones
 pub held_width : (s : State) → length s.tones ≡ 60 → s.width ≤ 60 → width cents (held s) ≡ s.width
-held_width s n h = length-map (take s.width s.tones) heard_at ∙ length-take s.width s.tones ∙ omega arith
+held_width s n h = length-map (take s.width s.tones) heard ∙ length-take s.width s.tones ∙ omega arith
 
 -- what is heard at a position in use
-pub heard_at_holds : (l : List Position) (w r : ℕ) → r < w → get_or (map heard_at (take w l)) r muted ≡ heard (get_or l r none).tone
-heard_at_holds l w r h = get_or-map heard_at (take w l) r none ∙ ap heard_at (get_or-take w l r none h)
+pub heard_at_holds : (l : List Tone) (w r : ℕ) → r < w → get_or (map heard (take w l)) r muted ≡ heard (get_or l r none)
+heard_at_holds l w r h = get_or-map heard (take w l) r none ∙ ap heard (get_or-take w l r none h)
 
 -- a key lies at most 127 keys off the anchor, and no more periods than keys
 pub steps_size : (x a : ℕ) → a ≤ 127 → x ≤ a + 127 → nat_abs (sub_ℕ x a) ≤ 127
@@ -80,7 +79,7 @@ module _ {s : State} {x : ℕ} (a : Asked s x) where
   place_held = ap (λ (w : ℕ). located_at (sub_ℕ x s.anchor.0) w) (sym (held_width s a.long a.valid.most))
 
   -- the sound of the key, by its place
-  pub place_sound : raised cents (place.periods *ℤ s.period.0) (heard (get_or s.tones place.position none).tone) ≡ sound_of cents (held s) x
+  pub place_sound : raised cents (place.periods *ℤ s.period.0) (heard (get_or s.tones place.position none)) ≡ sound_of cents (held s) x
   place_sound =
       ap (raised cents (place.periods *ℤ s.period.0)) (sym (heard_at_holds s.tones s.width place.position place_position))
       ∙ ap (λ (p : Located). raised cents (p.periods *ℤ s.period.0) (get_or (held s).tones p.position muted)) place_held
@@ -88,5 +87,5 @@ module _ {s : State} {x : ℕ} (a : Asked s x) where
   -- how far it can be
   pub sound_size : size (tone_of (sound_of cents (held s) x)) ≤ 1_624_000_000
   sound_size =
-      let t = (get_or s.tones place.position none).tone in
+      let t = (get_or s.tones place.position none) in
       rw (← place_sound) (omega (arith, raised_size t (place.periods *ℤ s.period.0), tone_size s a.valid place.position, place_shift))

@@ -11,19 +11,19 @@ use lib.Dec.{leb}
 use lib.Signed.{le_z}
 use lib.ListN.{get_or, take, drop}
 use lib.Seq.{get_or-take, get_or-drop}
+use Rattle.std.specs.List.{list_all}
 use Rattle.integers.proofs.Signed.{signed, abs}
-use Rattle.tuning.proofs.Lists.{both, every, every_at}
+use Rattle.tuning.proofs.Lists.{both, all_at}
 use Rattle.tuning.specs.Desk.{is_anchor, is_width, is_period, is_tone, is_muted, any_beyond, beyond}
-use Rattle.tuning.specs.State.{heard, heard_at, held, all_muted, valid_state}
+use Rattle.tuning.specs.State.{heard, held, all_muted, valid_state}
 use Rattle.tuning.specs.Inner.{size}
 use Rattle.tuning.specs.declared.State.{State}
 use Rattle.tuning.specs.declared.Tone.{Tone}
 use Rattle.tuning.specs.declared.Tone.TheVariants.{Muted, At}
-use Rattle.tuning.specs.declared.Position.{Position}
 
 -- what the code reads past an array's end
-abbrev pub none : Position
-none = record { tone = Muted }
+abbrev pub none : Tone
+none = Muted
 
 -- what a state has whose test passes
 pub record Valid (s : State) : Type 0 where
@@ -32,12 +32,12 @@ pub record Valid (s : State) : Type 0 where
   pub most : s.width ≤ 60
   pub period : is_period s.period.0 ≡ true
   pub tones : any_beyond (held s).tones ≡ false
-  pub rest : all_muted (map heard_at (drop s.width s.tones)) ≡ true
+  pub rest : all_muted (map heard (drop s.width s.tones)) ≡ true
 
 pub valid_of : (s : State) → valid_state s ≡ true → Valid s
 unfolding valid_state
 valid_of s h =
-    let muted-rest = all_muted (map heard_at (drop s.width s.tones)) in
+    let muted-rest = all_muted (map heard (drop s.width s.tones)) in
     let allowed = not (any_beyond (held s).tones) in
     let P = is_period s.period.0 in
     let w = is_width (pos s.width) in
@@ -70,23 +70,23 @@ valid_is s v =
 
 -- ---- the two tests of lists, as a test of every position
 
-abbrev pub in_range : Position → Bool
-in_range p = not (beyond (heard_at p))
+abbrev pub in_range : Tone → Bool
+in_range p = not (beyond (heard p))
 
-abbrev pub is_free : Position → Bool
-is_free p = is_muted (heard_at p)
+abbrev pub is_free : Tone → Bool
+is_free p = is_muted (heard p)
 
-pub in_range_holds : (l : List Position) → not (any_beyond (map heard_at l)) ≡ every in_range l
-unfolding any_beyond every
+pub in_range_holds : (l : List Tone) → not (any_beyond (map heard l)) ≡ list_all in_range l
+unfolding any_beyond
 in_range_holds [] = refl
-in_range_holds (p ∷ l) = not_or (beyond (heard_at p)) (any_beyond (map heard_at l)) ∙ ap (λ (b : Bool). in_range p && b) (in_range_holds l)
+in_range_holds (p ∷ l) = not_or (beyond (heard p)) (any_beyond (map heard l)) ∙ ap (λ (b : Bool). in_range p && b) (in_range_holds l)
   where
     not_or : (a b : Bool) → not (a || b) ≡ not a && not b
     not_or true b = refl
     not_or false b = refl
 
-pub all_free : (l : List Position) → all_muted (map heard_at l) ≡ every is_free l
-unfolding all_muted every
+pub all_free : (l : List Tone) → all_muted (map heard l) ≡ list_all is_free l
+unfolding all_muted
 all_free [] = refl
 all_free (p ∷ l) = ap (λ (b : Bool). is_free p && b) (all_free l)
 
@@ -107,24 +107,24 @@ muted_tone (At p) h = absurd (false≢true h)
 
 module _ (s : State) (v : Valid s) where
   -- an unused place is muted
-  pub unused : (r : ℕ) → s.width ≤ r → (get_or s.tones r none).tone ≡ Muted
+  pub unused : (r : ℕ) → s.width ≤ r → (get_or s.tones r none) ≡ Muted
   unused r h =
       let e : s.width + (r - s.width) ≡ r = omega arith in
-      muted_tone (get_or s.tones r none).tone
+      muted_tone (get_or s.tones r none)
       (ap (λ (k : ℕ). is_free (get_or s.tones k none)) (sym e)
       ∙ ap is_free (sym (get_or-drop s.width s.tones (r - s.width) none))
-      ∙ every_at is_free (drop s.width s.tones) (r - s.width) none refl (sym (all_free (drop s.width s.tones)) ∙ v.rest))
+      ∙ all_at is_free (drop s.width s.tones) (r - s.width) none refl (sym (all_free (drop s.width s.tones)) ∙ v.rest))
 
   -- a tone in use is in its range
   pub in_use : (r : ℕ) → r < s.width → in_range (get_or s.tones r none) ≡ true
   in_use r h =
       ap in_range (sym (get_or-take s.width s.tones r none h))
-      ∙ every_at in_range (take s.width s.tones) r none refl (sym (in_range_holds (take s.width s.tones)) ∙ ap not v.tones)
+      ∙ all_at in_range (take s.width s.tones) r none refl (sym (in_range_holds (take s.width s.tones)) ∙ ap not v.tones)
 
   -- so no place holds a tone out of range
-  pub tone_size : (r : ℕ) → size (get_or s.tones r none).tone ≤ 100_000_000
+  pub tone_size : (r : ℕ) → size (get_or s.tones r none) ≤ 100_000_000
   tone_size r =
       elim (dec_lt r s.width) [
-        | yes h ↦ allowed_size (get_or s.tones r none).tone (not-true (beyond (heard_at (get_or s.tones r none))) (in_use r h))
+        | yes h ↦ allowed_size (get_or s.tones r none) (not-true (beyond (heard (get_or s.tones r none))) (in_use r h))
         | no h ↦ omega (arith, ap size (unused r (omega arith)))
       ]

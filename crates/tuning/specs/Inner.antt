@@ -1,12 +1,11 @@
 -- What the contracts of private functions cite besides.
-use Rattle.std.specs.Prelude.{ℕ, ◌+◌, ◌*◌, ℤ, nat_abs}
+use Rattle.std.specs.Prelude.{ℕ, ◌+◌, ◌*◌, ℤ, nat_abs, Option, Some, None}
 use Rattle.limits.specs.Limits.{most_anchor, farthest_tone, longest_period}
 use Rattle.integers.specs.Floor.{floor_div, floor_mod}
+use Rattle.cents.specs.declared.Interval.{Interval}
 use Rattle.tuning.specs.declared.Located.{Located}
 use Rattle.tuning.specs.declared.Tone.{Tone}
 use Rattle.tuning.specs.declared.Tone.TheVariants.{Muted, At}
-use Rattle.tuning.specs.declared.Reach.{Reach}
-use Rattle.tuning.specs.declared.Reach.TheVariants.{Silent, By}
 use Rattle.tuning.specs.Scale.{Sound, muted, sounds}
 
 -- where a key that many keys above the anchor stands
@@ -25,11 +24,7 @@ farthest_sound = most_anchor * longest_period + farthest_tone
 abbrev pub farthest_reach : ℕ
 farthest_reach = farthest_sound + farthest_tone
 
--- a distance as the code's enum, and how large it is
-abbrev pub reach_of : Sound ℤ → Reach
-reach_of muted = Silent
-reach_of (sounds d) = By (record { 0 = d })
-
-abbrev pub reach_size : Reach → ℕ
-reach_size Silent = 0
-reach_size (By d) = nat_abs d.0
+-- a distance as the code returns it: none where one of the two ends is silent
+abbrev pub interval_of : Sound ℤ → Option Interval
+interval_of muted = None
+interval_of (sounds d) = Some (record { 0 = d })

@@ -2,14 +2,12 @@
 use Rattle.std.specs.Prelude.{Bool, true, not, ◌&&◌, List, [], ◌∷◌, ◌++◌, map, ℕ, ◌-◌, ℤ, pos, length, take, drop, replicate}
 use Rattle.tuning.specs.declared.Tone.{Tone}
 use Rattle.tuning.specs.declared.Tone.TheVariants.{Muted, At}
-use Rattle.tuning.specs.declared.Position.{Position}
 use Rattle.tuning.specs.declared.State.{State}
 use Rattle.tuning.specs.declared.Reply.{Reply}
 use Rattle.tuning.specs.declared.PeriodChange.{PeriodChange}
 use Rattle.tuning.specs.declared.PeriodChange.TheVariants.{Fresh, Onward}
 use Rattle.tuning.specs.declared.ToneChange.{ToneChange}
 use Rattle.tuning.specs.declared.ToneChange.TheVariants.{Mute, Move, Set}
-use Rattle.tuning.specs.declared.PositionChange.{PositionChange}
 use Rattle.tuning.specs.declared.ToneChanges.{ToneChanges}
 use Rattle.tuning.specs.declared.Retuning.{Retuning}
 use Rattle.tuning.specs.declared.Retuning.TheVariants.{Anchor, Width, Period, Tones}
@@ -28,11 +26,8 @@ abbrev pub heard : Tone → Sound ℤ
 heard Muted = muted
 heard (At p) = sounds p.0
 
-abbrev pub heard_at : Position → Sound ℤ
-heard_at p = heard p.tone
-
 abbrev pub held : State → Tuning cents
-held s = record { anchor = s.anchor.0; tones = map heard_at (take s.width s.tones); period = s.period.0 }
+held s = record { anchor = s.anchor.0; tones = map heard (take s.width s.tones); period = s.period.0 }
 
 abbrev pub period_meant : PeriodChange → PeriodTo cents
 period_meant (Fresh d) = fresh d.0
@@ -44,7 +39,7 @@ tone_meant (Move d) = move d.0
 tone_meant (Set p) = set_to p.0
 
 abbrev pub tones_meant : ToneChanges → List (PositionTo cents)
-tones_meant l = map (λ (x : PositionChange). tone_meant x.change) (take l.count l.positions)
+tones_meant l = map tone_meant (take l.count l.positions)
 
 abbrev pub meant : Retuning → ToneChanges → Action cents
 meant (Anchor m) l = anchor_to m
@@ -58,14 +53,11 @@ abbrev pub tone_of : Sound ℤ → Tone
 tone_of muted = Muted
 tone_of (sounds z) = At (record { 0 = z })
 
-abbrev pub position_of : Sound ℤ → Position
-position_of t = record { tone = tone_of t }
-
 abbrev pub coded : Tuning cents → State
 coded t = record {
   anchor = record { 0 = t.anchor };
   width = length t.tones;
-  tones = map position_of (t.tones ++ replicate (places - length t.tones) muted);
+  tones = map tone_of (t.tones ++ replicate (places - length t.tones) muted);
   period = record { 0 = t.period };
 }
 
@@ -82,4 +74,4 @@ all_muted (t ∷ ts) = is_muted t && all_muted ts
 unfoldable pub valid_state : State → Bool
 valid_state s =
     is_anchor (pos s.anchor.0) && (is_width (pos s.width) && (is_period s.period.0
-    && (not (any_beyond (held s).tones) && all_muted (map heard_at (drop s.width s.tones)))))
+    && (not (any_beyond (held s).tones) && all_muted (map heard (drop s.width s.tones)))))

@@ -1,18 +1,19 @@
 // The retunings: each call takes the state and hands it back with its number, unchanged where the number is not 0.
-ghost use Rattle.std.specs.Prelude.{◌≡◌, true, map, ◌≤◌, ◌<◌, ◌+◌, nat_abs, pos};
+ghost use Rattle.std.specs.Prelude.{◌≡◌, true, map, ◌≤◌, ◌<◌, ◌+◌, nat_abs, pos, IfSome};
 ghost use Rattle.std.specs.Int.Signed.{le_z};
 ghost use Rattle.limits.specs.Limits.{most_anchor, most_positions, farthest_tone};
+ghost use Rattle.status.specs.Status as Status;
 ghost use Rattle.cents.specs.Passages.{most_key};
 ghost use Rattle.tuning.specs.Scale.{Sound};
 ghost use Rattle.tuning.specs.Tuning.{operated, amounts, Action, apart, reach, anchored_by, widened_by, new_tone, new_period, done};
 ghost use Rattle.tuning.specs.Desk.{cents, divides_by_zero};
 ghost use Rattle.tuning.specs.State.{heard, held, tone_of, coded, valid_state, replied, period_meant, tone_meant, tones_meant, meant};
 ghost use Rattle.tuning.specs.Capped.{farthest_sum, capped, capped_to, capped_period};
-ghost use Rattle.tuning.specs.Inner.{size, farthest_reach, reach_of, reach_size};
+ghost use Rattle.tuning.specs.Inner.{size, farthest_reach, interval_of};
 
 use crate::{
-    Amount, FARTHEST_SUM, Operator, PLACES, PeriodChange, Position, Reach, Reply, Retuning, State,
-    Tone, ToneChange, ToneChanges, is_between, is_period, locate,
+    Amount, FARTHEST_SUM, Operator, PLACES, PeriodChange, Reply, Retuning, State, Tone, ToneChange,
+    ToneChanges, is_between, is_period, locate,
 };
 use cents::{FIRST_KEY, Interval, KeyNumber, KeySteps};
 use limits::{MOST_ANCHOR, MOST_POSITIONS};
@@ -29,12 +30,8 @@ fn operate(operator: Operator, old: KeySteps, n: u16) -> KeySteps
         Operator::Plus => KeySteps(old.0 + n as i32),
         Operator::Minus => KeySteps(old.0 - n as i32),
         Operator::Times => KeySteps(old.0 * n as i32),
-        Operator::Divide => {
-            if n == 0 {
-                return KeySteps(0);
-            }
-            KeySteps((old.0 as u32 / n as u32) as i32)
-        }
+        Operator::Divide if n == 0 => KeySteps(0),
+        Operator::Divide => KeySteps((old.0 as u32 / n as u32) as i32),
     }
 }
 
@@ -42,13 +39,7 @@ fn operate(operator: Operator, old: KeySteps, n: u16) -> KeySteps
 fn divides_by_zero(asked: Amount) -> bool
     ensures { result ≡ divides_by_zero asked }
 {
-    let Amount::Relative(operator, n) = asked else {
-        return false;
-    };
-    let Operator::Divide = operator else {
-        return false;
-    };
-    n == 0
+    matches!(asked, Amount::Relative(Operator::Divide, 0))
 }
 
 // The anchor, in keys above the first, or the width that is asked for, from the one that it replaces.
@@ -67,28 +58,20 @@ fn amount_of(asked: Amount, old: KeySteps) -> KeySteps
 fn cap(by: Interval) -> Interval
     ensures { (result.0 ≡ capped by.0) × (nat_abs result.0 ≤ farthest_sum) }
 {
-    if by.0 <= -FARTHEST_SUM {
-        return Interval(-FARTHEST_SUM);
-    }
-    if FARTHEST_SUM <= by.0 {
-        return Interval(FARTHEST_SUM);
-    }
-    by
+    Interval(by.0.clamp(-FARTHEST_SUM, FARTHEST_SUM))
 }
 
 impl Tone {
     // "pitch(b) - t(0)": how far the sound of a key lies above this tone, where both are heard.
-    fn span_to(self, key: Tone) -> Reach
+    fn span_to(self, key: Tone) -> Option<Interval>
         requires { size self + size key ≤ farthest_reach }
-        ensures { (result ≡ reach_of (apart cents (heard self) (heard key))) × (reach_size result ≤ farthest_reach) }
+        ensures distance { result ≡ interval_of (apart cents (heard self) (heard key)) }
+        ensures near { IfSome result (λ d. nat_abs d.0 ≤ farthest_reach) }
     {
-        let Tone::At(t) = self else {
-            return Reach::Silent;
-        };
-        let Tone::At(p) = key else {
-            return Reach::Silent;
-        };
-        Reach::By(p.distance(t))
+        match (self, key) {
+            (Tone::At(t), Tone::At(p)) => Some(p.distance(t)),
+            _ => None,
+        }
     }
 }
 
@@ -121,36 +104,28 @@ impl PeriodChange {
 
 impl State {
     // The distance from position 0 to the key at the other end: whole periods where that key is on position 0, muted or not.
-    fn reach(self, key: KeyNumber) -> Reach
-        requires { (valid_state self ≡ true) × (key.0 ≤ self.anchor.0 + most_anchor) }
-        ensures { (result ≡ reach_of (reach cents (held self) key.0)) × (reach_size result ≤ farthest_reach) }
+    fn reach(&self, key: KeyNumber) -> Option<Interval>
+        requires { (valid_state self.now ≡ true) × (key.0 ≤ self.now.anchor.0 + most_anchor) }
+        ensures distance { result ≡ interval_of (reach cents (held self.now) key.0) }
+        ensures near { IfSome result (λ d. nat_abs d.0 ≤ farthest_reach) }
     {
         let place = locate(key.distance(self.anchor), self.width);
         if place.position == 0 {
-            return Reach::By(self.period.times(place.periods));
+            return Some(self.period.times(place.periods));
         }
-        let first = self.tones[0];
-        let root = first.tone;
-        root.span_to(self.sound_of(key))
+        self.tones[0].span_to(self.sound_of(key))
     }
 
     // The anchor at a key, and every sounding tone shifted.
-    fn with_anchor(self, anchor: KeyNumber, by: Interval) -> State
+    fn with_anchor(mut self, anchor: KeyNumber, by: Interval) -> State
         requires { (valid_state self ≡ true) × (nat_abs by.0 ≤ farthest_reach) }
         ensures { result ≡ coded (anchored_by cents (held self) anchor.0 (Sound.sounds by.0)) }
     {
-        let width = self.width as usize;
-        let mut s = self;
-        let mut i: usize = 0;
-        while i < width {
-            let p = s.tones[i];
-            let old = p.tone;
-            let tone = old.raise(by);
-            s.tones[i] = Position { tone };
-            i += 1;
+        for i in 0..self.width as usize {
+            self.tones[i] = self.tones[i].raise(by);
         }
-        s.anchor = anchor;
-        s
+        self.anchor = anchor;
+        self
     }
 
     // The first v keys from the anchor on as the tones, and a new period.
@@ -158,45 +133,48 @@ impl State {
         requires { (valid_state self ≡ true) × (v ≤ most_positions) }
         ensures { result ≡ coded (widened_by cents (held self) v (Sound.sounds period.0)) }
     {
-        let a = self.anchor;
-        let mut s = State {
-            anchor: a,
-            width: v,
-            tones: [Position { tone: Tone::Muted }; PLACES],
-            period,
-        };
-        let mut i: u8 = 0;
-        while i < v {
-            let tone = self.sound_of(a.shift(KeySteps(i as i32)));
-            s.tones[i as usize] = Position { tone };
-            i += 1;
+        let anchor = self.anchor;
+        let mut tones = [Tone::Muted; PLACES];
+        for i in 0..v {
+            tones[i as usize] = self.sound_of(anchor.shift(KeySteps(i as i32)));
         }
-        s
+        State {
+            anchor,
+            width: v,
+            tones,
+            period,
+        }
     }
 
     // The tones within the width and the list changed.
-    fn with_tones(self, list: ToneChanges) -> State
+    fn with_tones(mut self, list: ToneChanges) -> State
         requires { valid_state self ≡ true }
         ensures { result ≡ coded (done cents (held self) (Action.tones_to (map capped_to (tones_meant list)))) }
     {
-        let mut s = self;
-        let width = self.width;
-        let count = list.count;
-        let mut i: u8 = 0;
-        while i < width {
-            if count <= i {
-                return s;
-            }
-            let at = i as usize;
-            let p = s.tones[at];
-            let old = p.tone;
-            let position = list.positions[at];
-            let change = position.change;
-            let tone = change.apply(old);
-            s.tones[at] = Position { tone };
-            i += 1;
+        for i in 0..self.width.min(list.count) as usize {
+            self.tones[i] = list.positions[i].apply(self.tones[i]);
         }
-        s
+        self
+    }
+
+    // Refused: unchanged, with the number that says why.
+    fn refused(self, number: u8) -> Reply
+        ensures { result ≡ record { state = self; number = number } }
+    {
+        Reply {
+            state: self,
+            number,
+        }
+    }
+
+    // What a call that is taken leaves.
+    fn taken(self) -> Reply
+        ensures { result ≡ record { state = self; number = Status.done } }
+    {
+        Reply {
+            state: self,
+            number: status::DONE,
+        }
     }
 
     // "Anchor to b: every sounding tone shifts by pitch(b) - t(0). Checks: 10, 13, 14."
@@ -206,29 +184,17 @@ impl State {
     {
         let b = amount_of(asked, self.anchor.distance(FIRST_KEY));
         if !is_between(0, HIGHEST_KEY, b.0) {
-            return Reply {
-                state: self,
-                number: status::ANCHOR_OUT_OF_RANGE,
-            };
+            return self.refused(status::ANCHOR_OUT_OF_RANGE);
         }
         let anchor = FIRST_KEY.shift(b);
-        let Reach::By(d) = self.reach(anchor) else {
-            return Reply {
-                state: self,
-                number: status::END_SILENT,
-            };
+        let Some(d) = self.reach(anchor) else {
+            return self.refused(status::END_SILENT);
         };
         let next = self.with_anchor(anchor, d);
         if !next.has_allowed_tones() {
-            return Reply {
-                state: self,
-                number: status::TONE_OUT_OF_RANGE,
-            };
+            return self.refused(status::TONE_OUT_OF_RANGE);
         }
-        Reply {
-            state: next,
-            number: status::DONE,
-        }
+        next.taken()
     }
 
     // "Width to v: new t(i) is the old pitch of key a+i; the new period is pitch(a+v) - t(0). Checks: 11, 13, 14, 12"; 25 before them.
@@ -237,41 +203,23 @@ impl State {
         ensures { result ≡ replied self (Action.width_to asked) }
     {
         if divides_by_zero(asked) {
-            return Reply {
-                state: self,
-                number: status::DIVISION_BY_ZERO,
-            };
+            return self.refused(status::DIVISION_BY_ZERO);
         }
         let v = amount_of(asked, KeySteps(self.width as i32));
         if !is_between(1, WIDEST, v.0) {
-            return Reply {
-                state: self,
-                number: status::WIDTH_OUT_OF_RANGE,
-            };
+            return self.refused(status::WIDTH_OUT_OF_RANGE);
         }
-        let Reach::By(period) = self.reach(self.anchor.shift(v)) else {
-            return Reply {
-                state: self,
-                number: status::END_SILENT,
-            };
+        let Some(period) = self.reach(self.anchor.shift(v)) else {
+            return self.refused(status::END_SILENT);
         };
         let next = self.with_width(v.0 as u8, period);
         if !next.has_allowed_tones() {
-            return Reply {
-                state: self,
-                number: status::TONE_OUT_OF_RANGE,
-            };
+            return self.refused(status::TONE_OUT_OF_RANGE);
         }
         if !is_period(period) {
-            return Reply {
-                state: self,
-                number: status::PERIOD_OUT_OF_RANGE,
-            };
+            return self.refused(status::PERIOD_OUT_OF_RANGE);
         }
-        Reply {
-            state: next,
-            number: status::DONE,
-        }
+        next.taken()
     }
 
     // "Period: P alone changes. Check: 12."
@@ -282,17 +230,9 @@ impl State {
         let old = self.period;
         let period = change.apply(old);
         if !is_period(period) {
-            return Reply {
-                state: self,
-                number: status::PERIOD_OUT_OF_RANGE,
-            };
+            return self.refused(status::PERIOD_OUT_OF_RANGE);
         }
-        let mut next = self;
-        next.period = period;
-        Reply {
-            state: next,
-            number: status::DONE,
-        }
+        State { period, ..self }.taken()
     }
 
     // "Tones: positions beyond the width have no effect, tones beyond the list stay. Check: 14."
@@ -302,15 +242,9 @@ impl State {
     {
         let next = self.with_tones(list);
         if !next.has_allowed_tones() {
-            return Reply {
-                state: self,
-                number: status::TONE_OUT_OF_RANGE,
-            };
+            return self.refused(status::TONE_OUT_OF_RANGE);
         }
-        Reply {
-            state: next,
-            number: status::DONE,
-        }
+        next.taken()
     }
 
     // "Calling a tone system sets all four parts."
@@ -318,10 +252,7 @@ impl State {
         requires { valid_state system ≡ true }
         ensures { result ≡ replied self (Action.system (held system)) }
     {
-        Reply {
-            state: system,
-            number: status::DONE,
-        }
+        system.taken()
     }
 
     // A retuning of any kind; `list` has the positions of a tones retuning.

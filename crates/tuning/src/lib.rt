@@ -4,11 +4,11 @@
 pub mod calls;
 
 ghost use Rattle.std.specs.Prelude.{◌≡◌, true, not, map, ◌≤◌, ◌<◌, ◌+◌, nat_abs, drop, take};
-ghost use Rattle.limits.specs.Limits.{most_anchor};
+ghost use Rattle.limits.specs.Limits.{most_anchor, most_positions};
 ghost use Rattle.cents.specs.Passages.{most_key};
 ghost use Rattle.tuning.specs.Tuning.{raised, sound_of, start};
 ghost use Rattle.tuning.specs.Desk.{cents, between, is_period, is_playable, playable, is_muted, beyond, any_beyond};
-ghost use Rattle.tuning.specs.State.{heard, heard_at, held, tone_of, coded, valid_state, all_muted};
+ghost use Rattle.tuning.specs.State.{heard, held, tone_of, coded, valid_state, all_muted};
 ghost use Rattle.tuning.specs.Inner.{located_at, size, farthest_sound};
 
 use cents::{Interval, KeyNumber, KeySteps, Pitch};
@@ -20,12 +20,10 @@ pub const PLACES: usize = MOST_POSITIONS as usize;
 // An interval this far takes every tone and every period out of its range, and so does any that is farther.
 pub const FARTHEST_SUM: i32 = 2 * FARTHEST_TONE + 1;
 
-// The start: its anchor, its width, so many tones, the pitch of the first, an octave and its twelfth part.
+// The start: its anchor, its width, the pitch of its first tone, an octave and its twelfth part.
 const START_KEY: KeyNumber = KeyNumber(60);
 
 const START_WIDTH: u8 = 12;
-
-const START_TONES: usize = START_WIDTH as usize;
 
 const START_PITCH: Pitch = Pitch(6_000_000);
 
@@ -34,27 +32,24 @@ const OCTAVE: Interval = Interval(1_200_000);
 const SEMITONE: Interval = Interval(100_000);
 
 // A tone of a state: a pitch, or muted.
+// Kept as it is: an Option of a pitch can't have the methods of a tone, and a struct round one is no plainer.
 #[derive(Clone, Copy)]
 pub enum Tone {
     Muted,
     At(Pitch),
 }
 
-// A position of the scale. (A field cannot be an array of enums, so the enum is in a struct.)
-#[derive(Clone, Copy)]
-pub struct Position {
-    pub tone: Tone,
-}
-
+// The tones of the positions, and muted ones in the places past the width.
 #[derive(Clone, Copy)]
 pub struct State {
     pub anchor: KeyNumber,
     pub width: u8,
-    pub tones: [Position; PLACES],
+    pub tones: [Tone; PLACES],
     pub period: Interval,
 }
 
 // A state, and the number of the call that left it.
+// Kept as it is: a call that is refused hands the state back too, so no Result of a state or a number says it.
 #[derive(Clone, Copy)]
 pub struct Reply {
     pub state: State,
@@ -99,19 +94,14 @@ pub enum ToneChange {
     Set(Pitch),
 }
 
-#[derive(Clone, Copy)]
-pub struct PositionChange {
-    pub change: ToneChange,
-}
-
-// The positions of a tones retuning.
+// The positions of a tones retuning: the first `count`.
 #[derive(Clone, Copy)]
 pub struct ToneChanges {
     pub count: u8,
-    pub positions: [PositionChange; PLACES],
+    pub positions: [ToneChange; PLACES],
 }
 
-// The four kinds. (An enum holds no array: the positions of a tones retuning are beside it.)
+// The four kinds. The positions of a tones retuning are beside it: a row of the tables has the kind, and says where its positions stand in a list of their own.
 #[derive(Clone, Copy)]
 pub enum Retuning {
     Anchor(Amount),
@@ -120,38 +110,22 @@ pub enum Retuning {
     Tones,
 }
 
-// How far the key at the other end lies above position 0.
-#[derive(Clone, Copy)]
-pub enum Reach {
-    Silent,
-    By(Interval),
-}
-
 // "x - a = q·w + r with r from 0 to w-1"
 fn locate(steps: KeySteps, width: u8) -> Located
     requires { (0 < width) × (nat_abs steps.0 ≤ most_key) }
     ensures { result ≡ located_at steps.0 width }
 {
-    let n = steps.0;
-    let w = width as u32;
-    if n < 0 {
-        let below = (-1 - n) as u32;
-        return Located {
-            position: (w - 1 - below % w) as usize,
-            periods: -1 - (below / w) as i32,
-        };
-    }
-    let above = n as u32;
+    let width = width as i32;
     Located {
-        position: (above % w) as usize,
-        periods: (above / w) as i32,
+        position: steps.0.rem_euclid(width) as usize,
+        periods: steps.0.div_euclid(width),
     }
 }
 
 fn is_between(low: i32, high: i32, z: i32) -> bool
     ensures { result ≡ between low high z }
 {
-    low <= z && z <= high
+    (low..=high).contains(&z)
 }
 
 impl Tone {
@@ -169,10 +143,7 @@ impl Tone {
     pub fn is_muted(self) -> bool
         ensures { result ≡ is_muted (heard self) }
     {
-        match self {
-            Tone::Muted => true,
-            Tone::At(_) => false,
-        }
+        matches!(self, Tone::Muted)
     }
 
     // Whether a state may have this tone.
@@ -189,13 +160,10 @@ impl Tone {
     pub fn playable(self) -> Tone
         ensures { result ≡ tone_of (playable (heard self)) }
     {
-        let Tone::At(p) = self else {
-            return Tone::Muted;
-        };
-        if is_playable(p) {
-            return self;
+        match self {
+            Tone::At(p) if is_playable(p) => self,
+            _ => Tone::Muted,
         }
-        Tone::Muted
     }
 }
 
@@ -220,89 +188,53 @@ impl State {
         ensures { (result ≡ tone_of (sound_of cents (held self) key.0)) × (size result ≤ farthest_sound) }
     {
         let place = locate(key.distance(self.anchor), self.width);
-        let r = place.position;
-        let p = self.tones[r];
-        let tone = p.tone;
-        tone.raise(self.period.times(place.periods))
+        self.tones[place.position].raise(self.period.times(place.periods))
     }
 
     // Whether the tones in use are in their range.
-    fn has_allowed_tones(self) -> bool
-        ensures { result ≡ not (any_beyond (map heard_at (take self.width self.tones))) }
+    fn has_allowed_tones(&self) -> bool
+        requires { self.now.width ≤ most_positions }
+        ensures { result ≡ not (any_beyond (held self.now).tones) }
     {
-        let width = self.width as usize;
-        let mut i: usize = 0;
-        while i < width {
-            if PLACES <= i {
-                return true;
-            }
-            let p = self.tones[i];
-            let tone = p.tone;
-            if !tone.is_allowed() {
-                return false;
-            }
-            i += 1;
-        }
-        true
+        let used = &self.tones[..self.width as usize];
+        used.iter().all(|tone| tone.is_allowed())
     }
 
     // Whether the places past the width are unused.
-    fn has_muted_rest(self) -> bool
-        ensures { result ≡ all_muted (map heard_at (drop self.width self.tones)) }
+    fn has_muted_rest(&self) -> bool
+        requires { self.now.width ≤ most_positions }
+        ensures { result ≡ all_muted (map heard (drop self.now.width self.now.tones)) }
     {
-        let mut ok = true;
-        let mut i = self.width as usize;
-        while i < PLACES {
-            let p = self.tones[i];
-            let tone = p.tone;
-            let muted = tone.is_muted();
-            ok = ok & muted;
-            i += 1;
-        }
-        ok
+        let unused = &self.tones[self.width as usize..];
+        unused.iter().all(|tone| tone.is_muted())
     }
 
     // Whether every number is in its range, and the unused places are zero.
+    #[tactic(auto, unfolding(crate::specs::State::valid_state))]
     pub fn is_valid(self) -> bool
         ensures { result ≡ valid_state self }
     {
-        if MOST_ANCHOR < self.anchor.0 {
-            return false;
-        }
-        if self.width < 1 {
-            return false;
-        }
-        if MOST_POSITIONS < self.width {
-            return false;
-        }
-        let period = self.period;
-        if !is_period(period) {
-            return false;
-        }
-        if !self.has_allowed_tones() {
-            return false;
-        }
-        self.has_muted_rest()
+        self.anchor.0 <= MOST_ANCHOR
+            && 1 <= self.width
+            && self.width <= MOST_POSITIONS
+            && is_period(self.period)
+            && self.has_allowed_tones()
+            && self.has_muted_rest()
     }
 
     // "At the start: anchor 60, width 12, t(i) = 6,000,000 + 100,000·i, P = 1,200,000"
     pub fn start() -> State
         ensures { result ≡ coded (start cents) }
     {
-        let mut s = State {
+        let mut tones = [Tone::Muted; PLACES];
+        for i in 0..START_WIDTH {
+            tones[i as usize] = Tone::At(START_PITCH.shift(SEMITONE.times(i as i32)));
+        }
+        State {
             anchor: START_KEY,
             width: START_WIDTH,
-            tones: [Position { tone: Tone::Muted }; PLACES],
+            tones,
             period: OCTAVE,
-        };
-        let mut i: usize = 0;
-        let mut t = START_PITCH;
-        while i < START_TONES {
-            let tone = Tone::At(t);
-            s.tones[i] = Position { tone };
-            i += 1;
-            t = t.shift(SEMITONE);
         }
-        s
     }
 }

@@ -11,11 +11,10 @@ ghost use Rattle.std.specs.Prelude.{◌≡◌, true, ◌≤◌};
 ghost use Rattle.tuning.specs.State.{valid_state};
 
 use cents::{Interval, KeyNumber, Pitch};
-use std::io;
 use std::io::{ErrorKind, Read, Write};
+use std::{array, io};
 use tuning::{
-    Amount, Operator, PeriodChange, Position, PositionChange, Reply, Retuning, State, Tone,
-    ToneChange, ToneChanges,
+    Amount, Operator, PeriodChange, Reply, Retuning, State, Tone, ToneChange, ToneChanges,
 };
 
 const CASE: usize = 552;
@@ -28,6 +27,8 @@ const COUNT: usize = 11;
 const POSITIONS: usize = 12;
 
 const POSITION: usize = 9;
+
+const ANSWER: usize = 308;
 
 // Where the positions of an answer begin, and how long each is.
 const TONES: usize = 7;
@@ -42,75 +43,32 @@ const LINE_FEED: u8 = 10;
 
 // A sum of a text has up to 41 bits. One that 32 bits can't hold is out of every range, and so is the farthest that they can,
 // which stands for it.
-const FARTHEST: u64 = 2_147_483_647;
-
-fn wide(b: u8) -> u64
-    ensures { result ≤ 255 }
-{
-    b as u64
-}
-
-fn two_bytes(high: u8, low: u8) -> u16 {
-    high as u16 * 256 + low as u16
-}
-
-fn four_bytes(case: &[u8; 552], at: usize) -> u64
-    requires { at ≤ 548 }
-    ensures { result ≤ 4294967295 }
-{
-    wide(case[at]) * 16777216
-        + wide(case[at + 1]) * 65536
-        + wide(case[at + 2]) * 256
-        + wide(case[at + 3])
-}
+const FARTHEST: i64 = 2_147_483_647;
 
 // Eight bytes of two's complement as a number of at most `FARTHEST` either way.
-fn clamp(bits: u64) -> i32 {
-    let below = u64::MAX - bits;
-    if below < FARTHEST {
-        return -1 - below as i32;
-    }
-    if bits < FARTHEST {
-        return bits as i32;
-    }
-    if below < bits {
-        return -(FARTHEST as i32);
-    }
-    FARTHEST as i32
-}
-
-fn value_at(case: &[u8; 552], at: usize) -> i32
+fn value_at(case: &[u8; CASE], at: usize) -> i32
     requires { at ≤ 544 }
 {
-    clamp(four_bytes(case, at) * 4294967296 + four_bytes(case, at + 4))
+    let bytes = array::from_fn(|i| case[at + i]);
+    i64::from_be_bytes(bytes).clamp(-FARTHEST, FARTHEST) as i32
 }
 
-fn change_at(case: &[u8; 552], at: usize) -> ToneChange
+fn change_at(case: &[u8; CASE], at: usize) -> ToneChange
     requires { at ≤ 543 }
 {
     let value = value_at(case, at + 1);
-    let kind = case[at];
-    match kind {
+    match case[at] {
         0 => ToneChange::Mute,
         1 => ToneChange::Set(Pitch(value)),
         _ => ToneChange::Move(Interval(value)),
     }
 }
 
-fn changes_of(case: &[u8; 552]) -> ToneChanges {
-    let mut list = ToneChanges {
+fn changes_of(case: &[u8; CASE]) -> ToneChanges {
+    ToneChanges {
         count: case[COUNT],
-        positions: [PositionChange {
-            change: ToneChange::Mute,
-        }; 60],
-    };
-    let mut i: usize = 0;
-    while i < 60 {
-        let change = change_at(case, POSITIONS + POSITION * i);
-        list.positions[i] = PositionChange { change };
-        i += 1;
+        positions: array::from_fn(|i| change_at(case, POSITIONS + POSITION * i)),
     }
-    list
 }
 
 fn amount_asked(opcode: u8, n: u16) -> Amount {
@@ -124,9 +82,9 @@ fn amount_asked(opcode: u8, n: u16) -> Amount {
     }
 }
 
-fn retuning_of(case: &[u8; 552]) -> Retuning {
+fn retuning_of(case: &[u8; CASE]) -> Retuning {
     let opcode = case[0];
-    let n = two_bytes(case[1], case[2]);
+    let n = u16::from_be_bytes([case[1], case[2]]);
     let value = Interval(value_at(case, VALUE));
     match opcode {
         1..=4 => Retuning::Anchor(amount_asked(opcode, n)),
@@ -137,100 +95,75 @@ fn retuning_of(case: &[u8; 552]) -> Retuning {
     }
 }
 
-fn tone_at(case: &[u8; 552], at: usize) -> Tone
+fn tone_at(case: &[u8; CASE], at: usize) -> Tone
     requires { at ≤ 543 }
 {
-    if case[at] == 0 {
-        return Tone::Muted;
+    match case[at] {
+        0 => Tone::Muted,
+        _ => Tone::At(Pitch(value_at(case, at + 1))),
     }
-    Tone::At(Pitch(value_at(case, at + 1)))
 }
 
 // The state of a tone system, valid or not; an anchor is one byte.
-fn system_of(case: &[u8; 552]) -> State {
-    let mut s = State {
+fn system_of(case: &[u8; CASE]) -> State {
+    State {
         anchor: KeyNumber(case[2]),
         width: case[COUNT],
-        tones: [Position { tone: Tone::Muted }; 60],
+        tones: array::from_fn(|i| tone_at(case, POSITIONS + POSITION * i)),
         period: Interval(value_at(case, VALUE)),
-    };
-    let mut i: usize = 0;
-    while i < 60 {
-        let tone = tone_at(case, POSITIONS + POSITION * i);
-        s.tones[i] = Position { tone };
-        i += 1;
     }
-    s
 }
 
-fn call(state: State, case: &[u8; 552]) -> Reply
+fn call(state: State, case: &[u8; CASE]) -> Reply
     requires { valid_state state ≡ true }
 {
-    let opcode = case[0];
-    if opcode == RESET {
-        return Reply {
+    match case[0] {
+        RESET => Reply {
             state: State::start(),
             number: status::DONE,
-        };
+        },
+        TONE_SYSTEM => take_system(state, system_of(case)),
+        _ => state.retune(retuning_of(case), changes_of(case)),
     }
-    if opcode != TONE_SYSTEM {
-        return state.retune(retuning_of(case), changes_of(case));
-    }
-    let system = system_of(case);
-    if !system.is_valid() {
-        return Reply {
-            state,
-            number: status::TABLE_DAMAGED,
-        };
-    }
-    state.take_system(system)
 }
 
-// Two's complement of 32 bits.
-fn complement(v: i32) -> u64 {
-    (v as i64 + 4294967296) as u64 % 4294967296
+fn take_system(state: State, system: State) -> Reply {
+    if system.is_valid() {
+        return state.take_system(system);
+    }
+    Reply {
+        state,
+        number: status::TABLE_DAMAGED,
+    }
 }
 
-fn put_four(answer: &mut [u8; 308], at: usize, v: i32)
+fn put_four(answer: &mut [u8; ANSWER], at: usize, v: i32)
     requires { at ≤ 304 }
 {
-    let n = complement(v);
-    answer[at] = (n / 16777216 % 256) as u8;
-    answer[at + 1] = (n / 65536 % 256) as u8;
-    answer[at + 2] = (n / 256 % 256) as u8;
-    answer[at + 3] = (n % 256) as u8;
+    answer[at..at + 4].copy_from_slice(&v.to_be_bytes());
 }
 
-fn put_tone(answer: &mut [u8; 308], at: usize, tone: Tone)
+fn put_tone(answer: &mut [u8; ANSWER], at: usize, tone: Tone)
     requires { at ≤ 303 }
 {
-    let Tone::At(p) = tone else {
-        return;
-    };
-    answer[at] = 1;
-    put_four(answer, at + 1, p.0);
-}
-
-fn send(output: &mut impl Write, answer: &[u8; 308]) -> io::Result<()> {
-    output.write_all(answer)
+    if let Tone::At(p) = tone {
+        answer[at] = 1;
+        put_four(answer, at + 1, p.0);
+    }
 }
 
 fn write_reply(output: &mut impl Write, reply: Reply) -> io::Result<()> {
     let state = reply.state;
-    let mut answer = [0u8; 308];
+    let mut answer = [0u8; ANSWER];
     answer[0] = reply.number;
     answer[1] = state.anchor.0;
     answer[2] = state.width;
     put_four(&mut answer, 3, state.period.0);
-    let mut i: usize = 0;
-    while i < 60 {
-        let p = state.tones[i];
-        let tone = p.tone;
-        put_tone(&mut answer, TONES + TONE * i, tone);
-        i += 1;
+    for (i, tone) in state.tones.iter().enumerate() {
+        put_tone(&mut answer, TONES + TONE * i, *tone);
     }
-    answer[307] = LINE_FEED;
-    send(output, &answer)
+    answer[ANSWER - 1] = LINE_FEED;
+    output.write_all(&answer)
 }
 
 // Takes the next case; false where the input ends before its last byte.

@@ -1,17 +1,15 @@
 -- `tables::decode::changes_from` meets its contract. The loop's invariant: the first places hold the changes up to the i-th, and the rest mutes. Assumes nothing.
-use mathlib.Core.List.{List, map}
+use mathlib.Core.List.{List}
 use mathlib.Core.Path.{◌≡◌, sym, ap, ◌∙◌}
 use Prim.Native.Nat.{ℕ, ◌-◌}
 use native.Mathlib.Omega.{arith}
 use lib.ListN.{set}
 use Rattle.tuning.specs.State.{places}
-use Rattle.tuning.specs.declared.PositionChange.{PositionChange}
 use Rattle.tuning.specs.declared.ToneChange.TheVariants.{Mute}
 use Rattle.tuning.specs.declared.ToneChange.{ToneChange}
 use Rattle.tuning.specs.declared.ToneChanges.{ToneChanges}
 use Rattle.tables.proofs.Lists.{part_none, part_length, filled_next}
 use Rattle.tables.specs.Layout.{change_of, joined_from, full}
-use Rattle.tables.specs.Values.{change_at}
 use Rattle.tables.proofs.decode.changes_from.Invariants.{holding}
 use Rattle.tables.proofs.decode.changes_from.Goals.{At-loop-i}
 use Rattle.tables.proofs.decode.changes_from.Goals as goal
@@ -28,13 +26,13 @@ loop-i-preserved c =
     let a = l.args in
     let p = l.requires in
     let i = l.loop-i.i in
-    let with_positions_step : List PositionChange → ToneChanges = λ ps. record { count = a.to - a.from; positions = ps } in
+    let with_positions_step : List ToneChange → ToneChanges = λ ps. record { count = a.to - a.from; positions = ps } in
     let taken = c.loop-i-test.true in (
       omega arith,
       omega arith,
-      ap (λ (u : ToneChanges). record { count = u.count; positions = set u.positions (i - a.from) (change_at c.change_at-change.result) }) l.loop-i.invariant.2
-          ∙ ap (λ (x : ToneChange). with_positions_step (set (full (change_at Mute) places (map change_at (joined_from change_of a.kinds.now a.changes.now a.from i))) (i - a.from) (change_at x))) c.change_at-change.ensures
-          ∙ ap with_positions_step (filled_next change_of a.kinds.now a.changes.now a.from change_at (change_at Mute) places i l.loop-i.invariant.0 (omega (arith, p)) (omega (arith, p)) (omega (arith, p))),
+      ap (λ (u : ToneChanges). record { count = u.count; positions = set u.positions (i - a.from) c.change_at.result }) l.loop-i.invariant.2
+          ∙ ap (λ (x : ToneChange). with_positions_step (set (full Mute places (joined_from change_of a.kinds.now a.changes.now a.from i)) (i - a.from) x)) c.change_at.ensures
+          ∙ ap with_positions_step (filled_next change_of a.kinds.now a.changes.now a.from Mute places i l.loop-i.invariant.0 (omega (arith, p)) (omega (arith, p)) (omega (arith, p))),
     )
 
 pub returns : goal.returns

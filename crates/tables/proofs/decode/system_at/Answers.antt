@@ -1,15 +1,15 @@
 -- `tables::decode::system_at` meets its contract. The loop's invariant: the first places hold the tones up to the i-th, and the rest is muted. Assumes nothing.
-use mathlib.Core.List.{List, map}
+use mathlib.Core.List.{List}
 use mathlib.Core.Path.{◌≡◌, sym, ap, ◌∙◌}
 use Prim.Native.Nat.{ℕ, ◌-◌}
 use native.Mathlib.Omega.{arith}
 use lib.ListN.{set}
 use Rattle.tuning.specs.State.{places}
-use Rattle.tuning.specs.declared.Position.{Position}
 use Rattle.tuning.specs.declared.State.{State}
 use Rattle.tuning.specs.declared.Tone.{Tone}
+use Rattle.tuning.specs.declared.Tone.TheVariants.{Muted}
 use Rattle.tables.proofs.Lists.{part_none, part_length, filled_next}
-use Rattle.tables.proofs.Systems.{position, free, holding, holding_all}
+use Rattle.tables.proofs.Systems.{holding, holding_all}
 use Rattle.tables.specs.Layout.{tone_of, joined_from, full}
 use Rattle.tables.proofs.decode.system_at.Goals.{At-loop-i}
 use Rattle.tables.proofs.decode.system_at.Goals as goal
@@ -38,13 +38,13 @@ loop-i-preserved c =
     let a = l.args in
     let p = l.requires in
     let i = l.loop-i.i in
-    let with_tones_holds : List Position → State = λ ts. record { anchor = a.anchor; width = a.to - a.from; tones = ts; period = a.period } in
+    let with_tones_holds : List Tone → State = λ ts. record { anchor = a.anchor; width = a.to - a.from; tones = ts; period = a.period } in
     let taken = c.loop-i-test.true in (
       omega arith,
       omega arith,
-      ap (λ (u : State). record { anchor = u.anchor; width = u.width; tones = set u.tones (i - a.from) (position c.tone_at-tone.result); period = u.period }) l.loop-i.invariant.2
-          ∙ ap (λ (t : Tone). with_tones_holds (set (full free places (map position (joined_from tone_of a.sounding.now a.tones.now a.from i))) (i - a.from) (position t))) c.tone_at-tone.ensures
-          ∙ ap with_tones_holds (filled_next tone_of a.sounding.now a.tones.now a.from position free places i l.loop-i.invariant.0 (omega (arith, p)) (omega (arith, p)) (omega (arith, p))),
+      ap (λ (u : State). record { anchor = u.anchor; width = u.width; tones = set u.tones (i - a.from) c.tone_at.result; period = u.period }) l.loop-i.invariant.2
+          ∙ ap (λ (t : Tone). with_tones_holds (set (full Muted places (joined_from tone_of a.sounding.now a.tones.now a.from i)) (i - a.from) t)) c.tone_at.ensures
+          ∙ ap with_tones_holds (filled_next tone_of a.sounding.now a.tones.now a.from Muted places i l.loop-i.invariant.0 (omega (arith, p)) (omega (arith, p)) (omega (arith, p))),
     )
 
 pub returns : goal.returns

@@ -36,11 +36,11 @@ apply-period-requires c =
 pub returns-then-not-is_period : goal.returns-then-not-is_period
 returns-then-not-is_period c =
     let a = (goal.at.returns-then-not-is_period c).Start in
-    reply_refused a.args.self _ a.requires (long a) 12 (same a ∙ period_out _ _ (tested (goal.at.returns-then-not-is_period c).After-is_period ∙ c.if-not-is_period.true))
+    c.refused.ensures ∙ reply_refused a.args.self _ a.requires (long a) 12 (same a ∙ period_out _ _ (tested (goal.at.returns-then-not-is_period c).After-is_period ∙ c.if-not-is_period.true))
 
 pub returns : goal.returns
 returns c =
     let a = (goal.at.returns c).Start in
     let s = a.args.self in
-    reply_taken s _ _ (same a ∙ period_taken _ _ (tested (goal.at.returns c).After-is_period ∙ c.if-not-is_period.false)) _
+    c.taken.ensures ∙ reply_taken s _ _ (same a ∙ period_taken _ _ (tested (goal.at.returns c).After-is_period ∙ c.if-not-is_period.false)) _
     (ap (λ (d : ℤ). record { anchor = s.anchor; width = s.width; tones = s.tones; period = record { 0 = d } }) c.apply-period.ensures ∙ period_state s a.requires (long a) _)

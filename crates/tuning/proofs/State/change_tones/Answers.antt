@@ -25,8 +25,8 @@ same c = sym (capped_tones (held c.args.self) (valid_held c.args.self c.requires
 pub returns-then-not-has_allowed_tones : goal.returns-then-not-has_allowed_tones
 returns-then-not-has_allowed_tones c =
     let a = (goal.at.returns-then-not-has_allowed_tones c).Start in
-    reply_refused a.args.self _ a.requires (long a) 14 (same a ∙ tones_beyond _ _ (tones_tested _ c.with_tones-next.ensures c.has_allowed_tones.ensures ∙ ap not c.if-not-has_allowed_tones.true))
+    c.refused.ensures ∙ reply_refused a.args.self _ a.requires (long a) 14 (same a ∙ tones_beyond _ _ (tones_tested _ c.with_tones-next.ensures c.has_allowed_tones.ensures ∙ ap not c.if-not-has_allowed_tones.true))
 
 pub returns : goal.returns
 returns c =
-    reply_taken c.args.self _ _ (same (goal.at.returns c).Start ∙ tones_taken _ _ (tones_tested _ c.with_tones-next.ensures c.has_allowed_tones.ensures ∙ ap not c.if-not-has_allowed_tones.false)) _ c.with_tones-next.ensures
+    c.taken.ensures ∙ reply_taken c.args.self _ _ (same (goal.at.returns c).Start ∙ tones_taken _ _ (tones_tested _ c.with_tones-next.ensures c.has_allowed_tones.ensures ∙ ap not c.if-not-has_allowed_tones.false)) _ c.with_tones-next.ensures

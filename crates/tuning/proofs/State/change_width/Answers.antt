@@ -16,7 +16,7 @@ use Rattle.tuning.specs.declared.State.{State}
 use Rattle.tuning.specs.Tuning.{width, amounts, reach}
 use Rattle.tuning.specs.Desk.{cents, is_width, divides_by_zero}
 use Rattle.tuning.specs.State.{held, valid_state}
-use Rattle.tuning.specs.Inner.{reach_of}
+use Rattle.tuning.specs.Inner.{interval_of}
 use Rattle.tuning.proofs.Lists.{length_mapped}
 use Rattle.tuning.proofs.Valid.{valid_of}
 use Rattle.tuning.proofs.Steps.{natural}
@@ -61,12 +61,12 @@ key a n x z e k =
     let f = e ∙ ap (key_shift a) k in
     omega (signed, f)
 
-spans : (c : After-reach) (n : ℕ) → c.amount_of-v.result.0 ≡ pos n → c.reach.result ≡ reach_of (reach cents (held c.args.self) (c.args.self.anchor.0 + n))
-spans c n k = c.reach.ensures.0 ∙ ap (λ (x : ℕ). reach_of (reach cents (held c.args.self) x)) (key c.args.self.anchor.0 n c.shift.result.0 c.amount_of-v.result.0 c.shift.ensures k)
+spans : (c : After-reach) (n : ℕ) → c.amount_of-v.result.0 ≡ pos n → c.reach.result ≡ interval_of (reach cents (held c.args.self) (c.args.self.anchor.0 + n))
+spans c n k = c.reach.ensures.distance ∙ ap (λ (x : ℕ). interval_of (reach cents (held c.args.self) x)) (key c.args.self.anchor.0 n c.shift.result.0 c.amount_of-v.result.0 c.shift.ensures k)
 
 pub returns-then-divides_by_zero : goal.returns-then-divides_by_zero
 returns-then-divides_by_zero c =
-    reply_refused c.args.self _ c.requires (long (goal.at.returns-then-divides_by_zero c).Start) 25 (width_divided _ _ (sym c.divides_by_zero.ensures ∙ c.if-divides_by_zero.true))
+    c.refused.ensures ∙ reply_refused c.args.self _ c.requires (long (goal.at.returns-then-divides_by_zero c).Start) 25 (width_divided _ _ (sym c.divides_by_zero.ensures ∙ c.if-divides_by_zero.true))
 
 pub amount_of-v-requires : goal.amount_of-v-requires
 amount_of-v-requires c =
@@ -76,7 +76,7 @@ amount_of-v-requires c =
 pub returns-then-not-is_between : goal.returns-then-not-is_between
 returns-then-not-is_between c =
     let t = (goal.at.returns-then-not-is_between c).After-is_between in
-    reply_refused c.args.self _ c.requires (long (goal.at.returns-then-not-is_between c).Start) 11 (width_out _ _ (undivided t) (ap is_width (meant t) ∙ sym t.is_between.ensures ∙ c.if-not-is_between.true))
+    c.refused-then-not-is_between.ensures ∙ reply_refused c.args.self _ c.requires (long (goal.at.returns-then-not-is_between c).Start) 11 (width_out _ _ (undivided t) (ap is_width (meant t) ∙ sym t.is_between.ensures ∙ c.if-not-is_between.true))
 
 pub shift-requires : goal.shift-requires
 shift-requires c =
@@ -95,7 +95,7 @@ returns-in_default c =
     let g = goal.at.returns-in_default c in
     let a = g.After-is_between in
     let w = new a c.if-not-is_between.false in
-    reply_refused c.args.self _ c.requires (long g.Start) 13
+    c.refused-in_default.ensures ∙ reply_refused c.args.self _ c.requires (long g.Start) 13
     (width_silent _ _ (undivided a) _ (meant a ∙ w.whole) w.least w.most (reached (spans g.After-reach _ (steps a c.if-not-is_between.false)) c.in_default.is))
 
 pub overflow_cast-v : goal.overflow_cast-v
@@ -109,8 +109,8 @@ returns-then-not-has_allowed_tones c =
     let g = goal.at.returns-then-not-has_allowed_tones c in
     let a = g.After-is_between in
     let w = new a c.if-not-is_between.false in
-    reply_refused c.args.self _ c.requires (long g.Start) 14
-    (width_beyond _ _ (undivided a) _ (meant a ∙ w.whole) w.least w.most _ (reached (spans g.After-reach _ (steps a c.if-not-is_between.false)) c.in-By.is)
+    c.refused-then-not-has_allowed_tones.ensures ∙ reply_refused c.args.self _ c.requires (long g.Start) 14
+    (width_beyond _ _ (undivided a) _ (meant a ∙ w.whole) w.least w.most _ (reached (spans g.After-reach _ (steps a c.if-not-is_between.false)) c.in-Some.is)
     (tones_tested _ c.with_width-next.ensures c.has_allowed_tones.ensures ∙ ap not c.if-not-has_allowed_tones.true))
 
 pub returns-then-not-is_period : goal.returns-then-not-is_period
@@ -118,8 +118,8 @@ returns-then-not-is_period c =
     let g = goal.at.returns-then-not-is_period c in
     let a = g.After-is_between in
     let w = new a c.if-not-is_between.false in
-    reply_refused c.args.self _ c.requires (long g.Start) 12
-    (width_period _ _ (undivided a) _ (meant a ∙ w.whole) w.least w.most _ (reached (spans g.After-reach _ (steps a c.if-not-is_between.false)) c.in-By.is)
+    c.refused-then-not-is_period.ensures ∙ reply_refused c.args.self _ c.requires (long g.Start) 12
+    (width_period _ _ (undivided a) _ (meant a ∙ w.whole) w.least w.most _ (reached (spans g.After-reach _ (steps a c.if-not-is_between.false)) c.in-Some.is)
     (tones_tested _ c.with_width-next.ensures c.has_allowed_tones.ensures ∙ ap not c.if-not-has_allowed_tones.false)
     (sym c.is_period.ensures ∙ c.if-not-is_period.true))
 
@@ -128,8 +128,8 @@ returns c =
     let g = goal.at.returns c in
     let a = g.After-is_between in
     let w = new a c.if-not-is_between.false in
-    reply_taken c.args.self _ _
-    (width_taken _ _ (undivided a) _ (meant a ∙ w.whole) w.least w.most _ (reached (spans g.After-reach _ (steps a c.if-not-is_between.false)) c.in-By.is)
+    c.taken.ensures ∙ reply_taken c.args.self _ _
+    (width_taken _ _ (undivided a) _ (meant a ∙ w.whole) w.least w.most _ (reached (spans g.After-reach _ (steps a c.if-not-is_between.false)) c.in-Some.is)
     (tones_tested _ c.with_width-next.ensures c.has_allowed_tones.ensures ∙ ap not c.if-not-has_allowed_tones.false)
     (sym c.is_period.ensures ∙ c.if-not-is_period.false))
     _ c.with_width-next.ensures

@@ -1,28 +1,20 @@
--- The loop's invariant: what was found so far and what the rest of the places gives are together the answer.
-use mathlib.Core.Path.{◌≡◌, refl, sym, ◌∙◌}
+-- The places past the width are tested one by one.
+use mathlib.Core.Path.{◌≡◌, sym, ◌∙◌}
+use Prim.Native.Nat.{◌-◌}
 use native.Mathlib.Omega.{arith}
-use lib.ListN.{length, drop}
-use Rattle.tuning.proofs.Lists.{length_mapped, every_turn, every_end}
-use Rattle.tuning.proofs.Valid.{none, is_free, all_free}
-use Rattle.tuning.proofs.State.has_muted_rest.Goals.{At-loop-i}
+use lib.ListN.{length, length-drop, drop}
+use lib.Seq.{take_all}
+use Rattle.std.proofs.Common.{rules, tests}
+use Rattle.std.proofs.lemmas.Iterator.{YieldsList-from_slice}
+use Rattle.std.proofs.lemmas.Iterator.Search.{all_from_yields_List}
+use Rattle.tuning.proofs.Lists.{length_mapped}
+use Rattle.tuning.proofs.Valid.{is_free, all_free}
 use Rattle.tuning.proofs.State.has_muted_rest.Goals as goal
-
--- an array of 60
-long : (c : goal.Start) → length c.args.self.tones ≡ 60
-long c = search length_mapped
-
-pub loop-i-init : goal.loop-i-init
-loop-i-init c = refl
-
-pub loop-i-preserved : goal.loop-i-preserved
-loop-i-preserved c =
-    let l = (goal.at.loop-i-preserved c).At-loop-i in
-    let n = long l.before in
-    every_turn is_free l.args.self.tones l.loop-i.i l.loop-i.ok none (omega arith) c.is_muted-muted.ensures ∙ l.loop-i.invariant
 
 pub returns : goal.returns
 returns c =
-    let l = (goal.at.returns c).At-loop-i in
-    let s = l.args.self in
-    let n = long l.before in
-    sym (every_end is_free s.tones l.loop-i.i l.loop-i.ok (omega arith)) ∙ l.loop-i.invariant ∙ sym (all_free (drop s.width s.tones))
+    let s = c.args.self.now in
+    let l = drop s.width s.tones in
+    let long : length s.tones ≡ 60 = search length_mapped in
+    let rest = c.iter.ensures.rest ∙ take_all (60 - s.width) l (omega (arith, length-drop s.width s.tones)) in
+    all_from_yields_List is_free _ _ _ c.all.ensures.ran (YieldsList-from_slice l rest) (λ x b q k. search (rules, tests)) ∙ sym (all_free l)

@@ -12,7 +12,6 @@ use mir.Syntax.{w32}
 use mir.Val.{SFits}
 use Rattle.tuning.specs.Tuning.{amounts}
 use Rattle.tuning.specs.Desk.{is_anchor}
-use Rattle.tuning.specs.Inner.{reach_size}
 use Rattle.tuning.proofs.Lists.{length_mapped}
 use Rattle.tuning.proofs.Valid.{valid_of}
 use Rattle.tuning.proofs.Steps.{natural, from_first, above_first}
@@ -51,7 +50,7 @@ amount_of-b-requires c =
 pub returns-then-not-is_between : goal.returns-then-not-is_between
 returns-then-not-is_between c =
     let t = (goal.at.returns-then-not-is_between c).After-is_between in
-    reply_refused c.args.self _ c.requires (long (goal.at.returns-then-not-is_between c).Start) 10 (anchor_out _ _ (ap is_anchor (meant t) ∙ sym (tested t) ∙ c.if-not-is_between.true))
+    c.refused.ensures ∙ reply_refused c.args.self _ c.requires (long (goal.at.returns-then-not-is_between c).Start) 10 (anchor_out _ _ (ap is_anchor (meant t) ∙ sym (tested t) ∙ c.if-not-is_between.true))
 
 pub shift-anchor-requires : goal.shift-anchor-requires
 shift-anchor-requires c =
@@ -61,31 +60,31 @@ shift-anchor-requires c =
 
 pub reach-requires : goal.reach-requires
 reach-requires c =
-    (c.requires, omega (arith, most (key c) (new (goal.at.reach-requires c).After-is_between c.if-not-is_between.false)))
+    (c.requires, omega (arith, most (key (goal.at.reach-requires c).After-shift-anchor) (new (goal.at.reach-requires c).After-is_between c.if-not-is_between.false)))
 
 pub returns-in_default : goal.returns-in_default
 returns-in_default c =
     let a = goal.at.returns-in_default c in
     let k = key a.After-shift-anchor in
-    reply_refused c.args.self _ c.requires (long a.Start) 13
-    (anchor_silent _ _ _ (meant a.After-is_between ∙ sym k) (most k (new a.After-is_between c.if-not-is_between.false)) (reached c.reach.ensures.0 c.in_default.is))
+    c.refused-in_default.ensures ∙ reply_refused c.args.self _ c.requires (long a.Start) 13
+    (anchor_silent _ _ _ (meant a.After-is_between ∙ sym k) (most k (new a.After-is_between c.if-not-is_between.false)) (reached c.reach.ensures.distance c.in_default.is))
 
 pub with_anchor-next-requires : goal.with_anchor-next-requires
-with_anchor-next-requires c = (c.requires, omega (arith, c.reach.ensures.1, ap reach_size c.in-By.is))
+with_anchor-next-requires c = (c.requires, c.in-Some.ensures.near)
 
 pub returns-then-not-has_allowed_tones : goal.returns-then-not-has_allowed_tones
 returns-then-not-has_allowed_tones c =
     let a = goal.at.returns-then-not-has_allowed_tones c in
     let k = key a.After-shift-anchor in
-    reply_refused c.args.self _ c.requires (long a.Start) 14
-    (anchor_beyond _ _ _ (meant a.After-is_between ∙ sym k) (most k (new a.After-is_between c.if-not-is_between.false)) _ (reached c.reach.ensures.0 c.in-By.is)
+    c.refused-then-not-has_allowed_tones.ensures ∙ reply_refused c.args.self _ c.requires (long a.Start) 14
+    (anchor_beyond _ _ _ (meant a.After-is_between ∙ sym k) (most k (new a.After-is_between c.if-not-is_between.false)) _ (reached c.reach.ensures.distance c.in-Some.is)
     (tones_tested _ c.with_anchor-next.ensures c.has_allowed_tones.ensures ∙ ap not c.if-not-has_allowed_tones.true))
 
 pub returns : goal.returns
 returns c =
     let a = goal.at.returns c in
     let k = key a.After-shift-anchor in
-    reply_taken c.args.self _ _
-    (anchor_taken _ _ _ (meant a.After-is_between ∙ sym k) (most k (new a.After-is_between c.if-not-is_between.false)) _ (reached c.reach.ensures.0 c.in-By.is)
+    c.taken.ensures ∙ reply_taken c.args.self _ _
+    (anchor_taken _ _ _ (meant a.After-is_between ∙ sym k) (most k (new a.After-is_between c.if-not-is_between.false)) _ (reached c.reach.ensures.distance c.in-Some.is)
     (tones_tested _ c.with_anchor-next.ensures c.has_allowed_tones.ensures ∙ ap not c.if-not-has_allowed_tones.false))
     _ c.with_anchor-next.ensures

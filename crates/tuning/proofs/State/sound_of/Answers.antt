@@ -43,11 +43,11 @@ locate-place-requires c =
     let a = c.args in
     ((asked (goal.at.locate-place-requires c).Start).valid.least, rw c.distance.ensures (apart_size a.key.0 a.self.anchor.0 (search rules) (search rules)))
 
-pub offset_bounds-self-r : goal.offset_bounds-self-r
-offset_bounds-self-r c = omega (arith, position c)
+pub offset_bounds-self-place : goal.offset_bounds-self-place
+offset_bounds-self-place c = omega (arith, position c)
 
-pub bounds-self-r : goal.bounds-self-r
-bounds-self-r c = position c
+pub bounds-self-place : goal.bounds-self-place
+bounds-self-place c = position c
 
 pub times-requires : goal.times-requires
 times-requires c =
@@ -64,9 +64,9 @@ pub returns : goal.returns
 returns c =
     let l = (goal.at.returns c).After-locate-place in
     let s = l.args.self in
-    let t = (get_or s.tones l.locate-place.result.position none).tone in
+    let t = (get_or s.tones l.locate-place.result.position none) in
     let sound = c.raise.ensures
     ∙ ap (λ (z : ℤ). tone_of (raised cents z (heard t))) (shift (goal.at.returns c).After-times)
-    ∙ ap (λ (p : Located). tone_of (raised cents ((place (a l)).periods *ℤ s.period.0) (heard (get_or s.tones p.position none).tone))) (located l)
+    ∙ ap (λ (p : Located). tone_of (raised cents ((place (a l)).periods *ℤ s.period.0) (heard (get_or s.tones p.position none)))) (located l)
     ∙ ap tone_of (place_sound (a l)) in
     (sound, rw sound (sound_size (a l)))

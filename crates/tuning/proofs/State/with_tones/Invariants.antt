@@ -1,12 +1,8 @@
 -- `tuning::State::with_tones` meets its contract. The loop's invariant: the first i places are changed as the list says, and nothing else is.
 -- Assumes nothing.
 use mathlib.Core.Path.{◌≡◌}
-use Prim.Native.Nat.{◌-◌, ◌≤◌}
 use Rattle.tuning.proofs.Changed.{changed, retoned}
 use Rattle.tuning.proofs.State.with_tones.Given as goal
 
 abbrev pub invariant-loop-i : goal.invariant-loop-i
-invariant-loop-i l = (l.i ≤ l.initial.s.width) × (l.i ≤ l.list.count) × (l.s ≡ changed (retoned l.list.positions) l.i l.initial.s)
-
-abbrev pub decreases-loop-i : goal.decreases-loop-i
-decreases-loop-i l = l.initial.s.width - l.i
+invariant-loop-i l = l.self ≡ changed (retoned l.list.positions) l.i l.initial.self

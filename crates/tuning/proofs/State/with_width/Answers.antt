@@ -1,17 +1,18 @@
 -- `tuning::State::with_width` meets its contract. The loop's invariant: the first i places hold the sounds of i keys from the anchor on, the
 -- others are unused. Assumes nothing.
-use mathlib.Core.Path.{◌≡◌, ap, ◌∙◌}
+use mathlib.Core.Path.{◌≡◌, sym, ap, ◌∙◌}
+use mathlib.Core.List.{List}
 use Prim.Native.Nat.{ℕ, ◌+◌, ◌≤◌}
 use native.Mathlib.Omega.{arith}
-use lib.ListN.{length-replicate}
+use lib.ListN.{replicate, length-replicate}
 use Rattle.tuning.specs.declared.Tone.{Tone}
-use Rattle.tuning.specs.declared.Position.{Position}
 use Rattle.tuning.specs.Tuning.{sound_of}
 use Rattle.tuning.specs.Desk.{cents}
-use Rattle.tuning.specs.State.{held, position_of}
+use Rattle.tuning.specs.State.{places, held, tone_of}
 use Rattle.tuning.proofs.Valid.{none, valid_of}
 use Rattle.tuning.proofs.Steps.{key_fits, shifted_key}
-use Rattle.tuning.proofs.Changed.{changed, changed_none, changed_next, keyed, blank, keyed_state}
+use Rattle.tuning.proofs.Part.{part, part_none, part_next}
+use Rattle.tuning.proofs.Changed.{with_places, keyed, blank, keyed_state}
 use Rattle.tuning.proofs.State.with_width.Goals.{After-shift, At-loop-i, Start}
 use Rattle.tuning.proofs.State.with_width.Goals as goal
 
@@ -20,44 +21,38 @@ bounds : (c : goal.Start) → c.args.self.anchor.0 + c.args.v ≤ 255
 bounds c = omega (arith, valid_of c.args.self c.requires.0, c.requires.1)
 
 -- the key whose sound is asked for
-asked : (c : goal.After-shift) → c.shift.result.0 ≡ c.args.self.anchor.0 + c.loop-i.i
-asked c =
-    shifted_key _ c.loop-i.i (omega (arith, c.loop-i-test.true, bounds c.before.before.before.before)) c.shift.ensures
+asked : (c : goal.After-shift) → c.args.self.anchor.0 + c.args.v ≤ 255 → c.shift.result.0 ≡ c.args.self.anchor.0 + c.loop-i.i
+asked c b = shifted_key _ c.loop-i.i (omega arith) c.shift.ensures
 
 pub loop-i-init : goal.loop-i-init
-loop-i-init c =
-    let a = c.args in
-    (omega arith, changed_none (keyed (held a.self) a.self.anchor.0) (blank a.self.anchor.0 a.v a.period.0))
+loop-i-init c = sym (part_none (keyed (held c.args.self) c.args.self.anchor.0) (replicate places none))
 
 pub shift-requires : goal.shift-requires
 shift-requires c =
     let b = bounds (goal.at.shift-requires c).Start in
     key_fits _ c.loop-i.i (omega (arith, c.loop-i-test.true)) (omega (arith, c.loop-i-test.true))
 
-pub sound_of-tone-requires : goal.sound_of-tone-requires
-sound_of-tone-requires c =
-    let start = (goal.at.sound_of-tone-requires c).Start in
-    (start.requires.0, omega (arith, start.requires.1, asked c, c.loop-i-test.true))
+pub sound_of-requires : goal.sound_of-requires
+sound_of-requires c =
+    let start = (goal.at.sound_of-requires c).Start in
+    (start.requires.0, omega (arith, start.requires.1, asked c (bounds start), c.loop-i-test.true))
 
 pub loop-i-preserved : goal.loop-i-preserved
 loop-i-preserved c =
     let l = (goal.at.loop-i-preserved c).At-loop-i in
-    let start = l.before.before in
+    let start = (goal.at.loop-i-preserved c).Start in
     let self = start.args.self in
-    let a = self.anchor.0 in (
-      omega (arith, c.loop-i-test.true),
-      changed_next (keyed (held self) a) (blank a start.args.v start.args.period.0) l.loop-i.i l.loop-i.s l.loop-i.invariant.1 (record { tone = c.sound_of-tone.result })
-          (omega (arith, start.requires.1, c.loop-i-test.true, length-replicate {A = Position} 60 none))
-          (ap (λ (t : Tone). record { tone = t }) c.sound_of-tone.ensures.0 ∙ ap (λ (x : ℕ). position_of (sound_of cents (held self) x)) (asked (goal.at.loop-i-preserved c).After-shift)),
-    )
+    part_next (keyed (held self) self.anchor.0) (replicate places none) none l.loop-i.invariant
+    (omega (arith, start.requires.1, c.loop-i-test.true, length-replicate {A = Tone} 60 none))
+    (c.sound_of.ensures.0 ∙ ap (λ (x : ℕ). tone_of (sound_of cents (held self) x)) (asked (goal.at.loop-i-preserved c).After-shift (bounds start)))
 
 pub returns : goal.returns
 returns c =
     let l = (goal.at.returns c).At-loop-i in
-    let start = l.before.before in
-    let self = start.args.self in
-    let a = self.anchor.0 in
+    let start = (goal.at.returns c).Start in
+    let s = held start.args.self in
+    let a = start.args.self.anchor.0 in
     let v = start.args.v in
     let d = start.args.period.0 in
-    let e : l.loop-i.i ≡ v = omega (arith, l.loop-i.invariant.0, c.loop-i-test.false) in
-    l.loop-i.invariant.1 ∙ ap (λ (i : ℕ). changed (keyed (held self) a) i (blank a v d)) e ∙ keyed_state (held self) v d start.requires.1
+    let e : l.loop-i.i ≡ v = omega arith in
+    ap (λ (t : List Tone). with_places (blank a v d) t) (l.loop-i.invariant ∙ ap (λ (i : ℕ). part (keyed s a) i (replicate places none)) e) ∙ keyed_state s v d start.requires.1
