@@ -1,13 +1,17 @@
 -- How many bytes an answer has, its tones one after the other, and the end of its line.
-use Prim.Native.Nat.{ℕ, ◌+◌, ◌*◌, ◌<◌}
+use Prim.Native.Nat.{ℕ, ◌+◌, ◌*◌, ◌≤◌, ◌<◌}
 use mathlib.Core.Path.{◌≡◌, refl, sym, ◌∙◌, ap}
+use mathlib.Core.Bool.{true}
 use mathlib.Core.List.{List, [], ◌∷◌, ◌++◌, append_assoc, append-nil}
 use native.Mathlib.Numerals.{add-one}
 use native.Mathlib.Omega.{arith}
 use lib.IntN.{ℤ}
 use lib.ListN.{length, take, set, get_or, length-append, length-take}
 use lib.Seq.{take-suc}
+use Rattle.tuning.specs.declared.State.{State}
 use Rattle.tuning.specs.Scale.{Sound, muted}
+use Rattle.tuning.specs.State.{places, valid_state}
+use Rattle.tuning.proofs.Valid.{valid_of}
 use Rattle.hexadecimal.specs.Numbers.{four_of}
 use Rattle.hexadecimal.specs.Lines.{written, line_feed, line_of, begun_with}
 use Rattle.hexadecimal.proofs.Written.{written_then, line_written, length_line}
@@ -47,6 +51,10 @@ tones_written b k l i n h e f g =
     written_then b k (tones_bytes (take i l)) (four_of n) (k + 4 * i) e f (omega (arith, length_tones (take i l), length-take i l))
     ∙ ap (λ (m : ℕ). written b k (tones_bytes (take i l) ++ four_of m)) g
     ∙ ap (λ (w : List ℕ). written b k w) (sym (tones_next l i h))
+
+-- a state is no wider than it has places
+pub fits_places : (s : State) → valid_state s ≡ true → s.width ≤ places
+fits_places s v = (valid_of s v).most
 
 -- an answer that is written and ended: how long its line is, and the buffer
 pub ended : {u v : List ℕ} {r : ℕ} (l bs : List ℕ) (n : ℕ) → u ≡ written l 0 bs → (r ≡ 2 * n + 1) × (v ≡ set u (2 * n) line_feed)

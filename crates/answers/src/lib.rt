@@ -8,8 +8,8 @@ ghost use Rattle.hexadecimal.specs.Numbers.{twos};
 ghost use Rattle.hexadecimal.specs.Lines.{written, line_feed, line_of, begun_with};
 ghost use Rattle.answers.specs.Answer.{bits_of, tones_bytes, head, state_bytes, change_bytes, letter_row_bytes, key_bytes, dump_bytes, bad_bytes, refusal_bytes, smallest_buffer};
 
-use cents::{Interval, KeyNumber};
-use frames::{DUMP_DATA, DUMP_KIND, KEY_KIND, LETTER_ROW_KIND};
+use cents::KeyNumber;
+use frames::{DUMP_DATA, DUMP_KIND, Head, KEY_KIND, LETTER_ROW_KIND};
 use hexadecimal::{LINE_FEED, bits_of, put_byte, put_bytes, put_four};
 use status::{BAD_FRAME, DONE};
 use tuning::{State, Tone};
@@ -47,21 +47,12 @@ fn sound_bits(tone: Tone) -> u32
     }
 }
 
-fn interval_bits(d: Interval) -> u32
-    ensures { result ≡ twos d.0 }
-{
-    bits_of(d.0)
-}
-
 // The frame, and the number.
-fn put_head(buf: &mut [u8], house: u8, kind: u8, value: u8, number: u8)
+fn put_head(buf: &mut [u8], frame: Head, number: u8)
     requires { smallest_buffer ≤ length buf.old }
-    ensures { buf.new ≡ written buf.old 0 (head house kind value number) }
+    ensures { buf.new ≡ written buf.old 0 (head frame.house frame.kind frame.value number) }
 {
-    put_byte(buf, 0, house);
-    put_byte(buf, 1, kind);
-    put_byte(buf, 2, value);
-    put_byte(buf, 3, number);
+    put_bytes(buf, 0, &[frame.house, frame.kind, frame.value, number]);
 }
 
 // Anchor, width and period, from byte `at` on.
@@ -71,19 +62,18 @@ fn put_state(buf: &mut [u8], at: usize, s: State)
 {
     put_byte(buf, at, s.anchor.0);
     put_byte(buf, at + 1, s.width);
-    put_four(buf, at + 2, interval_bits(s.period));
+    put_four(buf, at + 2, bits_of(s.period.0));
 }
 
 // Each tone.
+#[tactic(auto, using(crate::proofs::Lines::fits_places))]
 fn put_tones(buf: &mut [u8], s: State)
     requires { (smallest_buffer ≤ length buf.old) × (valid_state s ≡ true) }
     ensures { buf.new ≡ written buf.old 10 (tones_bytes (held s).tones) }
 {
-    let width = s.width as usize;
-    let mut i: usize = 0;
-    while i < width {
-        put_four(buf, TONES_AT + TONE_BYTES * i, sound_bits(s.tones[i]));
-        i += 1;
+    let used = &s.tones[..s.width as usize];
+    for (i, tone) in used.iter().enumerate() {
+        put_four(buf, TONES_AT + TONE_BYTES * i, sound_bits(*tone));
     }
 }
 
@@ -97,11 +87,11 @@ fn end_line(buf: &mut [u8], bytes: usize) -> usize
 }
 
 // The answer to a letter, or to a key that goes down or up. Each of these tells how long the line is.
-pub fn answer_change(buf: &mut [u8], house: u8, kind: u8, value: u8, number: u8, s: State) -> usize
+pub fn answer_change(buf: &mut [u8], frame: Head, number: u8, s: State) -> usize
     requires { (smallest_buffer ≤ length buf.old) × (valid_state s ≡ true) }
-    ensures { (result ≡ length (line_of (change_bytes house kind value number (held s)))) × (buf.new ≡ begun_with (line_of (change_bytes house kind value number (held s))) buf.old) }
+    ensures { (result ≡ length (line_of (change_bytes frame.house frame.kind frame.value number (held s)))) × (buf.new ≡ begun_with (line_of (change_bytes frame.house frame.kind frame.value number (held s))) buf.old) }
 {
-    put_head(buf, house, kind, value, number);
+    put_head(buf, frame, number);
     put_state(buf, STATE_AT, s);
     end_line(buf, TONES_AT)
 }
@@ -114,9 +104,7 @@ pub fn answer_row(buf: &mut [u8], house: u8, letters: &[u8], numbers: &[u8], s: 
 {
     let numbers_at = LETTERS_AT + letters.len();
     let state_at = numbers_at + numbers.len();
-    put_byte(buf, 0, house);
-    put_byte(buf, 1, LETTER_ROW_KIND);
-    put_byte(buf, 2, letters.len() as u8);
+    put_bytes(buf, 0, &[house, LETTER_ROW_KIND, letters.len() as u8]);
     put_bytes(buf, LETTERS_AT, letters);
     put_bytes(buf, numbers_at, numbers);
     put_state(buf, state_at, s);
@@ -127,7 +115,12 @@ pub fn answer_key(buf: &mut [u8], house: u8, key: KeyNumber, number: u8, tone: T
     requires { smallest_buffer ≤ length buf.old }
     ensures { (result ≡ length (line_of (key_bytes house key.0 number (heard tone)))) × (buf.new ≡ begun_with (line_of (key_bytes house key.0 number (heard tone))) buf.old) }
 {
-    put_head(buf, house, KEY_KIND, key.0, number);
+    let frame = Head {
+        house,
+        kind: KEY_KIND,
+        value: key.0,
+    };
+    put_head(buf, frame, number);
     put_four(buf, STATE_AT, sound_bits(tone));
     end_line(buf, STATE_AT + TONE_BYTES)
 }
@@ -136,7 +129,12 @@ pub fn answer_dump(buf: &mut [u8], house: u8, s: State) -> usize
     requires { (smallest_buffer ≤ length buf.old) × (valid_state s ≡ true) }
     ensures { (result ≡ length (line_of (dump_bytes house (held s)))) × (buf.new ≡ begun_with (line_of (dump_bytes house (held s))) buf.old) }
 {
-    put_head(buf, house, DUMP_KIND, DUMP_DATA, DONE);
+    let frame = Head {
+        house,
+        kind: DUMP_KIND,
+        value: DUMP_DATA,
+    };
+    put_head(buf, frame, DONE);
     put_state(buf, STATE_AT, s);
     put_tones(buf, s);
     end_line(buf, TONES_AT + TONE_BYTES * s.width as usize)
@@ -146,8 +144,7 @@ pub fn answer_bad(buf: &mut [u8]) -> usize
     requires { smallest_buffer ≤ length buf.old }
     ensures { (result ≡ length (line_of bad_bytes)) × (buf.new ≡ begun_with (line_of bad_bytes) buf.old) }
 {
-    put_byte(buf, 0, BAD_MARK);
-    put_byte(buf, 1, BAD_FRAME);
+    put_bytes(buf, 0, &[BAD_MARK, BAD_FRAME]);
     end_line(buf, 2)
 }
 
@@ -156,8 +153,7 @@ pub fn answer_refusal(buf: &mut [u8], number: u8, place: u32) -> usize
     requires { smallest_buffer ≤ length buf.old }
     ensures { (result ≡ length (line_of (refusal_bytes number place))) × (buf.new ≡ begun_with (line_of (refusal_bytes number place)) buf.old) }
 {
-    put_byte(buf, 0, REFUSAL_MARK);
-    put_byte(buf, 1, number);
+    put_bytes(buf, 0, &[REFUSAL_MARK, number]);
     put_four(buf, 2, place);
     end_line(buf, 6)
 }

@@ -1,6 +1,5 @@
 -- Case S and other lines: each is its frame.
 use mathlib.Core.Path.{refl}
-use Rattle.std.specs.Option.{option_map_or}
 use Rattle.hexadecimal.specs.Digits.{digit_of, byte_of, bytes_of}
 use Rattle.frames.specs.Frames.{are_capitals, framed, frame_of}
 use Rattle.frames.specs.Cases.{CaseS, Others, Rows}

@@ -1,83 +1,77 @@
 -- A line that begins as a row of letters does, by its house, its count and what stands behind it.
-use Prim.Native.Nat.{ℕ, ◌+◌, ◌-◌, ◌*◌}
-use mathlib.Core.Path.{◌≡◌, refl, sym, ap, ◌∙◌, subst}
+use Prim.Native.Nat.{ℕ, ◌+◌, ◌*◌}
+use mathlib.Core.Path.{◌≡◌, refl, sym, ap, ◌∙◌}
 use mathlib.Core.Bool.{Bool, true, false, cond, ◌&&◌}
 use mathlib.Core.List.{List, [], ◌∷◌, cons-ne-nil}
 use Rattle.std.specs.Prelude.{Option, None, Some}
-use Rattle.std.proofs.lemmas.Option.{none-some, same_Some}
+use Rattle.std.proofs.lemmas.Option.{none-some, same_Some, cond_some}
 use Rattle.std.specs.Option.{option_map_or}
 use mathlib.Core.Logic.{◌⊎◌, inl, inr, ⊎_elim}
 use native.Mathlib.Omega.{arith}
 use borrow.Author.Tests.{eq-eqb, eqb-true}
-use types.Run.{OneOf, miss}
-use denote.Enum.Declared.{tag_of}
 use lib.Dec.{eqb}
-use lib.ListN.{length, take, drop, length-drop}
-use lib.Seq.{take_all, drop-drop}
+use lib.ListN.{length, drop}
+use lib.Seq.{drop-drop}
 use Rattle.ascii.proofs.Between.{each}
 use Rattle.hexadecimal.specs.Digits.{of_both, byte_of, bytes_of}
 use Rattle.frames.specs.declared.Way.{Way}
 use Rattle.frames.specs.declared.Way.TheVariants.{Down, Up}
-use Rattle.frames.specs.declared.Decoded.{Decoded}
-use Rattle.frames.specs.declared.Decoded.TheVariants.{Bad, LetterRow}
-use Rattle.frames.specs.declared.Letters.{Letters}
+use Rattle.frames.specs.declared.Decoded.TheVariants.{LetterRow}
 use Rattle.frames.specs.Frames.{is_house, letter_kind, key_kind, dump_kind, dump_data, down_kind, up_kind, is_capital, is_key, letter_row_kind, is_count, are_capitals}
 use Rattle.frames.specs.Frames.{Frame, bad, letter, key, dump, move, letter_row, letter_frame, key_frame, dump_frame, move_frame, letter_row_frame, kind_frame, framed, frame_of, inside, decoded_as}
-use Rattle.frames.specs.Inner.{are_letters, Reads, head_digits, row_behind, HasLetters}
-use Rattle.frames.specs.contracts.Decoded as variants
-use Rattle.frames.proofs.Lines.{two_each, same, no_row_holds}
+use Rattle.frames.specs.Inner.{capitals_in, capitals_only, head_digits, row_behind}
+use Rattle.frames.proofs.Lines.{two_each, no_row_holds}
 use Rattle.frames.proofs.Ranges.{of_either, frame_inside, RowRanges, row_ranges}
 use Rattle.frames.proofs.Decoding.{row_decoded}
 
-module _ (house count : ℕ) (line : List ℕ) where
-  -- bad, whatever bytes stand behind it
-  always_bad : ((cs : List ℕ) → bytes_of (drop head_digits line) ≡ Some cs → framed (house ∷ letter_row_kind ∷ count ∷ cs) ≡ bad) → row_behind house count line ≡ bad
-  always_bad h = go (bytes_of (drop head_digits line)) h
+-- digits that write letters alone
+only_capitals : (digits : List ℕ) {cs : List ℕ} → capitals_only digits ≡ Some cs → (bytes_of digits ≡ Some cs) × (are_capitals cs ≡ true)
+only_capitals digits {cs} e = go (bytes_of digits) e
+  where
+    go : (o : Option (List ℕ)) → capitals_in o ≡ Some cs → (o ≡ Some cs) × (are_capitals cs ≡ true)
+    go None e = absurd (none-some cs e)
+    go (Some bs) e =
+        let k = cond_some (are_capitals bs) bs cs e in
+        (ap Some k.1, ap are_capitals (sym k.1) ∙ k.0)
+
+module _ (house count : ℕ) (digits : List ℕ) where
+  -- bad, whatever bytes the digits write
+  always_bad : ((cs : List ℕ) → bytes_of digits ≡ Some cs → letter_row_frame house (count ∷ cs) ≡ bad) → row_behind house count digits ≡ bad
+  always_bad h = go (bytes_of digits) h
     where
-      go : (o : Option (List ℕ)) → ((cs : List ℕ) → o ≡ Some cs → framed (house ∷ letter_row_kind ∷ count ∷ cs) ≡ bad)
-          → option_map_or (λ (cs : List ℕ). framed (house ∷ letter_row_kind ∷ count ∷ cs)) o bad ≡ bad
+      go : (o : Option (List ℕ)) → ((cs : List ℕ) → o ≡ Some cs → letter_row_frame house (count ∷ cs) ≡ bad)
+          → option_map_or (λ (cs : List ℕ). letter_row_frame house (count ∷ cs)) o bad ≡ bad
       go None k = refl
       go (Some cs) k = k cs refl
 
-  pub no_house : is_house house ≡ false → row_behind house count line ≡ bad
-  unfolding framed
-  no_house e = always_bad (λ cs h. rw e)
+  pub no_count : is_count count ≡ false → row_behind house count digits ≡ bad
+  no_count e = always_bad (λ cs h. rw e)
 
-  pub no_count : is_count count ≡ false → row_behind house count line ≡ bad
-  unfolding framed
-  no_count e = always_bad (λ cs h. rw e (same (is_house house)))
+  pub other_length : (length digits ≡ 2 * count → ⊥) → row_behind house count digits ≡ bad
+  other_length n = always_bad (λ cs h. no_row_holds house count cs (λ e f. n (two_each digits h ∙ ap (λ (m : ℕ). 2 * m) f)))
 
-  pub other_length : (length (drop head_digits line) ≡ 2 * count → ⊥) → row_behind house count line ≡ bad
-  unfolding framed
-  other_length n =
-      always_bad (λ cs h. rw (no_row_holds house count cs (λ e f. n (two_each (drop head_digits line) h ∙ ap (λ (m : ℕ). 2 * m) f))) (same (is_house house)))
+  -- not letters alone
+  pub row_bad : capitals_only digits ≡ None → row_behind house count digits ≡ bad
+  row_bad e = always_bad (λ cs f. let k : capitals_in (Some cs) ≡ None = ap capitals_in (sym f) ∙ e in go cs (are_capitals cs) refl k)
+    where
+      no_row_bad : (cs : List ℕ) → are_capitals cs ≡ false → letter_row_frame house (count ∷ cs) ≡ bad
+      no_row_bad cs l = by (is_count count) (eqb (length cs) count)
+        where
+          by : (y z : Bool) → cond (y && z && are_capitals cs) (letter_row house cs) bad ≡ bad
+          by true true = rw l
+          by true false = refl
+          by false z = refl
 
-  -- by its letters
-  module _ (h : is_house house ≡ true) (n : is_count count ≡ true) (k : length (drop head_digits line) ≡ 2 * count) where
-    pub of_letters : (cs : List ℕ) → bytes_of (drop head_digits line) ≡ Some cs → are_capitals cs ≡ true → row_behind house count line ≡ letter_row house cs
-    unfolding framed
-    of_letters cs e l =
-        let m : length cs ≡ count = omega (arith, two_each (drop head_digits line) e) in
-        rw (e, h, n, eq-eqb (length cs) count m, l)
+      go : (cs : List ℕ) (t : Bool) → are_capitals cs ≡ t → cond t (Some cs) None ≡ None → letter_row_frame house (count ∷ cs) ≡ bad
+      go cs true l k = absurd (none-some cs (sym k))
+      go cs false l k = no_row_bad cs l
 
-    pub row_bad : {r : Letters} → Reads (drop head_digits line) count r → r.good ≡ false → Bad ≡ decoded_as (row_behind house count line)
-    unfolding framed
-    row_bad e g = ap decoded_as (sym (always_bad (λ cs f. let l : are_capitals cs ≡ false = ap are_letters (sym f) ∙ sym e.good ∙ g in go cs l)))
-      where
-        go : (cs : List ℕ) → are_capitals cs ≡ false → framed (house ∷ letter_row_kind ∷ count ∷ cs) ≡ bad
-        go cs l = by (is_house house) (is_count count) (eqb (length cs) count)
-          where
-            by : (x y z : Bool) → cond x (cond (y && z && are_capitals cs) (letter_row house cs) bad) bad ≡ bad
-            by x true true = rw l (same x)
-            by x true false = same x
-            by x false z = same x
-
-    pub row_good : {r : Letters} → Reads (drop head_digits line) count r → r.good ≡ true → LetterRow house count ≡ decoded_as (row_behind house count line)
-    row_good {r} e g =
-        let cs = take count r.codes in
-        let l : are_capitals cs ≡ true = ap are_letters (sym (e.codes g)) ∙ sym e.good ∙ g in
-        let m : count ≡ length cs = omega (arith, two_each (drop head_digits line) (e.codes g)) in
-        ap (LetterRow house) m ∙ ap decoded_as (sym (of_letters cs (e.codes g) l))
+  -- so many letters
+  pub row_good : (cs : List ℕ) → is_count count ≡ true → length digits ≡ 2 * count → capitals_only digits ≡ Some cs → row_behind house count digits ≡ letter_row house cs
+  row_good cs n k e =
+      let l = only_capitals digits e in
+      let m : length cs ≡ count = omega (arith, two_each digits l.0) in
+      rw (l.0, n, eq-eqb (length cs) count m, l.1)
 
 -- the variants of a frame that is no row
 abbrev pub no_row : List ℕ
@@ -176,7 +170,7 @@ row_behind_holds l e =
 pub record RowThere (l : List ℕ) (house count : ℕ) : Type 0 where
   pub letters : List ℕ
   pub same : frame_of l ≡ letter_row house letters
-  pub behind : bytes_of (drop head_digits l) ≡ Some letters
+  pub behind : capitals_only (drop head_digits l) ≡ Some letters
   pub size : length letters ≡ count
   pub digits : length l ≡ head_digits + 2 * count
   pub ranges : RowRanges house letters
@@ -184,27 +178,12 @@ pub record RowThere (l : List ℕ) (house count : ℕ) : Type 0 where
 pub row_there : (l : List ℕ) {house count : ℕ} → LetterRow house count ≡ decoded_as (frame_of l) → RowThere l house count
 row_there l {house} {count} e =
     let d = row_decoded (frame_of l) (sym e) in
+    let ranges = row_ranges house d.letters (ap inside (sym d.same) ∙ frame_inside l) in
     record {
       letters = d.letters;
       same = d.same;
-      behind = row_behind_holds l d.same;
+      behind = rw (row_behind_holds l d.same, ranges.capitals);
       size = d.size;
       digits = omega (arith, two_each l (row_line l d.same), d.size);
-      ranges = row_ranges house d.letters (ap inside (sym d.same) ∙ frame_inside l);
+      ranges = ranges;
     }
-
--- any other frame has no letters
-pub no_letters : (f : Frame) {q : Decoded} (l : List ℕ) → q ≡ decoded_as f → OneOf no_row (tag_of variants.the_type q) → HasLetters l f
-no_letters f l e h = go f (subst (λ (q : Decoded). OneOf no_row (tag_of variants.the_type q)) e h)
-  where
-    go : (f : Frame) → OneOf no_row (tag_of variants.the_type (decoded_as f)) → HasLetters l f
-    go bad h = tt
-    go (letter house c) h = tt
-    go (key house k) h = tt
-    go (dump house) h = tt
-    go (move way house k) h = tt
-    go (letter_row house cs) h = absurd (miss no_row 5 tt h)
-
--- the digits behind the head of a line
-pub behind_head : (l : List ℕ) → take (length l - head_digits) (drop head_digits l) ≡ drop head_digits l
-behind_head l = take_all (length l - head_digits) (drop head_digits l) (omega (arith, length-drop head_digits l))

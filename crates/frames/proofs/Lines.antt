@@ -1,6 +1,6 @@
 -- The length of a frame: three bytes, or as many as a row of letters has.
-use Prim.Native.Nat.{ℕ, suc, ◌+◌, ◌*◌, ◌≤◌, ◌<◌}
-use mathlib.Core.Path.{◌≡◌, refl, ap}
+use Prim.Native.Nat.{ℕ, suc, ◌+◌, ◌-◌, ◌*◌, ◌≤◌, ◌<◌}
+use mathlib.Core.Path.{◌≡◌, refl, ap, ◌∙◌}
 use mathlib.Core.Bool.{Bool, true, false, cond, ◌&&◌}
 use mathlib.Core.List.{List, [], ◌∷◌}
 use Rattle.std.specs.Prelude.{Option, None, Some}
@@ -15,7 +15,9 @@ use lib.ListN.{length, take, drop, get_or, length-take, length-drop, drop_of_len
 use lib.Seq.{take_all, drop-cons}
 use Rattle.ascii.proofs.Between.{in_range_holds}
 use Rattle.hexadecimal.specs.Digits.{of_both, byte_of, bytes_of}
-use Rattle.frames.specs.Frames.{are_capitals, letter_row_kind, fewest_presses, most_presses, is_count, bad, letter_row, letter_row_frame, framed, frame_of, enough}
+use Rattle.frames.specs.declared.Head.{Head}
+use Rattle.frames.specs.Frames.{is_house, are_capitals, letter_row_kind, fewest_presses, most_presses, is_count, bad, letter_row, letter_row_frame, kind_frame, framed, frame_of, enough}
+use Rattle.frames.specs.Inner.{head_digits, HeadOf, row_behind}
 
 -- one byte more is two digits more
 longer : (o : Option ℕ) (p : Option (List ℕ)) (n : ℕ) {bs : List ℕ} → ((xs : List ℕ) → p ≡ Some xs → n ≡ 2 * length xs) → of_both (λ b bs. b ∷ bs) o p ≡ Some bs → suc (suc n) ≡ 2 * length bs
@@ -53,7 +55,7 @@ short (house ∷ kind ∷ []) n = simp same
 short (house ∷ kind ∷ b ∷ more) n = absurd (omega arith)
 
 -- one of another kind than a row's has no more
-pub three : (house kind b c : ℕ) (more : List ℕ) → eqb kind letter_row_kind ≡ false → framed (house ∷ kind ∷ b ∷ c ∷ more) ≡ bad
+three : (house kind b c : ℕ) (more : List ℕ) → eqb kind letter_row_kind ≡ false → framed (house ∷ kind ∷ b ∷ c ∷ more) ≡ bad
 unfolding framed
 three house kind b c more e = rw e (simp same)
 
@@ -103,28 +105,71 @@ next_byte l at h =
     rw (drop-cons l at 0 (omega arith), drop-cons l (suc at) 0 (omega arith), add-one at, two)
 
 -- the frame of a line that has three bytes or more
-pub first_three : (l : List ℕ) → 6 ≤ length l → frame_of l ≡ option_map_or framed (byte_at l 0 (byte_at l 2 (byte_at l 4 (bytes_of (drop 6 l))))) bad
+first_three : (l : List ℕ) → 6 ≤ length l → frame_of l ≡ option_map_or framed (byte_at l 0 (byte_at l 2 (byte_at l 4 (bytes_of (drop 6 l))))) bad
 unfolding frame_of
 first_three l h = rw (next_byte l 0 (omega arith), next_byte l 2 (omega arith), next_byte l 4 (omega arith))
 
--- what stands behind these
-pub behind : (house kind b : ℕ) (o : Option (List ℕ)) → option_map_or framed (of_both (λ b bs. b ∷ bs) (Some house) (of_both (λ b bs. b ∷ bs) (Some kind) (of_both (λ b bs. b ∷ bs) (Some b) o))) bad
-    ≡ option_map_or (λ (cs : List ℕ). framed (house ∷ kind ∷ b ∷ cs)) o bad
-behind house kind b None = refl
-behind house kind b (Some cs) = refl
+-- ---- the first three bytes of a line, each there or not, and what stands behind them
 
--- nothing, where the line has six digits
-pub nothing_behind : (house kind b : ℕ) (l : List ℕ) → length l ≡ 6 → option_map_or (λ (cs : List ℕ). framed (house ∷ kind ∷ b ∷ cs)) (bytes_of (drop 6 l)) bad ≡ framed (house ∷ kind ∷ b ∷ [])
-unfolding bytes_of
-nothing_behind house kind b l h = rw (drop_of_length-le l {i = 6} (omega arith))
+pub no_house_byte : (l : List ℕ) → 6 ≤ length l → byte_of (get_or l 0 0) (get_or l 1 0) ≡ None → frame_of l ≡ bad
+no_house_byte l h e = first_three l h ∙ rw e
 
--- and what makes any other frame than a row too long
-pub more_behind : (house kind b : ℕ) (l : List ℕ) → 6 < length l → eqb kind letter_row_kind ≡ false
-    → option_map_or (λ (cs : List ℕ). framed (house ∷ kind ∷ b ∷ cs)) (bytes_of (drop 6 l)) bad ≡ bad
-more_behind house kind b l h e = go (bytes_of (drop 6 l)) (λ cs f. two_each (drop 6 l) f)
+pub no_kind_byte : (l : List ℕ) {house : ℕ} → 6 ≤ length l → byte_of (get_or l 0 0) (get_or l 1 0) ≡ Some house → byte_of (get_or l 2 0) (get_or l 3 0) ≡ None
+    → frame_of l ≡ bad
+no_kind_byte l h e f = first_three l h ∙ rw (e, f)
+
+pub no_value_byte : (l : List ℕ) {house kind : ℕ} → 6 ≤ length l → byte_of (get_or l 0 0) (get_or l 1 0) ≡ Some house → byte_of (get_or l 2 0) (get_or l 3 0) ≡ Some kind
+    → byte_of (get_or l 4 0) (get_or l 5 0) ≡ None → frame_of l ≡ bad
+no_value_byte l h e f g = first_three l h ∙ rw (e, f, g)
+
+pub head_there : (l : List ℕ) (house kind value : ℕ) → 6 ≤ length l → byte_of (get_or l 0 0) (get_or l 1 0) ≡ Some house → byte_of (get_or l 2 0) (get_or l 3 0) ≡ Some kind
+    → byte_of (get_or l 4 0) (get_or l 5 0) ≡ Some value → HeadOf (record { house = house; kind = kind; value = value }) l
+head_there l house kind value h e f g = record { long = h; frame = first_three l h ∙ rw (e, f, g) (go (bytes_of (drop 6 l))) }
   where
-    go : (o : Option (List ℕ)) → ((cs : List ℕ) → o ≡ Some cs → length (drop 6 l) ≡ 2 * length cs)
-        → option_map_or (λ (cs : List ℕ). framed (house ∷ kind ∷ b ∷ cs)) o bad ≡ bad
-    go None k = refl
-    go (Some []) k = absurd (omega (arith, k [] refl, length-drop 6 l))
-    go (Some (c ∷ more)) k = three house kind b c more e
+    go : (o : Option (List ℕ)) → option_map_or framed (of_both (λ b bs. b ∷ bs) (Some house) (of_both (λ b bs. b ∷ bs) (Some kind) (of_both (λ b bs. b ∷ bs) (Some value) o))) bad
+        ≡ option_map_or (λ (cs : List ℕ). framed (house ∷ kind ∷ value ∷ cs)) o bad
+    go None = refl
+    go (Some cs) = refl
+
+pub ruleset heads = (too_short, no_house_byte, no_kind_byte, no_value_byte, head_there)
+
+-- the frame of a line that begins with a head
+module _ (l : List ℕ) (head : Head) (h : HeadOf head l) where
+  -- of no house
+  pub no_house : is_house head.house ≡ false → frame_of l ≡ bad
+  unfolding framed
+  no_house e = h.frame ∙ go (bytes_of (drop 6 l))
+    where
+      go : (o : Option (List ℕ)) → option_map_or (λ (cs : List ℕ). framed (head.house ∷ head.kind ∷ head.value ∷ cs)) o bad ≡ bad
+      go None = refl
+      go (Some cs) = rw e
+
+  module _ (i : is_house head.house ≡ true) where
+    -- a row of letters
+    pub row_frame : head.kind ≡ letter_row_kind → frame_of l ≡ row_behind head.house head.value (drop 6 l)
+    unfolding framed
+    row_frame e = h.frame ∙ go (bytes_of (drop 6 l))
+      where
+        go : (o : Option (List ℕ)) → option_map_or (λ (cs : List ℕ). framed (head.house ∷ head.kind ∷ head.value ∷ cs)) o bad
+            ≡ option_map_or (λ (cs : List ℕ). letter_row_frame head.house (head.value ∷ cs)) o bad
+        go None = refl
+        go (Some cs) = rw (i, e)
+
+    -- three bytes, where the line has six digits
+    pub three_frame : length l ≡ 6 → frame_of l ≡ kind_frame head.house head.kind (head.value ∷ [])
+    unfolding framed bytes_of
+    three_frame e = h.frame ∙ rw (drop_of_length-le l {i = 6} (omega arith), i)
+
+  -- what makes any other frame than a row too long
+  pub longer_frame : 6 < length l → eqb head.kind letter_row_kind ≡ false → frame_of l ≡ bad
+  longer_frame n e = h.frame ∙ go (bytes_of (drop 6 l)) (λ cs f. two_each (drop 6 l) f)
+    where
+      go : (o : Option (List ℕ)) → ((cs : List ℕ) → o ≡ Some cs → length (drop 6 l) ≡ 2 * length cs)
+          → option_map_or (λ (cs : List ℕ). framed (head.house ∷ head.kind ∷ head.value ∷ cs)) o bad ≡ bad
+      go None k = refl
+      go (Some []) k = absurd (omega (arith, k [] refl, length-drop 6 l))
+      go (Some (c ∷ more)) k = three head.house head.kind head.value c more e
+
+-- the digits behind the head of a line
+pub behind_head : (l : List ℕ) → take (length l - head_digits) (drop head_digits l) ≡ drop head_digits l
+behind_head l = take_all (length l - head_digits) (drop head_digits l) (omega (arith, length-drop head_digits l))

@@ -1,7 +1,7 @@
 -- The letters of a row, read from their digits one after the other.
 use Prim.Native.Nat.{ℕ, ◌+◌, ◌*◌, ◌<◌}
 use mathlib.Core.Path.{◌≡◌, refl, sym, ap, ◌∙◌}
-use mathlib.Core.Bool.{Bool, true, false, ◌&&◌, false≢true}
+use mathlib.Core.Bool.{Bool, true, false, ◌&&◌}
 use mathlib.Core.List.{List, [], ◌∷◌, ◌++◌, append-nil}
 use Rattle.std.specs.Prelude.{Option, None, Some, option_map}
 use native.Mathlib.Numerals.{add-one}
@@ -10,7 +10,7 @@ use lib.ListN.{length, take, drop, get_or, set, length-set, drop_of_length-le}
 use lib.Seq.{take-suc-set, append_snoc}
 use Rattle.hexadecimal.specs.Digits.{of_both, byte_of, bytes_of}
 use Rattle.frames.specs.Frames.{is_capital, are_capitals, most_presses}
-use Rattle.frames.specs.Inner.{are_letters, Reads}
+use Rattle.frames.specs.Inner.{capitals_in, capitals_only}
 use Rattle.frames.proofs.Lines.{next_byte}
 
 capitals_append : (xs ys : List ℕ) → are_capitals (xs ++ ys) ≡ (are_capitals xs && are_capitals ys)
@@ -65,26 +65,23 @@ module _ (digits : List ℕ) where
         go (Some ys) = ap Some (sym (append_snoc (take i codes) c ys))
 
     -- no byte, or no letter
-    pub no_byte : 2 * i + 1 < length digits → byte_of (get_or digits (2 * i) 0) (get_or digits (2 * i + 1) 0) ≡ None → false ≡ are_letters (bytes_of digits)
+    pub no_byte : 2 * i + 1 < length digits → byte_of (get_or digits (2 * i) 0) (get_or digits (2 * i + 1) 0) ≡ None → capitals_only digits ≡ None
     no_byte k e = rw (next k e)
 
     pub no_letter_holds : {c : ℕ} → 2 * i + 1 < length digits → byte_of (get_or digits (2 * i) 0) (get_or digits (2 * i + 1) 0) ≡ Some c → is_capital c ≡ false
-        → false ≡ are_letters (bytes_of digits)
+        → capitals_only digits ≡ None
     unfolding are_capitals
     no_letter_holds {c} k e l = rw (next k e) (go (bytes_of (drop (2 * i + 2) digits)))
       where
-        go : (o : Option (List ℕ)) → false ≡ are_letters (before (take i codes) (of_both (λ b bs. b ∷ bs) (Some c) o))
+        go : (o : Option (List ℕ)) → capitals_in (before (take i codes) (of_both (λ b bs. b ∷ bs) (Some c) o)) ≡ None
         go None = refl
-        go (Some ys) = sym (capitals_append (take i codes) (c ∷ ys) ∙ rw (r.capitals, l))
+        go (Some ys) = rw (capitals_append (take i codes) (c ∷ ys), r.capitals, l)
 
     -- all of them
-    pub all_read : length digits ≡ 2 * i → bytes_of digits ≡ Some (take i codes)
+    pub all_read : length digits ≡ 2 * i → capitals_only digits ≡ Some (take i codes)
     unfolding bytes_of
-    all_read h = r.bytes ∙ rw (drop_of_length-le digits {i = 2 * i} (omega arith)) (ap Some (append-nil (take i codes)))
+    all_read h =
+        let all : bytes_of digits ≡ Some (take i codes) = r.bytes ∙ rw (drop_of_length-le digits {i = 2 * i} (omega arith)) (ap Some (append-nil (take i codes))) in
+        rw (all, r.capitals)
 
--- what is told of them
-pub reads_none : {digits codes : List ℕ} {count : ℕ} → false ≡ are_letters (bytes_of digits) → Reads digits count (record { good = false; codes = codes })
-reads_none e = record { good = e; codes = λ h. absurd (false≢true h) }
-
-pub reads_all : {digits codes : List ℕ} {count : ℕ} → Reading digits codes count → length digits ≡ 2 * count → Reads digits count (record { good = true; codes = codes })
-reads_all {digits} r h = let e = all_read digits r h in record { good = sym (ap are_letters e ∙ r.capitals); codes = λ k. e }
+pub ruleset readings = (reading_starts, reading_on, no_byte, no_letter_holds, all_read)

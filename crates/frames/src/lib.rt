@@ -1,13 +1,12 @@
 // Frames: a line of capital hexadecimal digits, and what it asks of the desk.
 #![tactic(auto)]
 
-ghost use Rattle.std.specs.Prelude.{◌≡◌, true, [], ◌∷◌, ◌*◌, ◌≤◌, length};
-ghost use Rattle.frames.specs.Frames.{letter_frame, key_frame, dump_frame, way_kind, move_frame, framed, frame_of, decoded_as, inside, most_presses};
-ghost use Rattle.frames.specs.Inner.{Reads, head_digits, row_behind, HasLetters};
+ghost use Rattle.std.specs.Prelude.{◌≡◌, true, [], ◌∷◌, ◌*◌, ◌≤◌, length, MatchOption, option_map, take};
+ghost use Rattle.frames.specs.Frames.{way_kind, is_house, kind_frame, letter_row_frame, frame_of, decoded_as, inside, most_presses, bad};
+ghost use Rattle.frames.specs.Inner.{HeadOf, head_digits, row_behind, capitals_only, HasLetters};
 
-use ascii::is_between;
 use cents::KeyNumber;
-use hexadecimal::digits::{Value, byte_value};
+use hexadecimal::digits::byte_value;
 
 // The first byte of a frame: the house that sends it.
 pub const FIRST_HOUSE: u8 = 1;
@@ -15,6 +14,7 @@ pub const FIRST_HOUSE: u8 = 1;
 pub const SECOND_HOUSE: u8 = 2;
 
 // The second byte: the kind of the frame.
+// Kept as it is: an enum of kinds would write each number a second time, in its conversion from a byte.
 pub const LETTER_KIND: u8 = 1;
 
 pub const KEY_KIND: u8 = 2;
@@ -23,9 +23,9 @@ pub const DUMP_KIND: u8 = 3;
 
 pub const LETTER_ROW_KIND: u8 = 4;
 
-pub const DOWN_KIND: u8 = 5;
+pub const DOWN_KIND: u8 = Way::Down as u8;
 
-pub const UP_KIND: u8 = 6;
+pub const UP_KIND: u8 = Way::Up as u8;
 
 // The third byte of a frame that asks for a dump.
 pub const DUMP_DATA: u8 = 0;
@@ -36,21 +36,29 @@ const LAST_KEY: u8 = 127;
 const HEAD_DIGITS: usize = 6;
 
 // How many letters a row has.
-const FEWEST_PRESSES: u8 = 1;
+const FEWEST_PRESSES: usize = 1;
 
 pub const MOST_PRESSES: usize = 32;
 
 // Of a line no more than these bytes matter: one more than the longest frame has makes it too long.
 pub const ENOUGH: usize = HEAD_DIGITS + 2 * MOST_PRESSES + 1;
 
-// How a key moves.
+// How a key moves, and the kind of the frame that says so.
 #[derive(Clone, Copy)]
 pub enum Way {
-    Down,
-    Up,
+    Down = 5,
+    Up = 6,
 }
 
-// What a line asks: its frame, as far as code needs it.
+// The first three bytes of a frame: of a row of letters, the value is how many it has.
+#[derive(Clone, Copy)]
+pub struct Head {
+    pub house: u8,
+    pub kind: u8,
+    pub value: u8,
+}
+
+// What a line asks: its frame, as far as code needs it. A bad frame is answered as the others are.
 #[derive(Clone, Copy)]
 pub enum Decoded {
     Bad,
@@ -61,96 +69,62 @@ pub enum Decoded {
     LetterRow { house: u8, count: u8 },
 }
 
-// Whether digits write letters, and these.
-#[derive(Clone, Copy)]
-struct Letters {
-    pub good: bool,
-    pub codes: [u8; MOST_PRESSES],
-}
-
-// The kind of a frame that says so.
+// The kind of the frame that says so.
 pub fn kind_of(way: Way) -> u8
     ensures { result ≡ way_kind way }
 {
-    match way {
-        Way::Down => DOWN_KIND,
-        Way::Up => UP_KIND,
-    }
+    way as u8
 }
 
-fn read_letter(house: u8, letter: u8) -> Decoded
-    ensures { result ≡ decoded_as (letter_frame house (letter ∷ [])) }
+fn is_house(b: u8) -> bool
+    ensures { result ≡ is_house b }
 {
-    if is_between(b'A', b'Z', letter) {
-        return Decoded::Letter { house, letter };
-    }
-    Decoded::Bad
+    matches!(b, FIRST_HOUSE..=SECOND_HOUSE)
 }
 
-fn read_key(house: u8, number: u8) -> Decoded
-    ensures { result ≡ decoded_as (key_frame house (number ∷ [])) }
+#[tactic(auto, using(crate::proofs::Lines::heads))]
+fn read_head(line: &[u8]) -> Option<Head>
+    ensures { MatchOption result (frame_of line.now ≡ bad) (λ head. HeadOf head line.now) }
 {
-    if number <= LAST_KEY {
-        let key = KeyNumber(number);
-        return Decoded::Key { house, key };
+    if line.len() < HEAD_DIGITS {
+        return None;
     }
-    Decoded::Bad
-}
-
-fn read_dump(house: u8, value: u8) -> Decoded
-    ensures { result ≡ decoded_as (dump_frame house (value ∷ [])) }
-{
-    if value == DUMP_DATA {
-        return Decoded::Dump { house };
-    }
-    Decoded::Bad
-}
-
-fn read_move(way: Way, house: u8, number: u8) -> Decoded
-    ensures { result ≡ decoded_as (move_frame way house (number ∷ [])) }
-{
-    if number <= LAST_KEY {
-        let key = KeyNumber(number);
-        return Decoded::Move { way, house, key };
-    }
-    Decoded::Bad
+    let house = byte_value(line[0], line[1])?;
+    let kind = byte_value(line[2], line[3])?;
+    let value = byte_value(line[4], line[5])?;
+    Some(Head { house, kind, value })
 }
 
 // Reads so many letters, of two digits each.
-fn read_letters(digits: &[u8], count: usize) -> Letters
+#[tactic(auto, using(crate::proofs::Reading::readings))]
+fn read_letters(digits: &[u8], count: usize) -> Option<[u8; MOST_PRESSES]>
     requires { (length digits.now ≡ 2 * count) × (count ≤ most_presses) }
-    ensures { Reads digits.now count result }
+    ensures { option_map (take count) result ≡ capitals_only digits.now }
 {
     let mut codes = [0u8; MOST_PRESSES];
     for i in 0..count {
-        let Value::Of(letter) = byte_value(digits[2 * i], digits[2 * i + 1]) else {
-            return Letters { good: false, codes };
-        };
-        if !is_between(b'A', b'Z', letter) {
-            return Letters { good: false, codes };
+        let letter = byte_value(digits[2 * i], digits[2 * i + 1])?;
+        if !letter.is_ascii_uppercase() {
+            return None;
         }
         codes[i] = letter;
     }
-    Letters { good: true, codes }
+    Some(codes)
 }
 
-// What a line of this kind asks, by its count and what stands behind it.
-fn read_row(house: u8, count: u8, line: &[u8]) -> Decoded
-    requires { head_digits ≤ length line.now }
-    ensures { result ≡ decoded_as (row_behind house count line.now) }
+// What a row of a house asks, by its count and the digits behind that.
+#[tactic(auto, using(crate::proofs::LetterRows::other_length))]
+fn read_row(house: u8, count: u8, digits: &[u8]) -> Decoded
+    ensures { result ≡ decoded_as (row_behind house count digits.now) }
 {
-    if !is_between(FIRST_HOUSE, SECOND_HOUSE, house) {
+    let letters = count as usize;
+    if !matches!(letters, FEWEST_PRESSES..=MOST_PRESSES) {
         return Decoded::Bad;
     }
-    if !is_between(FEWEST_PRESSES, MOST_PRESSES as u8, count) {
+    if digits.len() != 2 * letters {
         return Decoded::Bad;
     }
-    let digits = &line[HEAD_DIGITS..];
-    if digits.len() != 2 * count as usize {
-        return Decoded::Bad;
-    }
-    let read = read_letters(digits, count as usize);
-    if !read.good {
+    if read_letters(digits, letters).is_none() {
         return Decoded::Bad;
     }
     Decoded::LetterRow { house, count }
@@ -161,26 +135,35 @@ pub fn letters_of(frame: Decoded, line: &[u8]) -> [u8; MOST_PRESSES]
     requires { frame ≡ decoded_as (frame_of line.now) }
     ensures { HasLetters result (frame_of line.now) }
 {
-    let Decoded::LetterRow { house: _, count } = frame else {
+    let Decoded::LetterRow { count, .. } = frame else {
         return [0u8; MOST_PRESSES];
     };
-    let read = read_letters(&line[HEAD_DIGITS..], count as usize);
-    read.codes
+    read_letters(&line[HEAD_DIGITS..], count as usize).unwrap()
 }
 
-// What three bytes ask.
-fn read_frame(house: u8, kind: u8, value: u8) -> Decoded
-    ensures { result ≡ decoded_as (framed (house ∷ kind ∷ value ∷ [])) }
+// What three bytes of a house ask.
+fn read_frame(head: Head) -> Decoded
+    ensures { result ≡ decoded_as (kind_frame head.house head.kind (head.value ∷ [])) }
 {
-    if !is_between(FIRST_HOUSE, SECOND_HOUSE, house) {
-        return Decoded::Bad;
-    }
+    let Head { house, kind, value } = head;
+    let key = KeyNumber(value);
     match kind {
-        LETTER_KIND => read_letter(house, value),
-        KEY_KIND => read_key(house, value),
-        DUMP_KIND => read_dump(house, value),
-        DOWN_KIND => read_move(Way::Down, house, value),
-        UP_KIND => read_move(Way::Up, house, value),
+        LETTER_KIND if value.is_ascii_uppercase() => Decoded::Letter {
+            house,
+            letter: value,
+        },
+        KEY_KIND if value <= LAST_KEY => Decoded::Key { house, key },
+        DUMP_KIND if value == DUMP_DATA => Decoded::Dump { house },
+        DOWN_KIND if value <= LAST_KEY => Decoded::Move {
+            way: Way::Down,
+            house,
+            key,
+        },
+        UP_KIND if value <= LAST_KEY => Decoded::Move {
+            way: Way::Up,
+            house,
+            key,
+        },
         _ => Decoded::Bad,
     }
 }
@@ -189,23 +172,17 @@ fn read_frame(house: u8, kind: u8, value: u8) -> Decoded
 pub fn decode(line: &[u8]) -> Decoded
     ensures { (result ≡ decoded_as (frame_of line.now)) × (inside (frame_of line.now) ≡ true) }
 {
-    if line.len() < HEAD_DIGITS {
+    let Some(head) = read_head(line) else {
+        return Decoded::Bad;
+    };
+    if !is_house(head.house) {
         return Decoded::Bad;
     }
-    let Value::Of(house) = byte_value(line[0], line[1]) else {
-        return Decoded::Bad;
-    };
-    let Value::Of(kind) = byte_value(line[2], line[3]) else {
-        return Decoded::Bad;
-    };
-    let Value::Of(value) = byte_value(line[4], line[5]) else {
-        return Decoded::Bad;
-    };
-    if kind == LETTER_ROW_KIND {
-        return read_row(house, value, line);
+    if head.kind == LETTER_ROW_KIND {
+        return read_row(head.house, head.value, &line[HEAD_DIGITS..]);
     }
     if line.len() != HEAD_DIGITS {
         return Decoded::Bad;
     }
-    read_frame(house, kind, value)
+    read_frame(head)
 }

@@ -2,5 +2,4 @@
 pub mod Digits
 pub mod Numbers
 pub mod Lines
-pub mod Inner
 pub mod Cases

@@ -1,46 +1,38 @@
 // Capital hexadecimal digits.
-ghost use Rattle.std.specs.Prelude.{◌≡◌, ◌<◌};
+ghost use Rattle.std.specs.Prelude.{◌≡◌, ◌<◌, IfSome};
 ghost use Rattle.hexadecimal.specs.Digits.{radix, hex_of, digit_of, byte_of};
-ghost use Rattle.hexadecimal.specs.Inner.{valued};
-
-use ascii::is_between;
 
 pub const RADIX: u8 = 16;
 
-// What a digit, or two of them, write.
-#[derive(Clone, Copy)]
-pub enum Value {
-    Missing,
-    Of(u8),
-}
-
+#[tactic(auto, unfolding(crate::specs::Digits::hex_of))]
 pub fn hex_digit(n: u8) -> u8
     requires { n < radix }
     ensures { result ≡ hex_of n }
 {
-    if n < 10 { b'0' + n } else { b'A' + (n - 10) }
+    match n {
+        0..=9 => b'0' + n,
+        _ => b'A' + (n - 10),
+    }
 }
 
-fn digit_value(b: u8) -> Value
-    ensures { result ≡ valued (digit_of b) }
+#[tactic(auto, unfolding(crate::specs::Digits::digit_of))]
+fn digit_value(b: u8) -> Option<u8>
+    ensures value { result ≡ digit_of b }
+    ensures small { IfSome result (λ d. d < radix) }
 {
-    if is_between(b'0', b'9', b) {
-        return Value::Of(b - b'0');
+    match b {
+        b'0'..=b'9' => Some(b - b'0'),
+        b'A'..=b'F' => Some(b - b'A' + 10),
+        _ => None,
     }
-    if is_between(b'A', b'F', b) {
-        return Value::Of(b - b'A' + 10);
-    }
-    Value::Missing
 }
 
-pub fn byte_value(high: u8, low: u8) -> Value
-    ensures { result ≡ valued (byte_of high low) }
+// The byte that two digits write.
+#[tactic(auto, unfolding(crate::specs::Digits::byte_of))]
+pub fn byte_value(high: u8, low: u8) -> Option<u8>
+    ensures { result ≡ byte_of high low }
 {
-    let Value::Of(h) = digit_value(high) else {
-        return Value::Missing;
-    };
-    let Value::Of(l) = digit_value(low) else {
-        return Value::Missing;
-    };
-    Value::Of(RADIX * h + l)
+    let h = digit_value(high)?;
+    let l = digit_value(low)?;
+    Some(RADIX * h + l)
 }

@@ -12,6 +12,7 @@ use digits::{RADIX, hex_digit};
 pub const LINE_FEED: u8 = b'\n';
 
 // Stores a byte, where the buffer has the place.
+#[tactic(auto, using(std::proofs::lemmas::List::set_past))]
 pub fn put(buf: &mut [u8], at: usize, b: u8)
     ensures { buf.new ≡ set buf.old at b }
 {
@@ -21,6 +22,7 @@ pub fn put(buf: &mut [u8], at: usize, b: u8)
 }
 
 // Writes byte `at` of an answer, as two digits.
+#[tactic(auto, using(crate::proofs::Written::written_one))]
 pub fn put_byte(buf: &mut [u8], at: usize, b: u8)
     requires { 2 * at + 1 < length buf.old }
     ensures { buf.new ≡ written buf.old at (b ∷ []) }
@@ -34,28 +36,24 @@ pub fn put_bytes(buf: &mut [u8], at: usize, bytes: &[u8])
     requires { 2 * (at + length bytes.now) ≤ length buf.old }
     ensures { buf.new ≡ written buf.old at bytes.now }
 {
-    for i in 0..bytes.len() {
-        put_byte(buf, at + i, bytes[i]);
+    for (i, b) in bytes.iter().enumerate() {
+        put_byte(buf, at + i, *b);
     }
 }
 
 // Writes a number as four bytes of an answer, from byte `at` on.
+#[tactic(auto, unfolding(crate::specs::Numbers::four_of))]
 pub fn put_four(buf: &mut [u8], at: usize, n: u32)
     requires { 2 * at + 7 < length buf.old }
     ensures { buf.new ≡ written buf.old at (four_of n) }
 {
-    put_byte(buf, at, (n / 0x100_0000 % 0x100) as u8);
-    put_byte(buf, at + 1, (n / 0x1_0000 % 0x100) as u8);
-    put_byte(buf, at + 2, (n / 0x100 % 0x100) as u8);
-    put_byte(buf, at + 3, (n % 0x100) as u8);
+    put_bytes(buf, at, &n.to_be_bytes());
 }
 
 // The two's complement of a signed number.
+#[tactic(auto, using(crate::proofs::Complement::twos_is))]
 pub fn bits_of(z: i32) -> u32
     ensures { result ≡ twos z }
 {
-    if z < 0 {
-        return 0xFFFF_FFFF - ((-1 - z) as u32);
-    }
-    z as u32
+    z.cast_unsigned()
 }

@@ -34,7 +34,7 @@ use Rattle.protocol.specs.declared.Desk.{Desk}
 use Rattle.protocol.specs.declared.Told.{Told}
 use Rattle.protocol.specs.declared.Stepped.{Stepped}
 use Rattle.protocol.specs.declared.Search.{Search}
-use Rattle.protocol.specs.declared.presses.Head.{Head}
+use Rattle.frames.specs.declared.Head.{Head}
 use Rattle.protocol.specs.declared.presses.PressedAll.{PressedAll}
 use Rattle.protocol.specs.declared.triggers.Press.{Press}
 use Rattle.protocol.specs.declared.triggers.Called.{Called}

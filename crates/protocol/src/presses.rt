@@ -10,7 +10,7 @@ ghost use Rattle.protocol.specs.Inner.{IndexOf, FrameInside, head_of, step_of, s
 
 use crate::triggers::Called;
 use crate::{Desk, INDEX_SIZE, Search, Stepped, chords, triggers};
-use frames::{Decoded, LETTER_KIND, MOST_PRESSES};
+use frames::{Decoded, Head, LETTER_KIND, MOST_PRESSES};
 use status::DONE;
 use tuning::State;
 
@@ -20,14 +20,6 @@ pub struct PressedAll {
     pub desk: Desk,
     pub number: u8,
     pub numbers: [u8; MOST_PRESSES],
-}
-
-// The bytes of a frame of three.
-#[derive(Clone, Copy)]
-struct Head {
-    pub house: u8,
-    pub kind: u8,
-    pub value: u8,
 }
 
 // What a press finds: a letter, or a key that moves. Any other frame finds nothing.
@@ -182,6 +174,5 @@ pub fn answer_presses(
     if let Decoded::LetterRow { house, count: _ } = frame {
         return answers::answer_row(buffer, house, letters, numbers, s);
     }
-    let head = head_of(frame);
-    answers::answer_change(buffer, head.house, head.kind, head.value, number, s)
+    answers::answer_change(buffer, head_of(frame), number, s)
 }

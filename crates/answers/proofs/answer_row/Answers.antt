@@ -15,9 +15,7 @@ unfolding four_of
 returns c =
     let pairs = length-append c.args.letters.now c.args.numbers.now in
     let whole = length-append (c.args.letters.now ++ c.args.numbers.now) (state_bytes (held c.args.s)) in
-    let two = written_then _ _ _ _ _ c.put_byte.ensures c.put_byte-2.ensures refl in
-    let three = written_then _ _ _ _ _ two c.put_byte-3.ensures refl in
-    let frame = written_then _ _ _ _ _ three c.put_bytes.ensures refl in
-    let pressed = written_then _ _ _ _ _ frame c.put_bytes-2.ensures (omega arith) in
+    let frame = written_then _ _ _ _ _ c.put_bytes.ensures c.put_bytes-2.ensures refl in
+    let pressed = written_then _ _ _ _ _ frame c.put_bytes-3.ensures (omega arith) in
     let all = written_then _ _ _ _ _ pressed c.put_state.ensures (omega (arith, pairs)) in
     ended _ _ _ all c.end_line.ensures (omega (arith, pairs, whole)) (omega (arith, c.requires.smallest_buffer_in_bounds.0, c.requires.letters_len_bound))

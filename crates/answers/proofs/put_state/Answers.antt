@@ -2,6 +2,10 @@
 use Prim.Native.Nat.{ℕ}
 use mathlib.Core.Path.{◌≡◌, refl, sym, ap, ◌∙◌}
 use mathlib.Core.List.{◌∷◌}
+use borrow.Author.Rules.{rules}
+use mir.Facts.{to_z-of_z}
+use mir.Syntax.{w32}
+use mir.Val.{SFits}
 use lib.ListN.{length}
 use Rattle.tuning.specs.Tuning.{width}
 use Rattle.tuning.specs.Desk.{cents}
@@ -22,7 +26,9 @@ pub returns : goal.returns
 returns c =
     let s = c.args.s in
     let two = written_then _ _ _ _ _ c.put_byte.ensures c.put_byte-2.ensures refl in
-    let four = rw c.interval_bits.ensures at c.put_four.ensures in
+    let fits : SFits w32 s.period.0 = search rules in
+    let bits = simp to_z-of_z at c.bits_of.ensures in
+    let four = rw bits at c.put_four.ensures in
     written_then _ _ _ _ _ two four refl
     ∙ ap (λ (w : ℕ). written c.args.buf.now c.args.at (s.anchor.0 ∷ w ∷ four_of (twos s.period.0)))
     (sym (wide (goal.at.returns c).Start))

@@ -1,32 +1,32 @@
 -- Of a row, what is read are its letters.
 use Prim.Native.Nat.{ℕ, ◌≤◌}
-use mathlib.Core.Path.{◌≡◌, sym, ap, ◌∙◌, subst}
+use mathlib.Core.Path.{◌≡◌, refl, sym, ap, ◌∙◌, subst}
 use mathlib.Core.List.{List}
-use Rattle.std.proofs.lemmas.Option.{same_Some}
 use native.Mathlib.Omega.{arith}
+use borrow.Author.Rules.{rules}
 use lib.ListN.{length, take, length-drop}
+use Rattle.std.specs.Prelude.{Option, None, Some, option_map, IsSome}
+use Rattle.std.proofs.lemmas.Option.{none-some, same_Some}
 use Rattle.frames.specs.Frames.{Frame, bad, letter, key, dump, move, letter_row, frame_of, decoded_as}
 use Rattle.frames.specs.declared.Decoded.{Decoded}
 use Rattle.frames.specs.declared.Decoded.TheVariants.{LetterRow}
-use Rattle.frames.specs.Inner.{are_letters, Reads, HasLetters}
-use Rattle.frames.proofs.LetterRows.{RowThere, row_there, behind_head}
-use borrow.Author.Rules.{rules}
-use Rattle.frames.proofs.letters_of.Goals.{In-LetterRow}
+use Rattle.frames.specs.Inner.{capitals_only, HasLetters}
+use Rattle.frames.proofs.Lines.{behind_head}
+use Rattle.frames.proofs.LetterRows.{RowThere, row_there}
+use Rattle.frames.proofs.letters_of.Goals.{In-LetterRow, After-read_letters}
 use Rattle.frames.proofs.letters_of.Goals as goal
 
--- once it is known to be a row
-module _ (k : goal.In-LetterRow) where
-  abbrev line : List ℕ
-  line = k.args.line.now
+-- a row, as the line has it
+there : (k : goal.In-LetterRow) → RowThere k.args.line.now k.in-LetterRow.house k.in-LetterRow.count
+there k = row_there k.args.line.now (sym k.in-LetterRow.is ∙ k.requires)
 
-  abbrev house : ℕ
-  house = k.in-LetterRow.house
+-- its letters are read
+read : (k : goal.After-read_letters) → option_map (take k.in-LetterRow.count) k.read_letters.result ≡ Some (there (goal.at.unwrap-requires k).In-LetterRow).letters
+read k = k.read_letters.ensures ∙ ap capitals_only (behind_head k.args.line.now) ∙ (there (goal.at.unwrap-requires k).In-LetterRow).behind
 
-  abbrev count : ℕ
-  count = k.in-LetterRow.count
-
-  there : RowThere line house count
-  there = row_there line (sym k.in-LetterRow.is ∙ k.requires)
+some : (n : ℕ) (o : Option (List ℕ)) (cs : List ℕ) → option_map (take n) o ≡ Some cs → IsSome o
+some n None cs e = absurd (none-some cs e)
+some n (Some x) cs e = refl
 
 -- of a frame that is no row, zeros will do
 none : (f : Frame) (l : List ℕ) {q : Decoded} → q ≡ decoded_as f → ((house count : ℕ) → q ≡ LetterRow house count → ⊥) → HasLetters l f
@@ -44,20 +44,19 @@ pub slice_bounds-read_letters-count : goal.slice_bounds-read_letters-count
 slice_bounds-read_letters-count c = omega (arith, (there c).digits)
 
 pub slice_bounds-read_letters-start : goal.slice_bounds-read_letters-start
-slice_bounds-read_letters-start c = let h : 6 ≤ length (line c) = omega (arith, (there c).digits) in search rules
+slice_bounds-read_letters-start c = let h : 6 ≤ length c.args.line.now = omega (arith, (there c).digits) in search rules
 
-pub read_letters-read-requires : goal.read_letters-read-requires
-read_letters-read-requires c =
-    let k = (goal.at.read_letters-read-requires c).In-LetterRow in
-    let t = there k in
-    (ap length (behind_head (line k)) ∙ omega (arith, t.digits, length-drop 6 (line k)), omega (arith, t.ranges.most, t.size))
+pub read_letters-requires : goal.read_letters-requires
+read_letters-requires c =
+    let t = there (goal.at.read_letters-requires c).In-LetterRow in
+    let l = c.args.line.now in
+    (ap length (behind_head l) ∙ omega (arith, t.digits, length-drop 6 l), omega (arith, t.ranges.most, t.size))
+
+pub unwrap-requires : goal.unwrap-requires
+unwrap-requires c = some _ _ _ (read c)
 
 pub returns : goal.returns
 returns c =
-    let r = c.read_letters-read in
-    let k = (goal.at.returns c).In-LetterRow in
-    let t = there k in
-    let read = subst (λ (l : List ℕ). Reads l (count k) r.result) (behind_head (line k)) r.ensures in
-    let good = read.good ∙ ap are_letters t.behind ∙ t.ranges.capitals in
-    let letters = same_Some _ _ (sym t.behind ∙ read.codes good) in
-    subst (HasLetters r.result.codes) (sym t.same) (ap (λ (n : ℕ). take n r.result.codes) t.size ∙ sym letters)
+    let t = there (goal.at.returns c).In-LetterRow in
+    let e = rw c.unwrap.ensures at (read (goal.at.returns c).After-read_letters) in
+    subst (HasLetters c.unwrap.result) (sym t.same) (ap (λ (n : ℕ). take n c.unwrap.result) t.size ∙ same_Some _ _ e)

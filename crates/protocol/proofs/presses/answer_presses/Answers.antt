@@ -9,7 +9,7 @@ use Rattle.frames.specs.Frames.{most_presses}
 use Rattle.frames.specs.declared.Decoded.{Decoded}
 use Rattle.hexadecimal.specs.Lines.{line_of, begun_with}
 use Rattle.answers.specs.Answer.{change_bytes}
-use Rattle.protocol.specs.declared.presses.Head.{Head}
+use Rattle.frames.specs.declared.Head.{Head}
 use Rattle.protocol.specs.Inner.{press_count, pressed_bytes}
 use Rattle.protocol.proofs.InTurn.{count_most, press_bytes_holds}
 use Rattle.protocol.proofs.Others.{row_else}
@@ -35,7 +35,7 @@ returns-in-LetterRow c =
 
 pub returns : goal.returns
 returns c =
-    let e = c.head_of-head.ensures in
+    let e = c.head_of.ensures in
     let r = c.answer_change in
     let s = held c.args.s in
     let number = c.args.number in

@@ -4,7 +4,7 @@ use lib.ListN.{length}
 use Rattle.tuning.proofs.Lists.{length_mapped}
 use Rattle.tables.specs.Layout.{Tables, tables_in}
 use Rattle.protocol.specs.declared.Desk.{Desk}
-use Rattle.protocol.specs.declared.presses.Head.{Head}
+use Rattle.frames.specs.declared.Head.{Head}
 use Rattle.protocol.specs.declared.Stepped.{Stepped}
 use Rattle.protocol.specs.Steps.{with_keys}
 use Rattle.protocol.specs.Answers.{valid_desk}
