@@ -24,16 +24,14 @@
 //   18 0000000D: x is not named, at byte 13; the tables are zero again.
 #![tactic(auto)]
 
-ghost use Rattle.std.specs.Prelude.{◌≡◌, ◌+◌, ◌*◌, ◌≤◌, length, IfOk};
-ghost use Rattle.text_tables.specs.Within.{Within};
+ghost use Rattle.std.specs.Prelude.{◌≡◌, ◌≤◌, length, IfOk, IfSome};
 
-use hexadecimal::{bits_of, put};
 use mutabor::read_text;
 use std::io;
 use std::io::{ErrorKind, Read, Write};
 use tables::{
-    CHANGES, CHANGES_AT, CODES, Counts, KINDS_AT, NUMBERS, ORDER_WIDTH, ORDERS, ORDERS_AT,
-    ROW_WIDTH, ROWS, SOUNDING_AT, TONES, TONES_AT,
+    CHANGES_AT, CODES, Counts, KINDS_AT, NUMBERS, ORDER_WIDTH, ORDERS_AT, ROW_WIDTH, SOUNDING_AT,
+    TONES_AT,
 };
 
 const LENGTH_BYTES: usize = 4;
@@ -44,165 +42,56 @@ const TEXT_ROOM: usize = 65_536;
 // The room for an answer.
 const ROOM: usize = 73_728;
 
-// Where the parts of an answer begin, and how many bytes a number, a row, a tone or a change, and an order have.
-const PLACE_AT: usize = 1;
-
-const COUNTS_AT: usize = 5;
-
-const ROWS_AT: usize = 21;
-
-const NUMBER_BYTES: usize = 4;
-
-const ROW_BYTES: usize = 17;
-
-const PAIR_BYTES: usize = 5;
-
-const ORDER_BYTES: usize = 4;
-
-// The end of the input, or a text of so many bytes.
-#[derive(Clone, Copy)]
-enum Next {
-    End,
-    Text(usize),
-}
-
-fn wide(b: u8) -> usize
-    ensures { result ≤ 255 }
-{
-    b as usize
-}
-
-fn length_of(bytes: &[u8; LENGTH_BYTES]) -> usize {
-    wide(bytes[0]) * 0x100_0000
-        + wide(bytes[1]) * 0x1_0000
-        + wide(bytes[2]) * 0x100
-        + wide(bytes[3])
-}
-
-// A count, or the size of its table where that is less.
-fn clamp(count: u32, most: usize) -> usize
-    ensures { result ≤ most }
-{
-    let n = count as usize;
-    if n < most {
-        return n;
+// Each of so many rows: its form as one byte, then its other numbers.
+fn put_rows(out: &mut impl Write, rows: &[i32], count: u32) -> io::Result<()> {
+    for row in rows.chunks_exact(ROW_WIDTH).take(count as usize) {
+        put_row(out, row)?;
     }
-    most
+    Ok(())
 }
 
-// The low byte of a code.
-fn low(n: u16) -> u8 {
-    (n % 0x100) as u8
-}
-
-fn put_two(out: &mut [u8], at: usize, n: u16)
-    requires { at ≤ 73_728 }
-{
-    put(out, at, (n / 0x100) as u8);
-    put(out, at + 1, (n % 0x100) as u8);
-}
-
-fn put_four(out: &mut [u8], at: usize, n: u32)
-    requires { at ≤ 73_728 }
-{
-    put(out, at, (n / 0x100_0000 % 0x100) as u8);
-    put(out, at + 1, (n / 0x1_0000 % 0x100) as u8);
-    put(out, at + 2, (n / 0x100 % 0x100) as u8);
-    put(out, at + 3, (n % 0x100) as u8);
-}
-
-fn put_counts(out: &mut [u8], counts: Counts) {
-    put_four(out, COUNTS_AT, counts.rows);
-    put_four(out, COUNTS_AT + NUMBER_BYTES, counts.tones);
-    put_four(out, COUNTS_AT + 2 * NUMBER_BYTES, counts.changes);
-    put_four(out, COUNTS_AT + 3 * NUMBER_BYTES, counts.orders);
-}
-
-// The row that begins at `from`: its form as one byte, then its other numbers.
-fn put_row(out: &mut [u8], at: usize, rows: &[i32], from: usize)
-    requires { (at ≤ 22_308) × (from + 5 ≤ length rows.now) }
-{
-    put(out, at, (bits_of(rows[from]) % 0x100) as u8);
-    let mut k: usize = 1;
-    while k < ROW_WIDTH {
-        put_four(
-            out,
-            at + 1 + NUMBER_BYTES * (k - 1),
-            bits_of(rows[from + k]),
-        );
-        k += 1;
+fn put_row(out: &mut impl Write, row: &[i32]) -> io::Result<()> {
+    let Some((form, values)) = row.split_first() else {
+        return Ok(());
+    };
+    out.write_all(&form.to_be_bytes()[3..])?;
+    for value in values {
+        out.write_all(&value.to_be_bytes())?;
     }
+    Ok(())
 }
 
-// Each of the next four tells where what it has put ends.
-fn put_rows(out: &mut [u8], at: usize, rows: &[i32], count: usize) -> usize
-    requires { (at ≤ 21) × (count ≤ 1_312) × (length rows.now ≡ 6_560) }
-    ensures { result ≡ at + 17 * count }
-{
-    let mut i: usize = 0;
-    while i < count {
-        put_row(out, at + ROW_BYTES * i, rows, ROW_WIDTH * i);
-        i += 1;
+// So many tones or changes: each a byte and a number.
+fn put_pairs(out: &mut impl Write, kinds: &[u16], numbers: &[i32], count: u32) -> io::Result<()> {
+    for (kind, number) in kinds.iter().zip(numbers).take(count as usize) {
+        out.write_all(&kind.to_be_bytes()[1..])?;
+        out.write_all(&number.to_be_bytes())?;
     }
-    at + ROW_BYTES * count
+    Ok(())
 }
 
-// Tones or changes: each a byte and a number.
-fn put_pairs(out: &mut [u8], at: usize, kinds: &[u16], numbers: &[i32], count: usize) -> usize
-    requires { (at + 5 * count ≤ 73_728) × (count ≤ length kinds.now) × (length kinds.now ≡ length numbers.now) }
-    ensures { result ≡ at + 5 * count }
-{
-    let mut i: usize = 0;
-    while i < count {
-        put(out, at + PAIR_BYTES * i, low(kinds[i]));
-        put_four(out, at + PAIR_BYTES * i + 1, bits_of(numbers[i]));
-        i += 1;
+fn put_orders(out: &mut impl Write, orders: &[u16], count: u32) -> io::Result<()> {
+    for order in orders.chunks_exact(ORDER_WIDTH).take(count as usize) {
+        for code in order {
+            out.write_all(&code.to_be_bytes())?;
+        }
     }
-    at + PAIR_BYTES * count
+    Ok(())
 }
 
-fn put_orders(out: &mut [u8], at: usize, orders: &[u16], count: usize) -> usize
-    requires { (at + 4 * count ≤ 73_728) × (2 * count ≤ length orders.now) }
-    ensures { result ≡ at + 4 * count }
-{
-    let mut i: usize = 0;
-    while i < count {
-        let from = ORDER_WIDTH * i;
-        put_two(out, at + ORDER_BYTES * i, orders[from]);
-        put_two(out, at + ORDER_BYTES * i + 2, orders[from + 1]);
-        i += 1;
-    }
-    at + ORDER_BYTES * count
-}
-
-fn put_tables(out: &mut [u8], numbers: &[i32], codes: &[u16]) -> usize
+// What the tables hold.
+fn put_tables(out: &mut impl Write, numbers: &[i32], codes: &[u16]) -> io::Result<()>
     requires { (length numbers.now ≡ 16_160) × (length codes.now ≡ 10_628) }
-    ensures { result ≤ 72_373 }
 {
-    let used = Counts::read(&codes[0..SOUNDING_AT]);
-    put_counts(out, used);
-    let rows = &numbers[0..TONES_AT];
-    let after_rows = put_rows(out, ROWS_AT, rows, clamp(used.rows, ROWS));
-    let sounding = &codes[SOUNDING_AT..KINDS_AT];
-    let tones = &numbers[TONES_AT..CHANGES_AT];
-    let after_tones = put_pairs(out, after_rows, sounding, tones, clamp(used.tones, TONES));
-    let kinds = &codes[KINDS_AT..ORDERS_AT];
-    let changes = &numbers[CHANGES_AT..NUMBERS];
-    let after_changes = put_pairs(
-        out,
-        after_tones,
-        kinds,
-        changes,
-        clamp(used.changes, CHANGES),
-    );
-    let orders = &codes[ORDERS_AT..CODES];
-    put_orders(out, after_changes, orders, clamp(used.orders, ORDERS))
-}
-
-fn send(output: &mut impl Write, out: &[u8], n: usize) -> io::Result<()>
-    requires { n ≤ length out.now }
-{
-    output.write_all(&out[..n])
+    let used = Counts::read(&codes[..SOUNDING_AT]);
+    for count in [used.rows, used.tones, used.changes, used.orders] {
+        out.write_all(&count.to_be_bytes())?;
+    }
+    put_rows(out, &numbers[..TONES_AT], used.rows)?;
+    let (sounding, kinds) = (&codes[SOUNDING_AT..KINDS_AT], &codes[KINDS_AT..ORDERS_AT]);
+    put_pairs(out, sounding, &numbers[TONES_AT..CHANGES_AT], used.tones)?;
+    put_pairs(out, kinds, &numbers[CHANGES_AT..], used.changes)?;
+    put_orders(out, &codes[ORDERS_AT..], used.orders)
 }
 
 // Fills the bytes from the input; false where the input ends before.
@@ -214,37 +103,36 @@ fn take_bytes(input: &mut impl Read, bytes: &mut [u8]) -> io::Result<bool> {
     }
 }
 
-// Takes the next text from the input, as far as it is there whole and there is room for it.
-fn take_text(input: &mut impl Read, text: &mut [u8]) -> io::Result<Next>
-    ensures { IfOk result (λ next. Within next text.old) }
+// Takes the next text from the input, as far as it is there whole and there is room for it, and tells how long it is.
+fn take_text(input: &mut impl Read, text: &mut [u8]) -> io::Result<Option<usize>>
+    ensures { IfOk result (λ next. IfSome next (λ n. n ≤ length text.old)) }
 {
     let mut bytes = [0u8; LENGTH_BYTES];
     if !take_bytes(input, &mut bytes)? {
-        return Ok(Next::End);
+        return Ok(None);
     }
-    let n = length_of(&bytes);
-    if text.len() < n {
-        return Ok(Next::End);
+    let n = u32::from_be_bytes(bytes) as usize;
+    if text.len() < n || !take_bytes(input, &mut text[..n])? {
+        return Ok(None);
     }
-    if !take_bytes(input, &mut text[..n])? {
-        return Ok(Next::End);
-    }
-    Ok(Next::Text(n))
+    Ok(Some(n))
 }
 
 // Reads a text, and writes what is left in the tables.
 fn answer_text(
     output: &mut impl Write,
     text: &[u8],
-    out: &mut [u8; ROOM],
+    room: &mut [u8; ROOM],
     numbers: &mut [i32; NUMBERS],
     codes: &mut [u16; CODES],
 ) -> io::Result<()> {
     let reading = read_text(text, numbers, codes);
-    put(out, 0, reading.number);
-    put_four(out, PLACE_AT, reading.place);
-    let end = put_tables(out, numbers, codes);
-    send(output, out, end)
+    let mut out = room.as_mut_slice();
+    out.write_all(&[reading.number])?;
+    out.write_all(&reading.place.to_be_bytes())?;
+    put_tables(&mut out, numbers, codes)?;
+    let end = ROOM.saturating_sub(out.len());
+    output.write_all(&room[..end])
 }
 
 // The tables are never cleared here: that is the reader's part.
@@ -252,15 +140,14 @@ fn main(rt: HostRuntime) -> io::Result<()> {
     let mut input = rt.stdin();
     let mut output = rt.stdout();
     let mut text = [0u8; TEXT_ROOM];
-    let mut out = [0u8; ROOM];
+    let mut room = [0u8; ROOM];
     let mut numbers = [0i32; NUMBERS];
     let mut codes = [0u16; CODES];
     for _ in 0..u64::MAX {
-        let next = take_text(&mut input, &mut text)?;
-        let Next::Text(n) = next else {
+        let Some(n) = take_text(&mut input, &mut text)? else {
             break;
         };
-        answer_text(&mut output, &text[..n], &mut out, &mut numbers, &mut codes)?;
+        answer_text(&mut output, &text[..n], &mut room, &mut numbers, &mut codes)?;
     }
     Ok(())
 }

@@ -1,2 +1,0 @@
--- What the contracts of `text_tables` cite.
-pub mod Within
