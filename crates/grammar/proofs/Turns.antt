@@ -9,8 +9,8 @@ use native.Mathlib.Omega.{arith}
 use Rattle.std.proofs.lemmas.Option.{same_Some}
 use borrow.Author.Tests.{eq-eqb, ne_eqb, le-leb, lt-leb}
 use lib.Dec.{leb, eqb}
-use lib.ListN.{length, length-append}
-use lib.Seq.{slice, sets, append_snoc}
+use lib.ListN.{length, set, length-append}
+use lib.Seq.{slice, append_snoc}
 use Rattle.status.specs.Status.{done, text_too_long, no_symbol, symbol_not_allowed, item_too_many}
 use Rattle.limits.specs.Limits.{most_harmony_keys, most_placeholders}
 use Rattle.sets.specs.Sets.{has}
@@ -40,7 +40,7 @@ use Rattle.grammar.specs.Terminals.{terminal_number, picked, of_letter, terminal
 use Rattle.grammar.specs.Moves.{Move, node_number, move_by, move_of}
 use Rattle.grammar.specs.Reading.{Read, limit, most_terms, most_positions, so_far, one_more, with_counts, with_positions, no_term, next_term, unless_full, counted, positioned, judged, used, if_allowed, numbered, acted, standing, Moved, then_at, not_allowed, by_rule, stepped, begun, with, refused_at, read_from, most_bytes, read_items, answered, with_keys, with_key, with_bracketed, in_brackets, key_counted, key_named, order_counted}
 use Rattle.grammar.specs.Reading as reading
-use Rattle.grammar.specs.Items.{row, row_size, rows, holding, item_slots}
+use Rattle.grammar.specs.Items.{holding, most_items}
 use Rattle.grammar.proofs.Numbered.{word_apart, mark_apart}
 use Rattle.grammar.proofs.Diagrams.{moves_by_name, same_node, none_at_nothing, finish_at_end, end_at_finish}
 use Rattle.grammar.proofs.Rows.{holding_more, length_holding}
@@ -236,9 +236,9 @@ abbrev pub onto : List Item → Read → Read
 onto is r = record { items = is ++ r.items; number = r.number; place = r.place }
 
 -- reading stands at the place `at`: `items` holds those read so far over what was there before, and what is left gives the rest
-pub record Midway (text before items : List ℕ) (n : Node) (s : Progress) (at count : ℕ) : Type 0 where
+pub record Midway (text : List ℕ) (before items : List Item) (n : Node) (s : Progress) (at count : ℕ) : Type 0 where
   pub short : length text ≤ most_bytes
-  pub room : length before ≡ item_slots
+  pub room : length before ≡ most_items
   pub within : at ≤ length text
   pub so_far_case : List Item
   pub counted : count ≡ length so_far_case
@@ -247,8 +247,8 @@ pub record Midway (text before items : List ℕ) (n : Node) (s : Progress) (at c
   pub held : items ≡ holding so_far_case before
   pub left : read_items text ≡ onto so_far_case (read_from text (standing n s) (symbols_from text at))
 
-midway_first : (text before : List ℕ) → length text ≤ most_bytes → length before ≡ item_slots → Midway text before before Begin begun.kept 0 0
-unfolding rows read_items symbols
+midway_first : (text : List ℕ) (before : List Item) → length text ≤ most_bytes → length before ≡ most_items → Midway text before before Begin begun.kept 0 0
+unfolding read_items symbols
 midway_first text before h k = record {
   short = h;
   room = k;
@@ -262,15 +262,15 @@ midway_first text before h k = record {
 }
 
 -- what a call answers, and what the slice holds then
-abbrev pub Answer : (text before items : List ℕ) (count number place : ℕ) → Type 0
+abbrev pub Answer : (text : List ℕ) (before items : List Item) (count number place : ℕ) → Type 0
 Answer text before items count number place =
     (◌≡◌ {A = Reading} (record { count = count; number = number; place = place }) (answered (read_items text))) × (items ≡ holding (read_items text).items before)
 
-pub too_long : (text items : List ℕ) → most_bytes < length text → Answer text items items 0 text_too_long 0
-unfolding rows read_items
+pub too_long : (text : List ℕ) (items : List Item) → most_bytes < length text → Answer text items items 0 text_too_long 0
+unfolding read_items
 too_long text items h = rw (lt-leb (length text) most_bytes h) (refl, refl)
 
-module _ {text before items : List ℕ} {n : Node} {s : Progress} {at count : ℕ} (st : Midway text before items n s at count) where
+module _ {text : List ℕ} {before items : List Item} {n : Node} {s : Progress} {at count : ℕ} (st : Midway text before items n s at count) where
   -- the slice keeps its length
   kept : length items ≡ length before
   kept = ap length st.held ∙ length_holding st.so_far_case before (omega (arith, st.few, st.counted, st.within, st.short, st.room))
@@ -360,7 +360,7 @@ module _ {text before items : List ℕ} {n : Node} {s : Progress} {at count : �
             },
           )
 
-      gives : {t : Progress} {i : Item} {next : List ℕ} → o ≡ Give t i → next ≡ sets items (row_size * count) (row i)
+      gives : {t : Progress} {i : Item} {next : List Item} → o ≡ Give t i → next ≡ set items count i
           → (length text - end_of y < length text - at) × Midway text before next r.next t (end_of y) (count + 1)
       gives {t} {i} {next} q e =
           let f = further t (given_before q) (λ g. subst (Grown s.term.before) q g) in
@@ -379,8 +379,8 @@ module _ {text before items : List ℕ} {n : Node} {s : Progress} {at count : �
               terms = omega (arith, st.terms, f.terms, f.later);
               held =
                   e
-                  ∙ ap (λ (l : List ℕ). sets l (row_size * count) (row i)) st.held
-                  ∙ ap (λ (k : ℕ). sets (holding is before) (row_size * k) (row i)) st.counted
+                  ∙ ap (λ (l : List Item). set l count i) st.held
+                  ∙ ap (λ (k : ℕ). set (holding is before) k i) st.counted
                   ∙ holding_more is i before (omega (arith, st.few, st.counted, st.short, st.room, f.later, f.inside));
               left = st.left ∙ ap (onto is) p ∙ ap (λ (l : List Item). record { items = l; number = rest.number; place = rest.place }) (sym (append_snoc is i rest.items));
             },
@@ -388,7 +388,7 @@ module _ {text before items : List ℕ} {n : Node} {s : Progress} {at count : �
 
 -- ---- the loop: reading stands at the node of which the code holds the number, or is finished
 
-pub record Walking (text before items : List ℕ) (s : Progress) (node at count : ℕ) : Type 0 where
+pub record Walking (text : List ℕ) (before items : List Item) (s : Progress) (node at count : ℕ) : Type 0 where
   pub stands : Node
   pub number : node ≡ node_number stands
   pub midway : (node ≡ node_number Finish → ⊥) → Midway text before items stands s at count
@@ -407,7 +407,7 @@ turns_less text node next at to n h = rw (ne_eqb node (node_number Finish) n) (g
     go true e = omega arith
     go false e = let l = h (λ f. let z : ◌≡◌ {A = Bool} true false = sym (eq-eqb _ _ f) ∙ e in let y : ◌≡◌ {A = ℕ} 0 1 = cc in omega arith) in omega arith
 
-pub walks_first : (text before : List ℕ) → length text ≤ most_bytes → length before ≡ item_slots → {s : Progress} → s ≡ begun.kept
+pub walks_first : (text : List ℕ) (before : List Item) → length text ≤ most_bytes → length before ≡ most_items → {s : Progress} → s ≡ begun.kept
     → Walking text before before s (node_number Begin) 0 0
 walks_first text before h k {s} e = record {
   stands = Begin;
@@ -417,7 +417,7 @@ walks_first text before h k {s} e = record {
   same_size = refl;
 }
 
-module _ {text before items : List ℕ} {s : Progress} {node at count : ℕ} (w : Walking text before items s node at count) (n : node ≡ node_number Finish → ⊥) where
+module _ {text : List ℕ} {before items : List Item} {s : Progress} {node at count : ℕ} (w : Walking text before items s node at count) (n : node ≡ node_number Finish → ⊥) where
   pub enough_room : (s.term.before + 1 < 2 ^ 32) × (count + 1 < 2 ^ 32)
   enough_room = let m = w.midway n in (omega (arith, m.terms, m.within, m.short), omega (arith, m.few, m.within, m.short))
 
@@ -460,7 +460,7 @@ module _ {text before items : List ℕ} {s : Progress} {node at count : ℕ} (w 
             },
           )
 
-          pub walks_with : {i : Item} {next : List ℕ} → o ≡ Give u i → next ≡ sets items (row_size * count) (row i)
+          pub walks_with : {i : Item} {next : List Item} → o ≡ Give u i → next ≡ set items count i
               → (turns_left text k x.end < turns_left text node at) × Walking text before next u k x.end (count + 1)
           walks_with {i} {next} q h =
               let g = gives (w.midway n) ey by.picks done_so q h in

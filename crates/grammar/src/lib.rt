@@ -2,7 +2,7 @@
 #![tactic(auto)]
 
 mod actions;
-pub mod items;
+mod items;
 mod moves;
 pub mod reading;
 mod terminals;

@@ -6,10 +6,10 @@ ghost use Rattle.grammar.specs.Syntax.{nothing};
 ghost use Rattle.grammar.specs.Terminals.{terminal_number, of_name, terminal_of, start_of, end_of, span_of};
 ghost use Rattle.grammar.specs.Reading.{begun, most_bytes, read_items, answered};
 ghost use Rattle.grammar.specs.Moves.{Moves};
-ghost use Rattle.grammar.specs.Items.{holding, item_slots};
+ghost use Rattle.grammar.specs.Items.{holding, most_items};
 
 use crate::{
-    Counts, FirstNumber, NextTerm, Outcome, Progress, Span, actions, items, moves, terminals,
+    Counts, FirstNumber, Item, NextTerm, Outcome, Progress, Span, actions, moves, terminals,
 };
 use limits::MOST_BYTES;
 use symbols::{Symbol, spelling, words};
@@ -120,11 +120,11 @@ fn begin() -> Progress
     }
 }
 
-// Reads a text of allowed length symbol by symbol; each item goes into the next row of the slice.
-fn read_symbols(text: &[u8], next: &[u8], acts: &[u8], items: &mut [u32]) -> Reading
+// Reads a text of allowed length symbol by symbol; each item goes into the next place of the slice.
+fn read_symbols(text: &[u8], next: &[u8], acts: &[u8], items: &mut [Item]) -> Reading
     requires text_len_bound { length text.now ≤ most_bytes }
     requires moves { Moves next.now acts.now }
-    requires len { length items.old ≡ item_slots }
+    requires len { length items.old ≡ most_items }
     ensures { (result ≡ answered (read_items text.now)) × (items.new ≡ holding (read_items text.now).items items.old) }
 {
     let mut s = begin();
@@ -144,7 +144,7 @@ fn read_symbols(text: &[u8], next: &[u8], acts: &[u8], items: &mut [u32]) -> Rea
             Outcome::Refuse { number, place } => return answer(count, number, place),
             Outcome::Go(more) => s = more,
             Outcome::Give(more, item) => {
-                items::store_item(items, count, item);
+                items[count] = item;
                 count += 1;
                 s = more;
             }
@@ -153,9 +153,9 @@ fn read_symbols(text: &[u8], next: &[u8], acts: &[u8], items: &mut [u32]) -> Rea
     answer(count, status::DONE, 0)
 }
 
-// The items of a text go into the first rows of the slice.
-pub fn read_items(text: &[u8], items: &mut [u32]) -> Reading
-    requires { length items.old ≡ item_slots }
+// The items of a text go into the first places of the slice.
+pub fn read_items(text: &[u8], items: &mut [Item]) -> Reading
+    requires { length items.old ≡ most_items }
     ensures { (result ≡ answered (read_items text.now)) × (items.new ≡ holding (read_items text.now).items items.old) }
 {
     if MOST_BYTES < text.len() {

@@ -1,7 +1,7 @@
 -- The invariant: the slice holds the items so far, and what is left to read gives the rest; or the text is complete.
 -- The measure is what is left of the text.
 -- Assumes nothing.
-use mathlib.Core.Path.{◌∙◌, sym}
+use mathlib.Core.Path.{refl, ◌∙◌, sym}
 use native.Mathlib.Omega.{arith}
 use Rattle.grammar.proofs.Turns.{walks_first, enough_room, fits, walk_unruled, walk_refused, walks_on, walks_with}
 use Rattle.grammar.proofs.reading.read_symbols.Goals as goal
@@ -44,11 +44,11 @@ overflow_add-count c = omega (arith, (enough_room c.loop-node.invariant c.loop-n
 
 pub loop-node-smaller : goal.loop-node-smaller
 loop-node-smaller c =
-    (walks_with c.loop-node.invariant c.loop-node-test.true c.find_symbol-symbol.ensures c.terminal_of-terminal.ensures c.span_of-x.ensures (sym c.in-Some.is ∙ c.move_at.ensures) c.act.ensures c.in-Give.is c.store_item.ensures).0
+    (walks_with c.loop-node.invariant c.loop-node-test.true c.find_symbol-symbol.ensures c.terminal_of-terminal.ensures c.span_of-x.ensures (sym c.in-Some.is ∙ c.move_at.ensures) c.act.ensures c.in-Give.is refl).0
 
 pub loop-node-preserved : goal.loop-node-preserved
 loop-node-preserved c =
-    (walks_with c.loop-node.invariant c.loop-node-test.true c.find_symbol-symbol.ensures c.terminal_of-terminal.ensures c.span_of-x.ensures (sym c.in-Some.is ∙ c.move_at.ensures) c.act.ensures c.in-Give.is c.store_item.ensures).1
+    (walks_with c.loop-node.invariant c.loop-node-test.true c.find_symbol-symbol.ensures c.terminal_of-terminal.ensures c.span_of-x.ensures (sym c.in-Some.is ∙ c.move_at.ensures) c.act.ensures c.in-Give.is refl).1
 
 pub shape_of-items : goal.shape_of-items
 shape_of-items c = c.loop-node.invariant.same_size
