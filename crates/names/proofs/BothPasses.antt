@@ -8,7 +8,6 @@ use lib.ListN.{length, take}
 use lib.Seq.{take-length}
 use Rattle.status.specs.Status.{name_twice}
 use Rattle.grammar.specs.declared.Item.{Item}
-use Rattle.grammar.specs.Items.{holding}
 use Rattle.names.specs.declared.Naming.{Naming}
 use Rattle.names.specs.Names.{declared, Repeat, no_repeat, repeat_at, twice_from, resolved, unless_missing, meanings}
 use Rattle.names.specs.Inner.{named_of, packed, Kept, begun_with, rewritten, left_items, number_if, place_if, Declarable, most_declarations, FirstPass, SecondPass, BothPasses}
@@ -62,40 +61,40 @@ module _ (text : List ℕ) (is : List Item) where
         kept_now text (declared is) names r.declarations within first_kept
         (distinct_once text [] (declared is) r.declarations (omega (arith, first.count)))
 
-  module _ (items names starts : List ℕ) where
-    pub both_stop : items ≡ holding is items → {r : Naming} {names' starts' : List ℕ} → FirstPass text is names starts r names' starts' → (r.number ≡ 0 → ⊥)
-        → BothPasses text is items names starts r items names' starts'
-    both_stop held {r} {names'} {starts'} first n = go _ refl
+  module _ (names starts : List ℕ) where
+    pub both_stop : {r : Naming} {names' starts' : List ℕ} → FirstPass text is names starts r names' starts' → (r.number ≡ 0 → ⊥)
+        → BothPasses text is names starts r is names' starts'
+    both_stop {r} {names'} {starts'} first n = go _ refl
       where
         go : (f : Repeat) → twice_from text [] (declared is) ≡ f
-            → BothPasses text is items names starts r items names' starts'
+            → BothPasses text is names starts r is names' starts'
         go no_repeat t = absurd (n (first.number ∙ ap (number_if name_twice) t))
         go (repeat_at p) t =
             record {
               number = first.number ∙ ap (number_if name_twice) t ∙ sym (twice_number t);
               place = first.place ∙ ap place_if t ∙ sym (twice_place t);
               count = first.count;
-              left = held ∙ ap (λ xs. holding xs items) (sym (twice_left t));
+              left = sym (twice_left t);
               kept = first.kept;
               begun = first.begun;
             }
 
     pub both_done : {r : Naming} {names' starts' : List ℕ} → FirstPass text is names starts r names' starts' → r.number ≡ 0
-        → {q : Naming} {items' : List ℕ} → SecondPass text (named_of (take r.declarations names')) is items q items'
-        → BothPasses text is items names starts q items' names' starts'
-    both_done {r} {names'} first z {q} {items'} second =
+        → {q : Naming} {is' : List Item} → SecondPass text (named_of (take r.declarations names')) is q is'
+        → BothPasses text is names starts q is' names' starts'
+    both_done {r} {names'} first z {q} {is'} second =
         let ds = declared is in
         let t = told r.number first.number z in
         let a = distinct_all text [] ds t in
         let n = first.count ∙ a in
         let d : named_of (take r.declarations names') ≡ ds =
         kept_names text ds names r.declarations (omega arith) (first_kept first) ∙ ap (λ m. take m ds) n ∙ take-length ds in
-        let s : SecondPass text ds is items q items' = subst (λ es. SecondPass text es is items q items') d second in
+        let s : SecondPass text ds is q is' = subst (λ es. SecondPass text es is q is') d second in
         record {
           number = s.number ∙ ap (λ m. m.number) (sym (once t));
           place = s.place ∙ ap (λ m. m.place) (sym (once t));
           count = s.count ∙ sym a;
-          left = s.left ∙ ap (λ xs. holding xs items) (sym (once_left t));
+          left = s.left ∙ sym (once_left t);
           kept = first.kept;
           begun = first.begun;
         }

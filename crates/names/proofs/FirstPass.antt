@@ -5,8 +5,6 @@ use mathlib.Core.Path.{◌≡◌, refl, sym, ◌∙◌, ap, subst}
 use mathlib.Core.List.{List, [], ◌∷◌, ◌++◌, map}
 use native.Mathlib.Numerals.{add-one}
 use native.Mathlib.Omega.{arith}
-use types.Run.{OneOf, miss}
-use denote.Enum.Declared.{tag_of}
 use lib.ListN.{length, get_or, take, drop, set, length-set, drop_of_length-le}
 use Rattle.status.specs.Status.{done, name_twice}
 use Rattle.symbols.specs.Names.{name_at}
@@ -17,7 +15,6 @@ use Rattle.grammar.specs.declared.Item.{Item}
 use Rattle.grammar.specs.Reading.{most_bytes}
 use Rattle.names.specs.declared.Role.{Role}
 use Rattle.names.specs.declared.Role.TheVariants as role
-use Rattle.names.specs.contracts.Role as roles
 use Rattle.names.specs.Parts.{Part, declares, gives, uses, says, part}
 use Rattle.names.specs.Names.{Named, named_by, declared, bearer_of, no_repeat, repeat_at, twice_from}
 use Rattle.names.specs.Inner.{role_of, packed, named_of, Kept, beginning_by, beginnings_from, beginnings, distinct_from, begun_with, InText, FirstPass}
@@ -37,9 +34,9 @@ role_declares (says m) e = let z : ◌≡◌ {A = ℕ} 0 1 = cc in absurd (omega
 NoName : Part → Type 0
 NoName q = ((ds : List Named) → named_by q ds ≡ ds) × ((i : ℕ) (xs : List ℕ) → beginning_by i q xs ≡ xs)
 
-role_other : (q : Part) → OneOf (0 ∷ 2 ∷ []) (tag_of roles.the_type (role_of q)) → NoName q
+role_other : (q : Part) → ((k : Kind) (p : ℕ) → role_of q ≡ role.Declares k p → ⊥) → NoName q
 unfolding NoName
-role_other (declares k p) h = absurd (miss (0 ∷ 2 ∷ []) 1 tt h)
+role_other (declares k p) h = absurd (h k p refl)
 role_other (gives g a b) h = (λ ds. refl, λ i xs. refl)
 role_other (uses u a p) h = (λ ds. refl, λ i xs. refl)
 role_other (says m) h = (λ ds. refl, λ i xs. refl)
@@ -155,10 +152,10 @@ module _ (text : List ℕ) (is : List Item) (names₀ starts₀ : List ℕ) wher
       after = drop (i + 1) is
 
       -- it declares nothing
-      pub passed_on : OneOf (0 ∷ 2 ∷ []) (tag_of roles.the_type r) → Passed l m n (i + 1)
+      pub passed_on : ((k : Kind) (q : ℕ) → r ≡ role.Declares k q → ⊥) → Passed l m n (i + 1)
       unfolding declared beginnings_from NoName
       passed_on o =
-          let w = role_other (part (get_or is i none)) (rw e at o) in
+          let w = role_other (part (get_or is i none)) (λ k q g. o k q (e ∙ g)) in
           let s : declared (drop i is) ≡ declared after = ap declared (here is i none h) ∙ w.0 (declared after) in
           let b : beginnings_from i (drop i is) ≡ beginnings_from (i + 1) after =
           ap (beginnings_from i) (here is i none h) ∙ w.1 i (beginnings_from (suc i) after) ∙ ap (λ j. beginnings_from j after) (sym (add-one i)) in

@@ -2,8 +2,6 @@ pub mod Searching
 pub mod Lists
 pub mod Marks
 pub mod Chains
-pub mod Held
-pub mod Between
 pub mod FirstPass
 pub mod SecondPass
 pub mod BothPasses

@@ -5,8 +5,6 @@ use Prim.Native.Nat.{ℕ, suc, ◌+◌, ◌*◌, ◌≤◌, ◌<◌}
 use mathlib.Core.Path.{◌≡◌, refl, sym, ◌∙◌, ap, subst}
 use mathlib.Core.List.{List, [], ◌∷◌, ◌++◌}
 use native.Mathlib.Omega.{arith}
-use types.Run.{OneOf, miss}
-use denote.Enum.Declared.{tag_of}
 use lib.ListN.{length, get_or, take, drop, set, length-set, drop_of_length-le, take-append-drop}
 use Rattle.status.specs.Status.{done, name_not_declared}
 use Rattle.symbols.specs.Names.{name_at}
@@ -14,12 +12,10 @@ use Rattle.names.specs.declared.Bearer.{Bearer}
 use Rattle.names.specs.declared.Bearer.TheVariants.{Nothing, Row}
 use Rattle.grammar.specs.declared.Item.{Item}
 use Rattle.grammar.specs.declared.Item.TheVariants as item
-use Rattle.grammar.specs.Items.{code, value, place, row_size, holding, item_at}
-use Rattle.grammar.proofs.Rows.{item_in, place_changed}
+use Rattle.grammar.specs.Items.{with_place}
 use Rattle.names.specs.declared.Role.{Role}
 use Rattle.names.specs.declared.Role.TheVariants as role
 use Rattle.names.specs.declared.Scope.{Scope}
-use Rattle.names.specs.contracts.Role as roles
 use Rattle.names.specs.Parts.{Part, declares, gives, uses, says, part, Use, add, subtract, base, position, start, order, trigger}
 use Rattle.names.specs.Names.{Named, called_in, meant, numbered, Resolved, all, missing, and_then, if_found, resolved_by, resolved, unless_missing}
 use Rattle.names.specs.Inner.{scope, role_of, kinds_in, begun_with, if_called, rewritten_by, rewritten, SecondPass}
@@ -58,11 +54,11 @@ module _ (text : List ℕ) (ds : List Named) where
       ((i : Item) (is rest : List Item) → rewritten_by text ds q i is rest ≡ i ∷ rest)
       × ((i : Item) (rest : Resolved) → resolved_by text ds i q rest ≡ and_then i rest)
 
-  role_stays : (q : Part) → OneOf (0 ∷ 1 ∷ []) (tag_of roles.the_type (role_of q)) → Stays q
+  role_stays : (q : Part) → ((s : Scope) (p : ℕ) → role_of q ≡ role.Uses s p → ⊥) → Stays q
   unfolding Stays
   role_stays (declares k p) h = (λ i is rest. refl, λ i rest. refl)
   role_stays (gives g a b) h = (λ i is rest. refl, λ i rest. refl)
-  role_stays (uses u a p) h = absurd (miss (0 ∷ 1 ∷ []) 2 tt h)
+  role_stays (uses u a p) h = absurd (h (scope u) p refl)
   role_stays (says m) h = (λ i is rest. refl, λ i rest. refl)
 
 -- ---- an item that uses a name, and the same with a number in its place
@@ -105,20 +101,15 @@ pub numbered_part : (x : Item) {u : Use} {a p : ℕ} → part x ≡ uses u a p �
 unfolding Rebuilt
 numbered_part x e = subst (λ q. Rebuilt q x) e (rebuilt x)
 
--- only the place differs
-record Replaced (j x : Item) (n : ℕ) : Type 0 where
-  code_same : code j ≡ code x
-  value_same : value j ≡ value x
-  place_new : place j ≡ n
-
-replaced : (u : Use) (a n p : ℕ) → Replaced (numbered u a n) (numbered u a p) n
-replaced add a n p = record { code_same = refl; value_same = refl; place_new = refl }
-replaced subtract a n p = record { code_same = refl; value_same = refl; place_new = refl }
-replaced base a n p = record { code_same = refl; value_same = refl; place_new = refl }
-replaced position a n p = record { code_same = refl; value_same = refl; place_new = refl }
-replaced start a n p = record { code_same = refl; value_same = refl; place_new = refl }
-replaced order a n p = record { code_same = refl; value_same = refl; place_new = refl }
-replaced trigger a n p = record { code_same = refl; value_same = refl; place_new = refl }
+-- another place in it
+replaced : (u : Use) (a n p : ℕ) → with_place (numbered u a p) n ≡ numbered u a n
+replaced add a n p = refl
+replaced subtract a n p = refl
+replaced base a n p = refl
+replaced position a n p = refl
+replaced start a n p = refl
+replaced order a n p = refl
+replaced trigger a n p = refl
 
 -- ---- the place of the first name that is not declared
 
@@ -159,21 +150,21 @@ length_rewritten text ds (i ∷ is) = by (part i) (length_rewritten text ds is)
     by (uses u a p) e = called u a (called_in text ds (meant u) (name_at text p)) e
     by (says m) e = ap suc e
 
-module _ (text : List ℕ) (ds : List Named) (is : List Item) (items₀ : List ℕ) where
+module _ (text : List ℕ) (ds : List Named) (is : List Item) where
   -- before the i-th item, the slice is l
-  pub record Replacing (l : List ℕ) (i : ℕ) : Type 0 where
+  pub record Replacing (l : List Item) (i : ℕ) : Type 0 where
     pub within : i ≤ length is
-    pub held : l ≡ holding (begun_with i (rewritten text ds is) is) items₀
-    pub room : length l ≡ length items₀
+    pub held : l ≡ begun_with i (rewritten text ds is) is
+    pub room : length l ≡ length is
     pub rest : drop i (rewritten text ds is) ≡ rewritten text ds (drop i is)
     pub missed : missing_in (resolved text ds (drop i is)) ≡ missing_in (resolved text ds is)
 
-  pub replacing_none : items₀ ≡ holding is items₀ → Replacing items₀ 0
-  replacing_none h = record { within = omega arith; held = h; room = refl; rest = refl; missed = refl }
+  pub replacing_none : Replacing is 0
+  replacing_none = record { within = omega arith; held = refl; room = refl; rest = refl; missed = refl }
 
-  module _ {l : List ℕ} {i : ℕ} (p : Replacing l i) where
+  module _ {l : List Item} {i : ℕ} (p : Replacing l i) where
     -- the pass ends
-    pub replacing_all : {n : ℕ} → n ≡ length ds → length is ≤ i → SecondPass text ds is items₀ (record { number = done; place = 0; declarations = n }) l
+    pub replacing_all : {n : ℕ} → n ≡ length ds → length is ≤ i → SecondPass text ds is (record { number = done; place = 0; declarations = n }) l
     unfolding missing_in resolved
     replacing_all c h =
         let e = length_rewritten text ds is in
@@ -182,7 +173,7 @@ module _ (text : List ℕ) (ds : List Named) (is : List Item) (items₀ : List �
           number = w.0;
           place = w.1;
           count = c;
-          left = p.held ∙ ap (λ xs. holding xs items₀) (begun_all (rewritten text ds is) is i (omega arith) h);
+          left = p.held ∙ begun_all (rewritten text ds is) is i (omega arith) h;
         }
 
     -- the item that stands here has the role r
@@ -190,10 +181,9 @@ module _ (text : List ℕ) (ds : List Named) (is : List Item) (items₀ : List �
       short : i ≤ length (rewritten text ds is)
       short = omega (arith, length_rewritten text ds is)
 
-      pub item_here : item_at l i ≡ get_or is i None
+      pub item_here : get_or l i None ≡ get_or is i None
       item_here =
-          ap (λ t. item_at t i) p.held
-          ∙ item_in (begun_with i (rewritten text ds is) is) items₀ i None (omega (arith, begun_length (rewritten text ds is) is i short p.within))
+          ap (λ t. get_or t i None) p.held
           ∙ begun_at (rewritten text ds is) is i None short h
 
       module _ {r : Role} (e : r ≡ role_of (part (get_or is i None))) where
@@ -201,11 +191,11 @@ module _ (text : List ℕ) (ds : List Named) (is : List Item) (items₀ : List �
         after = drop (i + 1) is
 
         -- it uses no name
-        pub replacing_on : OneOf (0 ∷ 1 ∷ []) (tag_of roles.the_type r) → Replacing l (i + 1)
+        pub replacing_on : ((s : Scope) (q : ℕ) → r ≡ role.Uses s q → ⊥) → Replacing l (i + 1)
         unfolding rewritten resolved Stays
         replacing_on o =
             let x = get_or is i None in
-            let w = role_stays text ds (part x) (rw e at o) in
+            let w = role_stays text ds (part x) (λ s q g. o s q (e ∙ g)) in
             let y : drop i (rewritten text ds is) ≡ x ∷ rewritten text ds after =
             p.rest ∙ ap (rewritten text ds) (here is i None h) ∙ w.0 x after (rewritten text ds after) in
             let m : missing_in (resolved text ds (drop i is)) ≡ missing_in (resolved text ds after) =
@@ -213,7 +203,7 @@ module _ (text : List ℕ) (ds : List Named) (is : List Item) (items₀ : List �
             ∙ ap missing_in (w.1 x (resolved text ds after)) ∙ missing_after x (resolved text ds after) in
             record {
               within = omega arith;
-              held = p.held ∙ ap (λ xs. holding xs items₀) (begun_same (rewritten text ds is) is i y h (head_at is i (here is i None h) x));
+              held = p.held ∙ begun_same (rewritten text ds is) is i y h (head_at is i (here is i None h) x);
               room = p.room;
               rest = head_rest (rewritten text ds is) i y;
               missed = sym m ∙ p.missed;
@@ -244,7 +234,7 @@ module _ (text : List ℕ) (ds : List Named) (is : List Item) (items₀ : List �
 
           -- which is not declared
           pub replacing_stop : {n : ℕ} → n ≡ length ds → f ≡ Nothing
-              → SecondPass text ds is items₀ (record { number = name_not_declared; place = q; declarations = n }) l
+              → SecondPass text ds is (record { number = name_not_declared; place = q; declarations = n }) l
           unfolding missing_in
           replacing_stop c z =
               let y : drop i (rewritten text ds is) ≡ drop i is =
@@ -258,11 +248,11 @@ module _ (text : List ℕ) (ds : List Named) (is : List Item) (items₀ : List �
                 number = w.0;
                 place = w.1;
                 count = c;
-                left = p.held ∙ ap (λ xs. holding xs items₀) (ap (λ t. take i (rewritten text ds is) ++ t) (sym y) ∙ take-append-drop i (rewritten text ds is));
+                left = p.held ∙ ap (λ t. take i (rewritten text ds is) ++ t) (sym y) ∙ take-append-drop i (rewritten text ds is);
               }
 
           -- whose declaration has the number k
-          pub replacing_more : {k : ℕ} {l' : List ℕ} → f ≡ Row k → l' ≡ set l (row_size * i + 2) k → Replacing l' (i + 1)
+          pub replacing_more : {k : ℕ} {l' : List Item} → f ≡ Row k → l' ≡ set l i (with_place (get_or is i None) k) → Replacing l' (i + 1)
           replacing_more {k} z stored =
               let x = get_or is i None in
               let u = the_use.use' in
@@ -273,20 +263,11 @@ module _ (text : List ℕ) (ds : List Named) (is : List Item) (items₀ : List �
               let m : missing_in (resolved text ds (drop i is)) ≡ missing_in (resolved text ds after) =
               ap missing_in (resolved_here ∙ ap (λ b. if_found u a q b (resolved text ds after)) z)
               ∙ missing_after (numbered u a k) (resolved text ds after) in
-              let t = begun_at new is i None short h in
-              let w = replaced u a k q in
-              let v : numbered u a q ≡ get_or (begun_with i new is) i None = numbered_part x the_use.is ∙ sym t in
-              let n : i < length (begun_with i new is) = omega (arith, begun_length new is i short p.within) in
-              let b : set (holding (begun_with i new is) items₀) (row_size * i + 2) (place (numbered u a k)) ≡ holding (set (begun_with i new is) i (numbered u a k)) items₀ =
-              place_changed (begun_with i new is) items₀ i None (numbered u a k) n (w.code_same ∙ ap code v) (w.value_same ∙ ap value v) in
+              let w : with_place x k ≡ numbered u a k =
+              ap (λ j. with_place j k) (sym (numbered_part x the_use.is)) ∙ replaced u a k q in
               record {
                 within = omega arith;
-                held =
-                    stored
-                    ∙ ap (λ t. set t (row_size * i + 2) k) p.held
-                    ∙ ap (λ j. set (holding (begun_with i new is) items₀) (row_size * i + 2) j) (sym w.place_new)
-                    ∙ b
-                    ∙ ap (λ xs. holding xs items₀) (begun_set new is i y h);
+                held = stored ∙ ap (set l i) w ∙ ap (λ t. set t i (numbered u a k)) p.held ∙ begun_set new is i y h;
                 room = ap length stored ∙ simp length-set p.room;
                 rest = head_rest new i y;
                 missed = sym m ∙ p.missed;

@@ -8,7 +8,6 @@ use Rattle.grammar.specs.declared.Kind.TheVariants.{Order as AnOrder}
 use Rattle.grammar.specs.declared.Item.{Item}
 use Rattle.grammar.specs.Moves.{kinds, kind_number}
 pub use Rattle.limits.specs.Limits.{most_bytes, most_declarations}
-use Rattle.grammar.specs.Items.{item_at, row_size, holding, item_slots}
 use Rattle.status.specs.Status.{done, name_twice}
 use Rattle.names.specs.declared.Naming.{Naming}
 use Rattle.names.specs.declared.Role.{Role}
@@ -157,20 +156,6 @@ left_items text is = unless_twice_rewritten (twice_from text [] (declared is)) i
 
 -- ---- what the passes are lent
 
--- the first n items of a slice
-unfoldable pub items_in : ℕ → List ℕ → List Item
-items_in zero l = []
-items_in (suc n) l = item_at l 0 ∷ items_in n (drop row_size l)
-
--- those from one place to another
-abbrev pub items_between : List ℕ → ℕ → ℕ → List Item
-items_between items from to = drop from (items_in to items)
-
--- a slice for the items of the longest text begins with the rows of these items
-pub record Held (is : List Item) (items : List ℕ) : Type 0 where
-  pub rows : items ≡ holding is items
-  pub size : length items ≡ item_slots
-
 -- chains of the declarations l: where that of each bucket begins, and where it goes on from each row
 pub record Chained (l heads links : List ℕ) : Type 0 where
   pub heads_size : length heads ≡ buckets
@@ -213,18 +198,18 @@ pub record FirstPass (text : List ℕ) (is : List Item) (names starts : List ℕ
   pub kept : names' ≡ begun_with (distinct text is) (map (packed text) (declared is)) names
   pub begun : starts' ≡ begun_with (distinct text is) (beginnings is) starts
 
--- the second pass: names that are not declared; `items` before and after it
-pub record SecondPass (text : List ℕ) (ds : List Named) (is : List Item) (items : List ℕ) (r : Naming) (items' : List ℕ) : Type 0 where
+-- the second pass: names that are not declared; the items before and after it
+pub record SecondPass (text : List ℕ) (ds : List Named) (is : List Item) (r : Naming) (is' : List Item) : Type 0 where
   pub number : r.number ≡ (unless_missing (resolved text ds is)).number
   pub place : r.place ≡ (unless_missing (resolved text ds is)).place
   pub count : r.declarations ≡ length ds
-  pub left : items' ≡ holding (rewritten text ds is) items
+  pub left : is' ≡ rewritten text ds is
 
 -- both passes
-pub record BothPasses (text : List ℕ) (is : List Item) (items names starts : List ℕ) (r : Naming) (items' names' starts' : List ℕ) : Type 0 where
+pub record BothPasses (text : List ℕ) (is : List Item) (names starts : List ℕ) (r : Naming) (is' : List Item) (names' starts' : List ℕ) : Type 0 where
   pub number : r.number ≡ (meanings text is).number
   pub place : r.place ≡ (meanings text is).place
   pub count : r.declarations ≡ distinct text is
-  pub left : items' ≡ holding (left_items text is) items
+  pub left : is' ≡ left_items text is
   pub kept : names' ≡ begun_with (distinct text is) (map (packed text) (declared is)) names
   pub begun : starts' ≡ begun_with (distinct text is) (beginnings is) starts

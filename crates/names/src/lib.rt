@@ -1,16 +1,17 @@
 // Names: each use of a name is replaced by the number of its declaration.
 #![tactic(auto)]
 
-ghost use Rattle.std.specs.Prelude.{◌≡◌, ◌&&◌, List, [], ◌+◌, ◌%◌, ◌≤◌, ◌<◌, length, take, eqb};
+ghost use Rattle.std.specs.Prelude.{◌≡◌, ◌&&◌, [], ◌+◌, ◌%◌, ◌≤◌, ◌<◌, length, take, eqb};
 ghost use Rattle.symbols.specs.Bytes.{same};
 ghost use Rattle.symbols.specs.Names.{name_at};
 ghost use Rattle.grammar.specs.Moves.{kind_number};
 ghost use Rattle.grammar.specs.Reading.{most_bytes};
+ghost use Rattle.grammar.specs.Items.{most_items};
 ghost use Rattle.names.specs.Parts.{part};
 ghost use Rattle.names.specs.Names.{bearer_of, called_in};
-ghost use Rattle.names.specs.Inner.{role_of, tag_of, mark_of, mark_room, packed, unpacked, named_of, Kept, Chained, kinds_in, items_in, Held, Declarable, Room, FirstPass, SecondPass, BothPasses, most_declarations};
+ghost use Rattle.names.specs.Inner.{role_of, tag_of, mark_of, mark_room, packed, unpacked, named_of, Kept, Chained, kinds_in, Declarable, Room, FirstPass, SecondPass, BothPasses, most_declarations};
 
-use grammar::{Item, Kind, items};
+use grammar::{Item, Kind};
 use limits::MOST_DECLARATIONS;
 use status::{DONE, NAME_NOT_DECLARED, NAME_TWICE};
 use symbols::{bytes, spelling};
@@ -224,25 +225,22 @@ fn chain_row(declared: &[u32], n: usize, heads: &mut [u16], links: &mut [u16])
 // Keeps each declared name, in its chain, and the index of its item, up to the first that stood before in its kind.
 fn declare_all(
     text: &[u8],
-    items: &[u32],
-    count: usize,
+    items: &[Item],
     declared: &mut [u32],
     starts: &mut [u32],
     heads: &mut [u16],
     links: &mut [u16],
 ) -> Naming
-    ghost is: { List Item }
-    requires value { items_in count items.now ≡ is }
-    requires held { Held is items.now }
-    requires declarable { Declarable is }
+    requires fits { length items.now ≤ most_items }
+    requires declarable { Declarable items.now }
     requires room { Room declared.old starts.old }
     requires chained { Chained [] heads.old links.old }
-    ensures first_pass { FirstPass text.now is declared.old starts.old result declared.new starts.new }
+    ensures first_pass { FirstPass text.now items.now declared.old starts.old result declared.new starts.new }
     ensures chained_2 { Chained (take result.declarations declared.new) heads.new links.new }
 {
     let mut n = 0;
-    for i in 0..count {
-        let Role::Declares(kind, place) = role_of(items::item_at(items, i)) else {
+    for i in 0..items.len() {
+        let Role::Declares(kind, place) = role_of(items[i]) else {
             continue;
         };
         let found = find_declaration(text, &declared[..n], heads, links, kind, place as usize);
@@ -268,21 +266,17 @@ fn declare_all(
 // Replaces the place of each used name by the number of its declaration, up to the first that is not declared.
 fn resolve_uses(
     text: &[u8],
-    items: &mut [u32],
-    count: usize,
+    items: &mut [Item],
     declared: &[u32],
     heads: &[u16],
     links: &[u16],
 ) -> Naming
-    ghost is: { List Item }
-    requires value { items_in count items.old ≡ is }
-    requires held { Held is items.old }
     requires kept { Kept text.now declared.now }
     requires chained { Chained declared.now heads.now links.now }
-    ensures { SecondPass text.now (named_of declared.now) is items.old result items.new }
+    ensures { SecondPass text.now (named_of declared.now) items.old result items.new }
 {
-    for i in 0..count {
-        let Role::Uses(scope, place) = role_of(items::item_at(items, i)) else {
+    for i in 0..items.len() {
+        let Role::Uses(scope, place) = role_of(items[i]) else {
             continue;
         };
         let Bearer::Row(number) = find_meaning(text, declared, heads, links, scope, place as usize)
@@ -293,7 +287,7 @@ fn resolve_uses(
                 declarations: declared.len(),
             };
         };
-        items::set_place(items, i, number as u32);
+        items[i] = items[i].with_place(number as u32);
     }
     Naming {
         number: DONE,
@@ -305,24 +299,21 @@ fn resolve_uses(
 // Keeps the declared names and the indexes of their items, and replaces each used name by the number of its declaration.
 pub fn resolve_names(
     text: &[u8],
-    items: &mut [u32],
-    count: usize,
+    items: &mut [Item],
     declared: &mut [u32],
     starts: &mut [u32],
 ) -> Naming
-    ghost is: { List Item }
-    requires value { items_in count items.old ≡ is }
-    requires held { Held is items.old }
-    requires declarable { Declarable is }
+    requires fits { length items.old ≤ most_items }
+    requires declarable { Declarable items.old }
     requires room { Room declared.old starts.old }
-    ensures { BothPasses text.now is items.old declared.old starts.old result items.new declared.new starts.new }
+    ensures { BothPasses text.now items.old declared.old starts.old result items.new declared.new starts.new }
 {
     let mut heads = [0u16; BUCKETS];
     let mut links = [0u16; DECLARATIONS];
-    let first = declare_all(text, items, count, declared, starts, &mut heads, &mut links);
+    let first = declare_all(text, items, declared, starts, &mut heads, &mut links);
     if first.number != DONE {
         return first;
     }
     let n = first.declarations;
-    resolve_uses(text, items, count, &declared[..n], &heads, &links)
+    resolve_uses(text, items, &declared[..n], &heads, &links)
 }

@@ -4,28 +4,16 @@ use mathlib.Core.Path.{◌≡◌, ◌∙◌, ap}
 use mathlib.Core.List.{List}
 use native.Mathlib.Nat.{le_refl}
 use native.Mathlib.Omega.{arith}
-use borrow.Enum.Refused.{opened}
 use lib.ListN.{length, get_or, length-set}
 use lib.Seq.{take-set-le}
 use Rattle.grammar.specs.declared.Kind.{Kind}
 use Rattle.grammar.specs.declared.Item.{Item}
-use Rattle.grammar.specs.declared.Item.TheVariants.{MutedPosition}
-use Rattle.grammar.specs.Items.{item_at}
 use Rattle.names.specs.declared.Role.{Role}
 use Rattle.names.specs.declared.Role.TheVariants.{Declares}
 use Rattle.names.specs.Parts.{part}
-use Rattle.names.specs.Inner.{items_in, role_of, most_declarations, Held, Declarable, Room}
-use Rattle.names.proofs.Held.{length_items_in, held_item, held_few}
+use Rattle.names.specs.Inner.{role_of, most_declarations, Declarable, Room}
 use Rattle.names.proofs.FirstPass.{Passed, passed_none, passed_kept, passed_all, passed_on, place_near, one_more_holds, passed_stop, passed_more}
 use Rattle.names.proofs.declare_all.Goals as goal
-
--- the present item
-inside : (count : ℕ) (items : List ℕ) {is : List Item} {i : ℕ} → items_in count items ≡ is → i < count → i < length is
-inside count items e h = rw (← e, length_items_in) h
-
-role_here : (is : List Item) (items : List ℕ) {i : ℕ} → Held is items → i < length is → {x : Item} → x ≡ item_at items i → {r : Role} → r ≡ role_of (part x)
-    → r ≡ role_of (part (get_or is i MutedPosition))
-role_here is items {i} held h e q = q ∙ ap (λ y. role_of (part y)) (e ∙ held_item is items i MutedPosition held h)
 
 -- room for one declaration more
 record Here (l m : List ℕ) (n : ℕ) : Type 0 where
@@ -34,69 +22,53 @@ record Here (l m : List ℕ) (n : ℕ) : Type 0 where
   in_starts : n < length m
 
 room_here : {text : List ℕ} {is : List Item} {names₀ starts₀ l m : List ℕ} {n i : ℕ} → Declarable is → Room names₀ starts₀ → Passed text is names₀ starts₀ l m n i → i < length is
-    → {r : Role} → r ≡ role_of (part (get_or is i MutedPosition)) → {k : Kind} {q : ℕ} → r ≡ Declares k q → Here l m n
-room_here {n = n} d room p h e g =
-    let f : n < most_declarations = omega (arith, d.few, one_more_holds _ _ _ _ p h MutedPosition e g) in
+    → (none : Item) {r : Role} → r ≡ role_of (part (get_or is i none)) → {k : Kind} {q : ℕ} → r ≡ Declares k q → Here l m n
+room_here {n = n} d room p h none e g =
+    let f : n < most_declarations = omega (arith, d.few, one_more_holds _ _ _ _ p h none e g) in
     record { few = f; in_names = omega (arith, p.room, room.names); in_starts = omega (arith, p.space, room.starts) }
 
 pub loop-i-init : goal.loop-i-init
-loop-i-init g c =
-    (passed_none _ _ _ _ c.requires.1.1.0.in_text, c.requires.1.1.1.1)
+loop-i-init c =
+    (passed_none _ _ _ _ c.requires.declarable.in_text, c.requires.chained)
 
 pub loop-i-preserved-in_default : goal.loop-i-preserved-in_default
-loop-i-preserved-in_default g c =
-    let h = inside _ _ c.requires.0 c.loop-i-test.true in
-    let e = role_here _ _ c.requires.1.0 h c.item_at.ensures c.role_of.ensures in
-    (passed_on _ _ _ _ c.loop-i.invariant.0 h MutedPosition e (opened c.in_default.in_default-own.keys2), c.loop-i.invariant.1)
+loop-i-preserved-in_default c =
+    (passed_on _ _ _ _ c.loop-i.invariant.0 c.loop-i-test.true _ c.role_of.ensures c.in_default.not-Declares, c.loop-i.invariant.1)
 
 pub slice_bounds-find_declaration-end : goal.slice_bounds-find_declaration-end
-slice_bounds-find_declaration-end g c =
-    let h = inside _ _ c.requires.0 c.loop-i-test.true in
-    let e = role_here _ _ c.requires.1.0 h c.item_at.ensures c.role_of.ensures in
-    let r = room_here c.requires.1.1.0 c.requires.1.1.1.0 c.loop-i.invariant.0 h e c.in-Declares.is in
+slice_bounds-find_declaration-end c =
+    let r = room_here c.requires.declarable c.requires.room c.loop-i.invariant.0 c.loop-i-test.true _ c.role_of.ensures c.in-Declares.is in
     omega (arith, r.in_names)
 
 pub find_declaration-found-requires : goal.find_declaration-found-requires
-find_declaration-found-requires g c =
+find_declaration-found-requires c =
     record { kept = passed_kept _ _ _ _ c.loop-i.invariant.0; chained = c.loop-i.invariant.1 }
 
 pub returns-in-Row : goal.returns-in-Row
-returns-in-Row g c =
-    let h = inside _ _ c.requires.0 c.loop-i-test.true in
-    let e = role_here _ _ c.requires.1.0 h c.item_at.ensures c.role_of.ensures in
-    record { first_pass = passed_stop _ _ _ _ c.loop-i.invariant.0 h MutedPosition e c.in-Declares.is c.find_declaration-found.ensures c.in-Row.is; chained_2 = c.loop-i.invariant.1 }
+returns-in-Row c =
+    record { first_pass = passed_stop _ _ _ _ c.loop-i.invariant.0 c.loop-i-test.true _ c.role_of.ensures c.in-Declares.is c.find_declaration-found.ensures c.in-Row.is; chained_2 = c.loop-i.invariant.1 }
 
 pub pack-requires : goal.pack-requires
-pack-requires g c =
-    let h = inside _ _ c.requires.0 c.loop-i-test.true in
-    let e = role_here _ _ c.requires.1.0 h c.item_at.ensures c.role_of.ensures in
-    place_near _ _ _ _ c.loop-i.invariant.0 h MutedPosition e c.in-Declares.is
+pack-requires c =
+    place_near _ _ _ _ c.loop-i.invariant.0 c.loop-i-test.true _ c.role_of.ensures c.in-Declares.is
 
 pub bounds-declared-n : goal.bounds-declared-n
-bounds-declared-n g c =
-    let h = inside _ _ c.requires.0 c.loop-i-test.true in
-    let e = role_here _ _ c.requires.1.0 h c.item_at.ensures c.role_of.ensures in
-    let r = room_here c.requires.1.1.0 c.requires.1.1.1.0 c.loop-i.invariant.0 h e c.in-Declares.is in
+bounds-declared-n c =
+    let r = room_here c.requires.declarable c.requires.room c.loop-i.invariant.0 c.loop-i-test.true _ c.role_of.ensures c.in-Declares.is in
     r.in_names
 
 pub overflow_cast-starts : goal.overflow_cast-starts
-overflow_cast-starts g c =
-    let h = inside _ _ c.requires.0 c.loop-i-test.true in
-    let e = role_here _ _ c.requires.1.0 h c.item_at.ensures c.role_of.ensures in
-    omega (arith, held_few _ _ c.requires.1.0, h)
+overflow_cast-starts c =
+    omega (arith, c.requires.fits)
 
 pub bounds-starts-n : goal.bounds-starts-n
-bounds-starts-n g c =
-    let h = inside _ _ c.requires.0 c.loop-i-test.true in
-    let e = role_here _ _ c.requires.1.0 h c.item_at.ensures c.role_of.ensures in
-    let r = room_here c.requires.1.1.0 c.requires.1.1.1.0 c.loop-i.invariant.0 h e c.in-Declares.is in
+bounds-starts-n c =
+    let r = room_here c.requires.declarable c.requires.room c.loop-i.invariant.0 c.loop-i-test.true _ c.role_of.ensures c.in-Declares.is in
     r.in_starts
 
 pub chain_row-requires : goal.chain_row-requires
-chain_row-requires g c =
-    let h = inside _ _ c.requires.0 c.loop-i-test.true in
-    let e = role_here _ _ c.requires.1.0 h c.item_at.ensures c.role_of.ensures in
-    let r = room_here c.requires.1.1.0 c.requires.1.1.1.0 c.loop-i.invariant.0 h e c.in-Declares.is in
+chain_row-requires c =
+    let r = room_here c.requires.declarable c.requires.room c.loop-i.invariant.0 c.loop-i-test.true _ c.role_of.ensures c.in-Declares.is in
     record {
       n_in_bounds = simp length-set r.in_names;
       n_lt_most_declarations = r.few;
@@ -104,19 +76,15 @@ chain_row-requires g c =
     }
 
 pub overflow_add-n : goal.overflow_add-n
-overflow_add-n g c =
-    let h = inside _ _ c.requires.0 c.loop-i-test.true in
-    let e = role_here _ _ c.requires.1.0 h c.item_at.ensures c.role_of.ensures in
-    let r = room_here c.requires.1.1.0 c.requires.1.1.1.0 c.loop-i.invariant.0 h e c.in-Declares.is in
+overflow_add-n c =
+    let r = room_here c.requires.declarable c.requires.room c.loop-i.invariant.0 c.loop-i-test.true _ c.role_of.ensures c.in-Declares.is in
     omega (arith, r.few)
 
 pub loop-i-preserved : goal.loop-i-preserved
-loop-i-preserved g c =
-    let h = inside _ _ c.requires.0 c.loop-i-test.true in
-    let e = role_here _ _ c.requires.1.0 h c.item_at.ensures c.role_of.ensures in
-    let r = room_here c.requires.1.1.0 c.requires.1.1.1.0 c.loop-i.invariant.0 h e c.in-Declares.is in
-    (passed_more _ _ _ _ c.loop-i.invariant.0 h MutedPosition e c.in-Declares.is c.find_declaration-found.ensures c.in_default-found.is c.pack.ensures r.in_names r.in_starts, c.chain_row.ensures)
+loop-i-preserved c =
+    let r = room_here c.requires.declarable c.requires.room c.loop-i.invariant.0 c.loop-i-test.true _ c.role_of.ensures c.in-Declares.is in
+    (passed_more _ _ _ _ c.loop-i.invariant.0 c.loop-i-test.true _ c.role_of.ensures c.in-Declares.is c.find_declaration-found.ensures c.in_default-found.is c.pack.ensures r.in_names r.in_starts, c.chain_row.ensures)
 
 pub returns : goal.returns
-returns g c =
-    record { first_pass = passed_all _ _ _ _ c.loop-i.invariant.0 (rw (← c.requires.0, length_items_in) c.loop-i-test.false); chained_2 = c.loop-i.invariant.1 }
+returns c =
+    record { first_pass = passed_all _ _ _ _ c.loop-i.invariant.0 c.loop-i-test.false; chained_2 = c.loop-i.invariant.1 }
