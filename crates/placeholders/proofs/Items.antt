@@ -1,135 +1,182 @@
--- Laws of what placeholders see in the items from one place of a slice to another, item by item. Assumes nothing.
-use mathlib.Core.Path.{◌≡◌, ◌∙◌, ap}
+-- Laws of what placeholders see in items, item by item. Assumes nothing.
+use mathlib.Core.Path.{◌≡◌, refl, ◌∙◌, ap}
+use mathlib.Core.Bool.{Bool, true, false, cond}
 use mathlib.Core.List.{List, [], ◌∷◌}
 use Prim.Native.Nat.{ℕ, ◌+◌, ◌≤◌, ◌<◌}
-use types.Run.{OneOf, miss}
-use denote.Enum.Declared.{tag_of}
+use native.Mathlib.Omega.{arith}
+use native.Mathlib.Numerals.{add-one}
+use lib.ListN.{length, get_or, drop, drop_of_length-le}
+use lib.Seq.{drop-cons}
+use Rattle.std.specs.List.{prefix_len}
 use Rattle.grammar.specs.declared.Form.{Form}
 use Rattle.grammar.specs.declared.Item.{Item}
-use Rattle.grammar.specs.Items.{item_at}
-use Rattle.names.specs.Inner.{items_between}
-use Rattle.names.proofs.Between.{between_none, between_here}
 use Rattle.placeholders.specs.declared.Seen.{Seen}
 use Rattle.placeholders.specs.declared.Seen.TheVariants.{Other, Declares, Names, Wants, Calls, Hands}
 use Rattle.placeholders.specs.declared.Wanting.TheVariants as wanting
 use Rattle.placeholders.specs.Placeholders.{seen, named, handed}
 use Rattle.placeholders.specs.Filling.{wanted_by}
 use Rattle.placeholders.specs.Inner.{names_in}
-use Rattle.placeholders.specs.contracts.Seen as variants
+
+-- whether a name in the brackets is seen, or a number that a call gives
+abbrev pub is_name : Seen → Bool
+is_name Other = false
+is_name Declares = false
+is_name (Names p) = true
+is_name (Wants f p) = false
+is_name (Calls q k) = false
+is_name (Hands n) = false
+
+abbrev pub is_number : Seen → Bool
+is_number Other = false
+is_number Declares = false
+is_number (Names p) = false
+is_number (Wants f p) = false
+is_number (Calls q k) = false
+is_number (Hands n) = true
+
+-- the names and the numbers that items begin with are counted by the tests
+pub count_named : (is : List Item) → prefix_len (λ i. is_name (seen i)) is ≡ length (named is)
+unfolding named
+count_named [] = refl
+count_named (i ∷ is) = go (seen i) (count_named is)
+  where
+    go : (s : Seen) → prefix_len (λ j. is_name (seen j)) is ≡ length (named is)
+        → cond (is_name s) (1 + prefix_len (λ j. is_name (seen j)) is) 0
+        ≡ length {A = ℕ} (elim s [ Names p ↦ p ∷ named is | Other ↦ [] | Declares ↦ [] | Wants f p ↦ [] | Calls q k ↦ [] | Hands n ↦ [] ])
+    go Other e = refl
+    go Declares e = refl
+    go (Names p) e = omega (arith, e)
+    go (Wants f p) e = refl
+    go (Calls q k) e = refl
+    go (Hands n) e = refl
+
+pub count_handed : (is : List Item) → prefix_len (λ i. is_number (seen i)) is ≡ length (handed is)
+unfolding handed
+count_handed [] = refl
+count_handed (i ∷ is) = go (seen i) (count_handed is)
+  where
+    go : (s : Seen) → prefix_len (λ j. is_number (seen j)) is ≡ length (handed is)
+        → cond (is_number s) (1 + prefix_len (λ j. is_number (seen j)) is) 0
+        ≡ length {A = ℕ} (elim s [ Hands n ↦ n ∷ handed is | Other ↦ [] | Declares ↦ [] | Names p ↦ [] | Wants f p ↦ [] | Calls q k ↦ [] ])
+    go Other e = refl
+    go Declares e = refl
+    go (Names p) e = refl
+    go (Wants f p) e = refl
+    go (Calls q k) e = refl
+    go (Hands n) e = omega (arith, e)
 
 -- ---- what is seen in an item is not one of some variants: where a match falls through
 
-abbrev pub tag : Seen → ℕ
-tag s = tag_of variants.the_type s
-
--- the variants but a name in the brackets
-abbrev no_name : List ℕ
-no_name = 0 ∷ 1 ∷ 3 ∷ 4 ∷ 5 ∷ []
-
-named_none : (s : Seen) (x : Item) → s ≡ seen x → OneOf no_name (tag s) → (is : List Item) → named (x ∷ is) ≡ []
-unfolding named
-named_none Other x e h is = rw (← e, named)
-named_none Declares x e h is = rw (← e, named)
-named_none (Names p) x e h is = absurd (miss no_name 2 tt h)
-named_none (Wants f p) x e h is = rw (← e, named)
-named_none (Calls q k) x e h is = rw (← e, named)
-named_none (Hands n) x e h is = rw (← e, named)
-
-names_later : (s : Seen) (x : Item) → s ≡ seen x → OneOf no_name (tag s) → (is : List Item) → names_in (x ∷ is) ≡ names_in is
-unfolding names_in
-names_later Other x e h is = rw (← e, names_in)
-names_later Declares x e h is = rw (← e, names_in)
-names_later (Names p) x e h is = absurd (miss no_name 2 tt h)
-names_later (Wants f p) x e h is = rw (← e, names_in)
-names_later (Calls q k) x e h is = rw (← e, names_in)
-names_later (Hands n) x e h is = rw (← e, names_in)
-
--- but a number that a call gives
-abbrev no_number : List ℕ
-no_number = 0 ∷ 1 ∷ 2 ∷ 3 ∷ 4 ∷ []
-
-handed_none : (s : Seen) (x : Item) → s ≡ seen x → OneOf no_number (tag s) → (is : List Item) → handed (x ∷ is) ≡ []
-unfolding handed
-handed_none Other x e h is = rw (← e, handed)
-handed_none Declares x e h is = rw (← e, handed)
-handed_none (Names p) x e h is = rw (← e, handed)
-handed_none (Wants f p) x e h is = rw (← e, handed)
-handed_none (Calls q k) x e h is = rw (← e, handed)
-handed_none (Hands n) x e h is = absurd (miss no_number 5 tt h)
-
--- but a name in the brackets, and one that stands for n
-abbrev no_amount : List ℕ
-no_amount = 0 ∷ 1 ∷ 4 ∷ 5 ∷ []
-
-wanted_none : (s : Seen) (x : Item) → s ≡ seen x → OneOf no_amount (tag s) → (is : List Item) → wanted_by (x ∷ is) ≡ wanting.Nothing
-unfolding wanted_by
-wanted_none Other x e h is = rw (← e, wanted_by)
-wanted_none Declares x e h is = rw (← e, wanted_by)
-wanted_none (Names p) x e h is = absurd (miss no_amount 2 tt h)
-wanted_none (Wants f p) x e h is = absurd (miss no_amount 3 tt h)
-wanted_none (Calls q k) x e h is = rw (← e, wanted_by)
-wanted_none (Hands n) x e h is = rw (← e, wanted_by)
-
--- ---- from one place of a slice to another
-
-module _ (l : List ℕ) (i to : ℕ) where
-  module _ (k : to ≤ i) where
-    pub named_end : named (items_between l i to) ≡ []
+module _ (x : Item) {s : Seen} (e : s ≡ seen x) (is : List Item) where
+  module _ (h : (p : ℕ) → s ≡ Names p → ⊥) where
+    pub named_none : named (x ∷ is) ≡ []
     unfolding named
-    named_end = ap named (between_none l i to k)
+    named_none = go s e h
+      where
+        go : (s : Seen) → s ≡ seen x → ((p : ℕ) → s ≡ Names p → ⊥) → named (x ∷ is) ≡ []
+        go Other e h = rw (← e, named)
+        go Declares e h = rw (← e, named)
+        go (Names p) e h = absurd (h p refl)
+        go (Wants f p) e h = rw (← e, named)
+        go (Calls q k) e h = rw (← e, named)
+        go (Hands n) e h = rw (← e, named)
 
-    pub names_end : names_in (items_between l i to) ≡ []
+    names_later : names_in (x ∷ is) ≡ names_in is
     unfolding names_in
-    names_end = ap names_in (between_none l i to k)
+    names_later = go s e h
+      where
+        go : (s : Seen) → s ≡ seen x → ((p : ℕ) → s ≡ Names p → ⊥) → names_in (x ∷ is) ≡ names_in is
+        go Other e h = rw (← e, names_in)
+        go Declares e h = rw (← e, names_in)
+        go (Names p) e h = absurd (h p refl)
+        go (Wants f p) e h = rw (← e, names_in)
+        go (Calls q k) e h = rw (← e, names_in)
+        go (Hands n) e h = rw (← e, names_in)
 
-    pub handed_end : handed (items_between l i to) ≡ []
-    unfolding handed
-    handed_end = ap handed (between_none l i to k)
-
-    pub wanted_end : wanted_by (items_between l i to) ≡ wanting.Nothing
+    wanted_none : ((f : Form) (p : ℕ) → s ≡ Wants f p → ⊥) → wanted_by (x ∷ is) ≡ wanting.Nothing
     unfolding wanted_by
-    wanted_end = ap wanted_by (between_none l i to k)
+    wanted_none g = go s e h g
+      where
+        go : (s : Seen) → s ≡ seen x → ((p : ℕ) → s ≡ Names p → ⊥) → ((f : Form) (p : ℕ) → s ≡ Wants f p → ⊥) → wanted_by (x ∷ is) ≡ wanting.Nothing
+        go Other e h g = rw (← e, wanted_by)
+        go Declares e h g = rw (← e, wanted_by)
+        go (Names p) e h g = absurd (h p refl)
+        go (Wants f p) e h g = absurd (g f p refl)
+        go (Calls q k) e h g = rw (← e, wanted_by)
+        go (Hands n) e h g = rw (← e, wanted_by)
 
-  pub item_next : {x : Item} → x ≡ item_at l i → i < to → items_between l i to ≡ x ∷ items_between l (i + 1) to
-  item_next e k = rw e (between_here l i to k)
+  pub handed_none : ((n : ℕ) → s ≡ Hands n → ⊥) → handed (x ∷ is) ≡ []
+  unfolding handed
+  handed_none h = go s e h
+    where
+      go : (s : Seen) → s ≡ seen x → ((n : ℕ) → s ≡ Hands n → ⊥) → handed (x ∷ is) ≡ []
+      go Other e h = rw (← e, handed)
+      go Declares e h = rw (← e, handed)
+      go (Names p) e h = rw (← e, handed)
+      go (Wants f p) e h = rw (← e, handed)
+      go (Calls q k) e h = rw (← e, handed)
+      go (Hands n) e h = absurd (h n refl)
 
-  module _ {x : Item} {s : Seen} (e : x ≡ item_at l i) (t : s ≡ seen x) (k : i < to) where
-    rest : List Item
-    rest = items_between l (i + 1) to
+  pub named_first : {p : ℕ} → s ≡ Names p → named (x ∷ is) ≡ p ∷ named is
+  unfolding named
+  named_first h = rw (← e, h, named)
 
-    next : items_between l i to ≡ x ∷ rest
-    unfolding rest
-    next = item_next e k
+  pub handed_first : {n : ℕ} → s ≡ Hands n → handed (x ∷ is) ≡ n ∷ handed is
+  unfolding handed
+  handed_first h = rw (← e, h, handed)
 
-    pub named_more : {p : ℕ} → s ≡ Names p → named (items_between l i to) ≡ p ∷ named (items_between l (i + 1) to)
-    unfolding named rest
-    named_more h = ap named next ∙ rw (← t, h, named)
+-- ---- the items from the i-th on
 
-    pub named_stop : OneOf no_name (tag s) → named (items_between l i to) ≡ []
-    named_stop h = ap named next ∙ named_none s x t h rest
+module _ (is : List Item) (i : ℕ) where
+  pub named_end : length is ≤ i → named (drop i is) ≡ []
+  unfolding named
+  named_end h = ap named (drop_of_length-le is h)
 
-    pub names_more : {p : ℕ} → s ≡ Names p → names_in (items_between l i to) ≡ p ∷ names_in (items_between l (i + 1) to)
-    unfolding names_in rest
-    names_more h = ap names_in next ∙ rw (← t, h, names_in)
+  pub names_end : length is ≤ i → names_in (drop i is) ≡ []
+  unfolding names_in
+  names_end h = ap names_in (drop_of_length-le is h)
 
-    pub names_skip : OneOf no_name (tag s) → names_in (items_between l i to) ≡ names_in (items_between l (i + 1) to)
-    unfolding rest
-    names_skip h = ap names_in next ∙ names_later s x t h rest
+  pub handed_end : length is ≤ i → handed (drop i is) ≡ []
+  unfolding handed
+  handed_end h = ap handed (drop_of_length-le is h)
 
-    pub handed_more : {n : ℕ} → s ≡ Hands n → handed (items_between l i to) ≡ n ∷ handed (items_between l (i + 1) to)
-    unfolding handed rest
-    handed_more h = ap handed next ∙ rw (← t, h, handed)
+  pub wanted_end : length is ≤ i → wanted_by (drop i is) ≡ wanting.Nothing
+  unfolding wanted_by
+  wanted_end h = ap wanted_by (drop_of_length-le is h)
 
-    pub handed_stop : OneOf no_number (tag s) → handed (items_between l i to) ≡ []
-    handed_stop h = ap handed next ∙ handed_none s x t h rest
+  module _ (h : i < length is) (d : Item) where
+    pub next_item : drop i is ≡ get_or is i d ∷ drop (i + 1) is
+    next_item = rw add-one (drop-cons is i d h)
 
-    pub wanted_later : {p : ℕ} → s ≡ Names p → wanted_by (items_between l i to) ≡ wanted_by (items_between l (i + 1) to)
-    unfolding wanted_by rest
-    wanted_later h = ap wanted_by next ∙ rw (← t, h, wanted_by)
+    module _ {s : Seen} (t : s ≡ seen (get_or is i d)) where
+      pub named_more : {p : ℕ} → s ≡ Names p → named (drop i is) ≡ p ∷ named (drop (i + 1) is)
+      unfolding named
+      named_more e = ap named next_item ∙ rw (← t, e, named)
 
-    pub wanted_here : {f : Form} {p : ℕ} → s ≡ Wants f p → wanted_by (items_between l i to) ≡ wanting.Amount f p
-    unfolding wanted_by
-    wanted_here h = ap wanted_by next ∙ rw (← t, h, wanted_by)
+      pub named_stop : ((p : ℕ) → s ≡ Names p → ⊥) → named (drop i is) ≡ []
+      named_stop e = ap named next_item ∙ named_none (get_or is i d) t (drop (i + 1) is) e
 
-    pub wanted_stop : OneOf no_amount (tag s) → wanted_by (items_between l i to) ≡ wanting.Nothing
-    wanted_stop h = ap wanted_by next ∙ wanted_none s x t h rest
+      pub names_more : {p : ℕ} → s ≡ Names p → names_in (drop i is) ≡ p ∷ names_in (drop (i + 1) is)
+      unfolding names_in
+      names_more e = ap names_in next_item ∙ rw (← t, e, names_in)
+
+      pub names_skip : ((p : ℕ) → s ≡ Names p → ⊥) → names_in (drop i is) ≡ names_in (drop (i + 1) is)
+      names_skip e = ap names_in next_item ∙ names_later (get_or is i d) t (drop (i + 1) is) e
+
+      pub handed_more : {n : ℕ} → s ≡ Hands n → handed (drop i is) ≡ n ∷ handed (drop (i + 1) is)
+      unfolding handed
+      handed_more e = ap handed next_item ∙ rw (← t, e, handed)
+
+      pub handed_stop : ((n : ℕ) → s ≡ Hands n → ⊥) → handed (drop i is) ≡ []
+      handed_stop e = ap handed next_item ∙ handed_none (get_or is i d) t (drop (i + 1) is) e
+
+      pub wanted_later : {p : ℕ} → s ≡ Names p → wanted_by (drop i is) ≡ wanted_by (drop (i + 1) is)
+      unfolding wanted_by
+      wanted_later e = ap wanted_by next_item ∙ rw (← t, e, wanted_by)
+
+      pub wanted_here : {f : Form} {p : ℕ} → s ≡ Wants f p → wanted_by (drop i is) ≡ wanting.Amount f p
+      unfolding wanted_by
+      wanted_here e = ap wanted_by next_item ∙ rw (← t, e, wanted_by)
+
+      pub wanted_stop : ((p : ℕ) → s ≡ Names p → ⊥) → ((f : Form) (p : ℕ) → s ≡ Wants f p → ⊥) → wanted_by (drop i is) ≡ wanting.Nothing
+      wanted_stop e g = ap wanted_by next_item ∙ wanted_none (get_or is i d) t (drop (i + 1) is) e g

@@ -1,5 +1,4 @@
 pub mod Items
-pub mod Lists
 pub mod Wrong
 pub mod Alike
 pub mod Beginnings

@@ -7,8 +7,7 @@ use lib.ListN.{length, take}
 use Rattle.status.specs.Status.{placeholder_wrong}
 use Rattle.grammar.specs.declared.Item.{Item}
 use Rattle.grammar.specs.Items.{holding}
-use Rattle.names.specs.Inner.{beginnings, items_in, Held}
-use Rattle.names.proofs.Held.{length_items_in}
+use Rattle.names.specs.Inner.{beginnings}
 use Rattle.placeholders.specs.declared.Fault.{Fault}
 use Rattle.placeholders.specs.declared.Fault.TheVariants.{Nothing, At}
 use Rattle.placeholders.specs.declared.Settling.{Settling}
@@ -22,7 +21,7 @@ module _ (text : List ℕ) (is : List Item) {starts : List ℕ} {n : ℕ} (b : B
   fault_of_step : {g : Fault} → f ≡ g → g ≡ fault_of text is
   fault_of_step z = sym z ∙ e ∙ ap (λ (bs : List ℕ). fault_from text (takes_by bs is) [] is) b.begun
 
-  pub settles_wrong : {p : ℕ} → f ≡ At p → {items : List ℕ} (count : ℕ) → items_in count items ≡ is → Held is items
+  pub settles_wrong : {p : ℕ} → f ≡ At p → {items : List Item} (count : ℕ) → count ≡ length is → items ≡ holding is items
       → Settles text is items (record { number = placeholder_wrong; place = p; items = count; declarations = n }) items starts
   unfolding settled
   settles_wrong z {items} count c h =
@@ -30,13 +29,13 @@ module _ (text : List ℕ) (is : List Item) {starts : List ℕ} {n : ℕ} (b : B
       record {
         number = ap (λ (x : Fault). (unless_faulty x (filled_in text is)).number) g;
         place = ap (λ (x : Fault). (unless_faulty x (filled_in text is)).place) g;
-        count = sym (length_items_in count items) ∙ ap length c ∙ ap (λ (x : Fault). length (left_by x is (filled_in text is))) g;
-        left = h.rows ∙ ap (λ (x : Fault). holding (left_by x is (filled_in text is)) items) g;
+        count = c ∙ ap (λ (x : Fault). length (left_by x is (filled_in text is))) g;
+        left = h ∙ ap (λ (x : Fault). holding (left_by x is (filled_in text is)) items) g;
         within = b.within;
         begun = b.begun ∙ ap (λ (x : Fault). beginnings (left_by x is (filled_in text is))) g;
       }
 
-  pub settles_filled : f ≡ Nothing → {items : List ℕ} {r : Settling} {items' starts' : List ℕ} → Fills text is items r items' starts'
+  pub settles_filled : f ≡ Nothing → {items : List Item} {r : Settling} {items' : List Item} {starts' : List ℕ} → Fills text is items r items' starts'
       → Settles text is items r items' starts'
   unfolding settled
   settles_filled z {items} w =

@@ -3,23 +3,22 @@
 use mathlib.Core.Path.{◌≡◌, refl, sym, ◌∙◌, ap}
 use mathlib.Core.Logic.{⊎_elim}
 use mathlib.Core.List.{List, [], ◌∷◌, ◌++◌, append-nil, append_assoc}
-use Prim.Native.Nat.{ℕ, suc, ◌+◌, ◌*◌, ◌≤◌, ◌<◌}
+use Prim.Native.Nat.{ℕ, suc, ◌+◌, ◌≤◌, ◌<◌}
 use native.Mathlib.Numerals.{add-one}
 use native.Mathlib.Omega.{arith}
 use lib.ListN.{take-append-drop, get_or-append, length, get_or, take, drop, set, length-append, length-drop, length-set, drop_of_length-le}
-use lib.Seq.{drop-drop, sets, length-sets, take_at, drop_at, take_all, take-add, take-take, take-suc-set, length-take-le, set-append_left}
+use lib.Seq.{drop-drop, take_at, drop_at, take_all, take-add, take-take, take-suc-set, length-take-le, set-append_left}
+use Rattle.std.proofs.lemmas.List.{get_or_default}
 use Rattle.status.specs.Status.{done}
 use Rattle.grammar.specs.declared.Kind.TheVariants.{Retuning}
 use Rattle.grammar.specs.declared.Form.{Form}
 use Rattle.grammar.specs.declared.Item.{Item}
 use Rattle.grammar.specs.declared.Item.TheVariants as item
-use Rattle.grammar.specs.Items.{most_items, code, value, place, row, row_size, holding}
-use Rattle.grammar.proofs.Rows.{place_changed, holding_more}
+use Rattle.grammar.specs.Items.{most_items, holding, with_place}
+use Rattle.grammar.proofs.Rows.{holding_more}
 use Rattle.names.specs.Names.{declared}
-use Rattle.names.specs.Inner.{beginnings_from, beginnings, begun_with, items_in, items_between, Held}
+use Rattle.names.specs.Inner.{beginnings_from, beginnings, begun_with}
 use Rattle.names.proofs.Lists.{here, head_at, head_rest, begun_set, begun_same, begun_all, begun_at, begun_length}
-use Rattle.names.proofs.Held.{length_items_in, items_after}
-use Rattle.names.proofs.Between.{between_part}
 use Rattle.placeholders.specs.declared.Seen.{Seen}
 use Rattle.placeholders.specs.declared.Seen.TheVariants.{Other, Declares, Names, Wants, Calls, Hands}
 use Rattle.placeholders.specs.declared.Wanting.{Wanting}
@@ -31,21 +30,13 @@ use Rattle.placeholders.specs.Filling.{wanted_by, renamed, Filled, filled_from, 
 use Rattle.placeholders.specs.Inner.{wanted_at, Begun, Roomy, Fills}
 use Rattle.placeholders.proofs.Alike.{Alike, alike_drop, alike_begun, alike_named, alike_wanted}
 use Rattle.placeholders.proofs.Beginnings.{as_many, beginnings_few, beginnings_append}
+use Rattle.placeholders.proofs.Wrong.{part, part_end}
 use Rattle.placeholders.proofs.FilledLaws.{if_wanted, written_by, written_in, call_is, written_call, filled_by, filled_step, whole, whole_alike, whole_length, whole_count, whole_begun}
 
 -- ---- a call that names another declaration
 
-record Called (n : ℕ) (i : Item) : Type 0 where
-  code_same : code (renamed n i) ≡ code i
-  value_same : value (renamed n i) ≡ value i
-  place_new : place (renamed n i) ≡ n
-
-called : (n : ℕ) (i : Item) {q k : ℕ} → seen i ≡ Calls q k → Called n i
-called n i e =
-    ⊎_elim
-    (λ h. rw h (record { code_same = refl; value_same = refl; place_new = refl }))
-    (λ h. rw h (record { code_same = refl; value_same = refl; place_new = refl }))
-    (call_is i e)
+called : (n : ℕ) (i : Item) {q k : ℕ} → seen i ≡ Calls q k → with_place i n ≡ renamed n i
+called n i e = ⊎_elim (λ h. rw h) (λ h. rw h) (call_is i e)
 
 -- ---- what is written in, of items that are alike
 
@@ -83,8 +74,8 @@ module _ (text : List ℕ) (is : List Item) where
   abbrev pub behind : ℕ → List Item
   behind m = take m all.more
 
-  module _ (items₀ starts₀ : List ℕ) where
-    pub record Writing (items starts : List ℕ) (end next i : ℕ) : Type 0 where
+  module _ (items₀ : List Item) (starts₀ : List ℕ) where
+    pub record Writing (items : List Item) (starts : List ℕ) (end next i : ℕ) : Type 0 where
       pub within : i ≤ length is
       pub added : ℕ
       pub few : added ≤ length all.more
@@ -97,13 +88,10 @@ module _ (text : List ℕ) (is : List Item) where
       pub fits : next ≤ length starts
       pub begun : take next starts ≡ beginnings is ++ beginnings_from (length is) (behind added)
 
-    counted : {count : ℕ} → items_in count items₀ ≡ is → count ≡ length is
-    counted {count} e = sym (length_items_in count items₀) ∙ ap length e
-
     own : {n : ℕ} → Begun is starts₀ n → n ≡ length (beginnings is)
     own {n} b = sym (length-take-le n starts₀ b.within) ∙ ap length b.begun
 
-    pub writing_none : {count n : ℕ} → items_in count items₀ ≡ is → Held is items₀ → Begun is starts₀ n → Writing items₀ starts₀ count n 0
+    pub writing_none : {count n : ℕ} → count ≡ length is → items₀ ≡ holding is items₀ → Begun is starts₀ n → Writing items₀ starts₀ count n 0
     unfolding beginnings_from
     writing_none {count} {n} e h b =
         let m : length (declared is) ≡ n = sym (own b ∙ as_many 0 is) in
@@ -111,17 +99,17 @@ module _ (text : List ℕ) (is : List Item) where
           within = omega arith;
           added = 0;
           few = omega arith;
-          ends = omega (arith, counted e);
+          ends = omega (arith, e);
           items_left = ap (λ (k : ℕ). (filled_from text (after is) k is).items) m;
           more_left = ap (λ (k : ℕ). (filled_from text (after is) k is).more) m;
-          held = h.rows ∙ ap (λ (xs : List Item). holding xs items₀) (sym (append-nil is));
+          held = h ∙ ap (λ (xs : List Item). holding xs items₀) (sym (append-nil is));
           room = refl;
           space = refl;
           fits = b.within;
           begun = b.begun ∙ sym (append-nil (beginnings is));
         }
 
-    module _ {items starts : List ℕ} {end next i : ℕ} (p : Writing items starts end next i) where
+    module _ {items : List Item} {starts : List ℕ} {end next i : ℕ} (p : Writing items starts end next i) where
       those_length : length (those i) ≡ length is
       those_length = begun_length all.items is i (omega (arith, whole_length text is, p.within)) p.within
 
@@ -152,14 +140,12 @@ module _ (text : List ℕ) (is : List Item) where
           }
 
       -- the slices begin as the items do
-      module _ (count : ℕ) {n : ℕ} (e : items_in count items₀ ≡ is) (b : Begun is starts₀ n) where
-        items_now : items_in count items ≡ those i
+      module _ (count : ℕ) {n : ℕ} (e : count ≡ length is) (b : Begun is starts₀ n) where
+        items_now : take count items ≡ those i
         items_now =
-            let c : count ≡ length (those i) = omega (arith, counted e, those_length) in
-            let m : items_in (length (those i ++ behind p.added)) items ≡ those i ++ behind p.added =
-            items_after (those i ++ behind p.added) items₀ p.held refl in
-            between_part items 0 count (length (those i ++ behind p.added)) (omega (arith, length-append (those i) (behind p.added)))
-            ∙ ap (take count) m ∙ take_at (those i) (behind p.added) count (sym c)
+            let c : length (those i) ≡ count = omega (arith, e, those_length) in
+            ap (take count) (p.held ∙ append_assoc (those i) (behind p.added) (drop (length (those i ++ behind p.added)) items₀))
+            ∙ take_at (those i) (behind p.added ++ drop (length (those i ++ behind p.added)) items₀) count c
 
         starts_now : take n starts ≡ beginnings is
         starts_now =
@@ -174,19 +160,19 @@ module _ (text : List ℕ) (is : List Item) where
           abbrev later : List Item
           later = drop (i + 1) is
 
-          written_here : wanted_at text (take n starts) (items_in count items) (items_between items i count) ≡ written_in text (after is) present later
+          written_here : wanted_at text (take n starts) (take count items) (part i (length (take count items)) (take count items)) ≡ written_in text (after is) present later
           written_here =
-              let d : items_between items i count ≡ present ∷ later =
-              ap (drop i) items_now
+              let d : part i (length (take count items)) (take count items) ≡ present ∷ later =
+              part_end i (take count items) ∙ ap (drop i) items_now
               ∙ drop_at (take i all.items) (drop i is) i (length-take-le i all.items (omega (arith, whole_length text is)))
               ∙ here is i item.MutedPosition h in
-              ap (λ (bs : List ℕ). wanted_at text bs (items_in count items) (items_between items i count)) starts_now
-              ∙ ap (λ (xs : List Item). wanted_at text (beginnings is) xs (items_between items i count)) items_now
+              ap (λ (bs : List ℕ). wanted_at text bs (take count items) (part i (length (take count items)) (take count items))) starts_now
+              ∙ ap (λ (xs : List Item). wanted_at text (beginnings is) xs (part i (length (take count items)) (take count items))) items_now
               ∙ ap (wanted_at text (beginnings is) (those i)) d
               ∙ written_alike text (λ k. alike_drop (suc (get_or (beginnings is) k 0)) (alike_begun i (whole_alike text is))) (seen present) later
 
           -- w is written in for it
-          module _ {w : WrittenCall} (r : w ≡ wanted_at text (take n starts) (items_in count items) (items_between items i count)) where
+          module _ {w : WrittenCall} (r : w ≡ wanted_at text (take n starts) (take count items) (part i (length (take count items)) (take count items))) where
             filled_here : filled_from text (after is) next (drop i is)
                 ≡ filled_by w present next (filled_from text (after is) next later) (filled_from text (after is) (suc next) later)
             filled_here =
@@ -230,7 +216,7 @@ module _ (text : List ℕ) (is : List Item) where
               abbrev new : List Item
               new = item.Declared Retuning q ∷ item.Amount f v ∷ []
 
-              call_here : Called next present
+              call_here : with_place present next ≡ renamed next present
               call_here = called next present (written_call text (after is) present later (sym (r ∙ written_here) ∙ z)).1
 
               -- there is room
@@ -265,27 +251,38 @@ module _ (text : List ℕ) (is : List Item) where
                       few = omega (arith, begun_fits, beginnings_few 0 (filled_in text is), m.fits_items);
                     }
 
-                module _ (held₀ : Held is items₀) where
+                module _ (size : length items₀ ≡ most_items) where
+                  -- the present item stands there
+                  item_there : (d : Item) → get_or items i d ≡ present
+                  item_there d =
+                      let l : i < length (those i) = omega (arith, those_length) in
+                      let g = behind p.added ++ drop (length (those i ++ behind p.added)) items₀ in
+                      ap (λ (xs : List Item). get_or xs i d) (p.held ∙ append_assoc (those i) (behind p.added) (drop (length (those i ++ behind p.added)) items₀))
+                      ∙ get_or-append (those i) g d i l
+                      ∙ begun_at all.items is i d (omega (arith, whole_length text is)) h
+                      ∙ get_or_default is i d item.MutedPosition h
+
                   -- the items, the call of which names the next declaration
-                  renamed_here : set items (row_size * i + 2) next ≡ holding (those (i + 1) ++ behind p.added) items₀
-                  renamed_here =
-                      let t = those i ++ behind p.added in
+                  renamed_here : (d : Item) → set items i (with_place (get_or items i d) next) ≡ holding (those (i + 1) ++ behind p.added) items₀
+                  renamed_here d =
+                      let t = behind p.added in
+                      let rest = drop (length (those i ++ t)) items₀ in
                       let j = renamed next present in
                       let l : i < length (those i) = omega (arith, those_length) in
-                      let g : present ≡ get_or t i item.MutedPosition =
-                      sym (get_or-append (those i) (behind p.added) item.MutedPosition i l
-                      ∙ begun_at all.items is i item.MutedPosition (omega (arith, whole_length text is)) h) in
-                      ap (λ (xs : List ℕ). set xs (row_size * i + 2) next) p.held
-                      ∙ ap (λ (k : ℕ). set (holding t items₀) (row_size * i + 2) k) (sym call_here.place_new)
-                      ∙ place_changed t items₀ i item.MutedPosition j (omega (arith, length-append (those i) (behind p.added)))
-                      (call_here.code_same ∙ ap code g) (call_here.value_same ∙ ap value g)
-                      ∙ ap (λ (xs : List Item). holding xs items₀)
-                      (set-append_left (those i) (behind p.added) i j l ∙ ap (λ (xs : List Item). xs ++ behind p.added) (begun_set all.items is i (items_here z) h))
+                      let n : length (those i ++ t) ≡ length (those (i + 1) ++ t) =
+                      omega (arith, length-append (those i) t, length-append (those (i + 1)) t, those_length, begun_length all.items is (i + 1) (omega (arith, whole_length text is)) (omega arith)) in
+                      ap (λ (x : Item). set items i (with_place x next)) (item_there d)
+                      ∙ ap (set items i) call_here
+                      ∙ ap (λ (xs : List Item). set xs i j) (p.held ∙ append_assoc (those i) t rest)
+                      ∙ set-append_left (those i) (t ++ rest) i j l
+                      ∙ ap (λ (xs : List Item). xs ++ (t ++ rest)) (begun_set all.items is i (items_here z) h)
+                      ∙ sym (append_assoc (those (i + 1)) t rest)
+                      ∙ ap (λ (k : ℕ). (those (i + 1) ++ t) ++ drop k items₀) n
 
-                  pub writing_more : {l₁ l₂ l₃ starts' : List ℕ} → l₁ ≡ set items (row_size * i + 2) next
-                      → l₂ ≡ sets l₁ (row_size * end) (row (item.Declared Retuning q)) → l₃ ≡ sets l₂ (row_size * (end + 1)) (row (item.Amount f v))
+                  pub writing_more : (none : Item) {l₁ l₂ l₃ : List Item} {starts' : List ℕ} → l₁ ≡ set items i (with_place (get_or items i none) next)
+                      → l₂ ≡ set l₁ end (item.Declared Retuning q) → l₃ ≡ set l₂ (end + 1) (item.Amount f v)
                       → starts' ≡ set starts next end → Writing l₃ starts' (end + 2) (next + 1) (i + 1)
-                  writing_more {l₁} {l₂} {l₃} {starts'} e₁ e₂ e₃ s =
+                  writing_more none {l₁} {l₂} {l₃} {starts'} e₁ e₂ e₃ s =
                       let t = those (i + 1) ++ behind p.added in
                       let d = item.Declared Retuning q in
                       let a = item.Amount f v in
@@ -293,13 +290,13 @@ module _ (text : List ℕ) (is : List Item) where
                       omega (arith, length-append (those (i + 1)) (behind p.added), begun_length all.items is (i + 1) (omega (arith, whole_length text is)) (omega arith), behind_length, p.ends) in
                       let n₂ : length (t ++ d ∷ []) ≡ end + 1 = omega (arith, length-append t (d ∷ [])) in
                       let h₂ : l₂ ≡ holding (t ++ d ∷ []) items₀ =
-                      e₂ ∙ ap (λ (xs : List ℕ). sets xs (row_size * end) (row d)) (e₁ ∙ renamed_here)
-                      ∙ ap (λ (k : ℕ). sets (holding t items₀) (row_size * k) (row d)) (sym n₁)
-                      ∙ holding_more t d items₀ (omega (arith, held₀.size, room_here.items_fit)) in
+                      e₂ ∙ ap (λ (xs : List Item). set xs end d) (e₁ ∙ renamed_here none)
+                      ∙ ap (λ (k : ℕ). set (holding t items₀) k d) (sym n₁)
+                      ∙ holding_more t d items₀ (omega (arith, size, room_here.items_fit)) in
                       let h₃ : l₃ ≡ holding ((t ++ d ∷ []) ++ a ∷ []) items₀ =
-                      e₃ ∙ ap (λ (xs : List ℕ). sets xs (row_size * (end + 1)) (row a)) h₂
-                      ∙ ap (λ (k : ℕ). sets (holding (t ++ d ∷ []) items₀) (row_size * k) (row a)) (sym n₂)
-                      ∙ holding_more (t ++ d ∷ []) a items₀ (omega (arith, held₀.size, room_here.items_fit)) in
+                      e₃ ∙ ap (λ (xs : List Item). set xs (end + 1) a) h₂
+                      ∙ ap (λ (k : ℕ). set (holding (t ++ d ∷ []) items₀) k a) (sym n₂)
+                      ∙ holding_more (t ++ d ∷ []) a items₀ (omega (arith, size, room_here.items_fit)) in
                       let g : (t ++ d ∷ []) ++ a ∷ [] ≡ those (i + 1) ++ behind (p.added + 2) =
                       append_assoc t (d ∷ []) (a ∷ []) ∙ append_assoc (those (i + 1)) (behind p.added) new
                       ∙ ap (λ (xs : List Item). those (i + 1) ++ xs) (sym behind_more) in
@@ -316,8 +313,8 @@ module _ (text : List ℕ) (is : List Item) where
                             ∙ ap (λ (k : ℕ). (filled_from text (after is) k later).more) (sym (add-one next));
                         held = h₃ ∙ ap (λ (xs : List Item). holding xs items₀) g;
                         room =
-                            ap length e₃ ∙ length-sets l₂ (row_size * (end + 1)) (row a) ∙ ap length e₂ ∙ length-sets l₁ (row_size * end) (row d)
-                            ∙ ap length e₁ ∙ length-set items (row_size * i + 2) next ∙ p.room;
+                            ap length e₃ ∙ length-set l₂ (end + 1) a ∙ ap length e₂ ∙ length-set l₁ end d
+                            ∙ ap length e₁ ∙ length-set items i (with_place (get_or items i none) next) ∙ p.room;
                         space = ap length s ∙ length-set starts next end ∙ p.space;
                         fits = omega (arith, room_here.start_fits, length-set starts next end, ap length s);
                         begun =

@@ -1,26 +1,22 @@
 -- Laws of the first fault of some items, item by item. Assumes nothing.
-use Prim.Native.Nat.{ℕ, ◌+◌, ◌≤◌, ◌<◌}
+use Prim.Native.Nat.{ℕ, suc, ◌+◌, ◌-◌, ◌≤◌, ◌<◌}
 use mathlib.Core.Path.{◌≡◌, refl, sym, ◌∙◌, ap}
 use mathlib.Core.Bool.{Bool, true, false}
 use mathlib.Core.List.{List, [], ◌∷◌, ◌++◌, append-nil}
+use native.Mathlib.Nat.{le_refl}
 use native.Mathlib.Omega.{arith}
-use types.Run.{OneOf, miss}
 use lib.Dec.{eqb}
-use lib.ListN.{length, drop, take-append-drop}
-use lib.Seq.{drop-append-le}
+use lib.ListN.{length, get_or, take, drop, length-drop, drop_of_length-le}
+use lib.Seq.{take_all, take-suc, get_or-drop}
 use Rattle.symbols.specs.Names.{name_at}
 use Rattle.grammar.specs.declared.Item.{Item}
-use Rattle.grammar.specs.Items.{item_at}
-use Rattle.names.specs.Inner.{items_in, items_between}
-use Rattle.names.proofs.Held.{length_items_in}
-use Rattle.names.proofs.Between.{between_none, between_here, between_part}
 use Rattle.placeholders.specs.declared.Seen.{Seen}
 use Rattle.placeholders.specs.declared.Seen.TheVariants.{Other, Declares, Names, Wants, Calls, Hands}
 use Rattle.placeholders.specs.declared.Fault.{Fault}
 use Rattle.placeholders.specs.declared.Fault.TheVariants.{Nothing, At}
 use Rattle.placeholders.specs.Placeholders.{seen, handed, is_among, fault_from}
 use Rattle.placeholders.specs.Inner.{names_in, fault_here}
-use Rattle.placeholders.proofs.Items.{tag, item_next, names_end}
+use Rattle.placeholders.proofs.Items.{next_item}
 
 -- ---- the placeholders that are named in front of an item
 
@@ -47,14 +43,10 @@ unfolding names_in
 names_append [] js = refl
 names_append (x ∷ is) js = names_further (seen x) x refl is js (names_append is js)
 
--- the variants but a declared name
-abbrev no_declared : List ℕ
-no_declared = 0 ∷ 2 ∷ 3 ∷ 4 ∷ 5 ∷ []
-
-names_last : (s : Seen) (x : Item) → s ≡ seen x → OneOf no_declared (tag s) → (before : List ℕ) → before ++ names_in (x ∷ []) ≡ named_behind s before
+names_last : (s : Seen) (x : Item) → s ≡ seen x → (s ≡ Declares → ⊥) → (before : List ℕ) → before ++ names_in (x ∷ []) ≡ named_behind s before
 unfolding names_in
 names_last (Names p) x e h before = rw (← e, names_in)
-names_last Declares x e h before = absurd (miss no_declared 1 tt h)
+names_last Declares x e h before = absurd (h refl)
 names_last Other x e h before = rw (← e, names_in) (append-nil before)
 names_last (Wants f p) x e h before = rw (← e, names_in) (append-nil before)
 names_last (Calls q k) x e h before = rw (← e, names_in) (append-nil before)
@@ -85,43 +77,49 @@ module _ (text : List ℕ) (takes : ℕ → ℕ) (before : List ℕ) (rest : Lis
   fault_by (Calls q k) x e = rw (← e, fault_from, fault_here) (either_not (eqb (length (handed rest)) (takes k)) q (fault_from text takes before rest))
   fault_by (Hands n) x e = rw (← e, fault_from, fault_here)
 
--- ---- from one place of a slice to another
+-- ---- from one item to another
 
--- the item at a place is the last of those up to there
-in_last : (l : List ℕ) (i : ℕ) → items_in (i + 1) l ≡ items_in i l ++ item_at l i ∷ []
-in_last l i =
-    let front = between_part l 0 i (i + 1) (omega arith) in
-    let back = between_here l i (i + 1) (omega arith) ∙ ap (λ is. item_at l i ∷ is) (between_none l (i + 1) (i + 1) (omega arith)) in
-    sym (take-append-drop i (items_in (i + 1) l)) ∙ rw (front, back)
+-- those from one place to another, as a part of a slice has them
+abbrev pub part : ℕ → ℕ → List Item → List Item
+part from to l = take (to - from) (drop from l)
 
-between_last : (l : List ℕ) (from i : ℕ) → from ≤ i → items_between l from (i + 1) ≡ items_between l from i ++ item_at l i ∷ []
-between_last l from i h = ap (drop from) (in_last l i) ∙ drop-append-le from (items_in i l) (item_at l i ∷ []) (rw length_items_in h)
+pub part_end : (i : ℕ) (l : List Item) → part i (length l) l ≡ drop i l
+part_end i l = take_all (length l - i) (drop i l) (rw length-drop (le_refl (length l - i)))
 
-module _ (l : List ℕ) (i : ℕ) {x : Item} {s : Seen} (e : x ≡ item_at l i) (t : s ≡ seen x) where
-  pub names_begun : s ≡ Declares → (before : List ℕ) → named_behind s before ≡ names_in (items_between l (i + 1) (i + 1))
-  names_begun h before = rw h (sym (names_end l (i + 1) (i + 1) (omega arith)))
+part_last : (l : List Item) (from i : ℕ) → from ≤ i → i < length l → (d : Item) → part from (i + 1) l ≡ part from i l ++ get_or l i d ∷ []
+part_last l from i h k d =
+    let e : (i + 1) - from ≡ suc (i - from) = omega arith in
+    let n : i - from < length (drop from l) = omega (arith, length-drop from l) in
+    let m : from + (i - from) ≡ i = omega arith in
+    rw (e, take-suc (drop from l) (i - from) d n, get_or-drop from l (i - from) d, m)
 
-  pub names_grown : (from : ℕ) → from ≤ i → OneOf no_declared (tag s) → named_behind s (names_in (items_between l from i)) ≡ names_in (items_between l from (i + 1))
-  names_grown from k h =
-      sym (names_last s x t h (names_in (items_between l from i)))
-      ∙ sym (ap names_in (between_last l from i k) ∙ rw (← e) (names_append (items_between l from i) (x ∷ [])))
+module _ (l : List Item) (i : ℕ) (k : i < length l) (d : Item) {s : Seen} (t : s ≡ seen (get_or l i d)) where
+  pub names_begun : s ≡ Declares → (before : List ℕ) → named_behind s before ≡ names_in (part (i + 1) (i + 1) l)
+  unfolding names_in
+  names_begun h before = let e : (i + 1) - (i + 1) ≡ 0 = omega arith in rw (h, e)
 
-module _ (text : List ℕ) (takes : ℕ → ℕ) (before l : List ℕ) (i to : ℕ) where
-  pub fault_none : to ≤ i → fault_from text takes before (items_between l i to) ≡ Nothing
+  pub names_grown : (from : ℕ) → from ≤ i → (s ≡ Declares → ⊥) → named_behind s (names_in (part from i l)) ≡ names_in (part from (i + 1) l)
+  names_grown from m h =
+      sym (names_last s (get_or l i d) t h (names_in (part from i l)))
+      ∙ sym (ap names_in (part_last l from i m k d) ∙ names_append (part from i l) (get_or l i d ∷ []))
+
+module _ (text : List ℕ) (takes : ℕ → ℕ) (before : List ℕ) (l : List Item) (i : ℕ) where
+  pub fault_none : length l ≤ i → fault_from text takes before (drop i l) ≡ Nothing
   unfolding fault_from
-  fault_none k = ap (fault_from text takes before) (between_none l i to k)
+  fault_none k = ap (fault_from text takes before) (drop_of_length-le l k)
 
-  pub fault_here_step : i < to → {p : ℕ} → fault_here text takes before (items_between l i to) ≡ At p → fault_from text takes before (items_between l i to) ≡ At p
-  fault_here_step k h =
-      let there = between_here l i to k in
-      ap (fault_from text takes before) there
-      ∙ fault_by text takes before (items_between l (i + 1) to) (seen (item_at l i)) (item_at l i) refl
-      ∙ rw (← there, h)
+  module _ (k : i < length l) (d : Item) where
+    pub fault_here_step : {p : ℕ} → fault_here text takes before (part i (length l) l) ≡ At p → fault_from text takes before (drop i l) ≡ At p
+    fault_here_step h =
+        let there = next_item l i k d in
+        ap (fault_from text takes before) there
+        ∙ fault_by text takes before (drop (i + 1) l) (seen (get_or l i d)) (get_or l i d) refl
+        ∙ rw (← there, ← part_end i l, h)
 
-  pub fault_later : i < to → {x : Item} {s : Seen} → x ≡ item_at l i → s ≡ seen x → fault_here text takes before (items_between l i to) ≡ Nothing
-      → fault_from text takes before (items_between l i to) ≡ fault_from text takes (named_behind s before) (items_between l (i + 1) to)
-  fault_later k {x} {s} e t h =
-      let there = item_next l i to e k in
-      ap (fault_from text takes before) there
-      ∙ fault_by text takes before (items_between l (i + 1) to) s x t
-      ∙ rw (← there, h)
+    pub fault_later : {s : Seen} → s ≡ seen (get_or l i d) → fault_here text takes before (part i (length l) l) ≡ Nothing
+        → fault_from text takes before (drop i l) ≡ fault_from text takes (named_behind s before) (drop (i + 1) l)
+    fault_later {s} t h =
+        let there = next_item l i k d in
+        ap (fault_from text takes before) there
+        ∙ fault_by text takes before (drop (i + 1) l) s (get_or l i d) t
+        ∙ rw (← there, ← part_end i l, h)

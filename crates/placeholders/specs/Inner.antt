@@ -71,7 +71,7 @@ pub record Roomy (text : List ℕ) (is : List Item) (starts : List ℕ) : Type 0
   pub fits_starts : length (beginnings (filled_in text is)) ≤ length starts
 
 -- the calls are written in
-pub record Fills (text : List ℕ) (is : List Item) (items : List ℕ) (r : Settling) (items' starts' : List ℕ) : Type 0 where
+pub record Fills (text : List ℕ) (is items : List Item) (r : Settling) (items' : List Item) (starts' : List ℕ) : Type 0 where
   pub number : r.number ≡ done
   pub place : r.place ≡ 0
   pub count : r.items ≡ length (filled_in text is)
@@ -84,7 +84,7 @@ abbrev pub left_by : Fault → List Item → List Item → List Item
 left_by Nothing is new = new
 left_by (At p) is new = is
 
-pub record Settles (text : List ℕ) (is : List Item) (items : List ℕ) (r : Settling) (items' starts' : List ℕ) : Type 0 where
+pub record Settles (text : List ℕ) (is items : List Item) (r : Settling) (items' : List Item) (starts' : List ℕ) : Type 0 where
   pub number : r.number ≡ (settled text is).number
   pub place : r.place ≡ (settled text is).place
   pub count : r.items ≡ length (left_by (fault_of text is) is (filled_in text is))

@@ -1,60 +1,48 @@
 // The names and numbers in brackets.
-ghost use Rattle.std.specs.Prelude.{◌≡◌, ◌≤◌, length, get_or, take};
+ghost use Rattle.std.specs.Prelude.{◌≡◌, length, get_or};
 ghost use Rattle.symbols.specs.Names.{name_at};
-ghost use Rattle.names.specs.Inner.{items_between};
 ghost use Rattle.placeholders.specs.Placeholders.{named, handed, is_among};
 ghost use Rattle.placeholders.specs.Filling.{given};
-ghost use Rattle.placeholders.specs.Inner.{names_in};
+ghost use Rattle.placeholders.specs.Inner.{names_in, after_by};
 
 use crate::{Seen, see};
-use grammar::items;
+use grammar::Item;
 use symbols::spelling;
 
-// Where declaration `k` of n begins; 0 for none.
-pub fn begin_of(starts: &[u32], n: usize, k: usize) -> usize
-    requires { n ≤ length starts.now }
-    ensures { result ≡ get_or (take n starts.now) k 0 }
+// The items after the name of declaration `k`; where there is none, those after the first.
+pub fn body_of<'a>(items: &'a [Item], starts: &[u32], k: usize) -> &'a [Item]
+    ensures { result.now ≡ after_by starts.now items.now k }
 {
-    if n <= k {
-        return 0;
-    }
-    starts[k] as usize
+    let begin = starts.get(k).copied().unwrap_or(0) as usize;
+    items.get(begin + 1..).unwrap_or(&[])
 }
 
-// How many placeholders the brackets name whose items begin at `from`.
-pub fn count_named(items: &[u32], from: usize, to: usize) -> usize
-    ensures { result ≡ length (named (items_between items.now from to)) }
+// How many placeholders the brackets name that the items begin with.
+pub fn count_named(items: &[Item]) -> usize
+    ensures { result ≡ length (named items.now) }
 {
-    let mut count = 0;
-    for i in from..to {
-        let Seen::Names(_) = see(items::item_at(items, i)) else {
-            return count;
-        };
-        count += 1;
-    }
-    count
+    items
+        .iter()
+        .take_while(|item| matches!(see(**item), Seen::Names(_)))
+        .count()
 }
 
-// How many numbers the brackets give whose items begin at `from`.
-pub fn count_handed(items: &[u32], from: usize, to: usize) -> usize
-    ensures { result ≡ length (handed (items_between items.now from to)) }
+// How many numbers the brackets give that the items begin with.
+pub fn count_handed(items: &[Item]) -> usize
+    ensures { result ≡ length (handed items.now) }
 {
-    let mut count = 0;
-    for i in from..to {
-        let Seen::Hands(_) = see(items::item_at(items, i)) else {
-            return count;
-        };
-        count += 1;
-    }
-    count
+    items
+        .iter()
+        .take_while(|item| matches!(see(**item), Seen::Hands(_)))
+        .count()
 }
 
-// Whether one of the placeholders that are named from `from` on has the name at `at`.
-pub fn is_among(text: &[u8], items: &[u32], from: usize, to: usize, at: usize) -> bool
-    ensures { result ≡ is_among text.now (names_in (items_between items.now from to)) (name_at text.now at) }
+// Whether one of the placeholders that the items name has the name at `at`.
+pub fn is_among(text: &[u8], items: &[Item], at: usize) -> bool
+    ensures { result ≡ is_among text.now (names_in items.now) (name_at text.now at) }
 {
-    for i in from..to {
-        if let Seen::Names(name) = see(items::item_at(items, i)) {
+    for item in items {
+        if let Seen::Names(name) = see(*item) {
             if spelling::same_name(text, name as usize, at) {
                 return true;
             }
@@ -63,31 +51,20 @@ pub fn is_among(text: &[u8], items: &[u32], from: usize, to: usize, at: usize) -
     false
 }
 
-// The number that a call, whose numbers begin at `call`, gives for the name at `at` of a retuning, whose placeholders begin at `from`.
-pub fn find_number(
-    text: &[u8],
-    items: &[u32],
-    from: usize,
-    call: usize,
-    to: usize,
-    at: usize,
-) -> u32
-    ensures { result ≡ given text.now (named (items_between items.now from to)) (handed (items_between items.now call to)) (name_at text.now at) }
+// The number that a call gives for the name at `at`, by the items after the called name and those after the call.
+pub fn find_number(text: &[u8], body: &[Item], after: &[Item], at: usize) -> u32
+    ensures { result ≡ given text.now (named body.now) (handed after.now) (name_at text.now at) }
 {
-    let mut i = from;
-    let mut j = call;
-    while (i < to) & (j < to) {
-        let Seen::Names(name) = see(items::item_at(items, i)) else {
+    for (name, number) in body.iter().zip(after) {
+        let Seen::Names(name) = see(*name) else {
             return 0;
         };
-        let Seen::Hands(number) = see(items::item_at(items, j)) else {
+        let Seen::Hands(number) = see(*number) else {
             return 0;
         };
         if spelling::same_name(text, name as usize, at) {
             return number;
         }
-        i += 1;
-        j += 1;
     }
     0
 }

@@ -5,9 +5,8 @@ mod brackets;
 mod faults;
 pub mod writing;
 
-ghost use Rattle.std.specs.Prelude.{◌≡◌, List};
-ghost use Rattle.grammar.specs.declared.Item.{Item as TheItem};
-ghost use Rattle.names.specs.Inner.{items_in, Held};
+ghost use Rattle.std.specs.Prelude.{◌≡◌, ◌≤◌, length, take};
+ghost use Rattle.grammar.specs.Items.{most_items};
 ghost use Rattle.placeholders.specs.Placeholders.{seen};
 ghost use Rattle.placeholders.specs.Inner.{Begun, Roomy, Settles};
 
@@ -68,19 +67,18 @@ fn see(item: Item) -> Seen
 // names a declaration of its own then, behind the others.
 pub fn settle(
     text: &[u8],
-    items: &mut [u32],
+    items: &mut [Item],
     count: usize,
     starts: &mut [u32],
     n: usize,
 ) -> Settling
-    ghost is: { List TheItem }
-    requires value { items_in count items.old ≡ is }
-    requires held { Held is items.old }
-    requires begun { Begun is starts.old n }
-    requires roomy { Roomy text.now is starts.old }
-    ensures { Settles text.now is items.old result items.new starts.new }
+    requires counted { count ≤ length items.old }
+    requires size { length items.old ≡ most_items }
+    requires begun { Begun (take count items.old) starts.old n }
+    requires roomy { Roomy text.now (take count items.old) starts.old }
+    ensures { Settles text.now (take count items.old) items.old result items.new starts.new }
 {
-    if let Fault::At(place) = find_fault(text, items, count, starts, n) {
+    if let Fault::At(place) = find_fault(text, &items[..count], &starts[..n]) {
         return Settling {
             number: PLACEHOLDER_WRONG,
             place,

@@ -1,23 +1,17 @@
--- The invariant: the count, with the names from the present item on, is that of all. The measure is the items that are left.
-use mathlib.Core.Path.{ap}
-use native.Mathlib.Omega.{arith}
-use borrow.Enum.Refused.{opened}
-use lib.ListN.{length}
-use Rattle.placeholders.proofs.Items.{named_end, named_more, named_stop}
+-- The chain counts the items up to the first that names no placeholder.
+-- Assumes nothing.
+use mathlib.Core.Path.{◌∙◌}
+use Rattle.std.proofs.Common.{rules, tests}
+use Rattle.std.proofs.lemmas.Iterator.{YieldsList-from_slice}
+use Rattle.std.proofs.lemmas.Iterator.Consumers.{count_from_yields_List}
+use Rattle.std.proofs.lemmas.Iterator.Search.{YieldsList-from_take_while}
+use Rattle.std.proofs.lemmas.List.Folds.{length-prefix_len}
+use Rattle.placeholders.specs.Placeholders.{seen}
+use Rattle.placeholders.proofs.Items.{is_name, count_named}
 use Rattle.placeholders.proofs.brackets.count_named.Goals as goal
 
-pub loop-i-init : goal.loop-i-init
-loop-i-init c = (omega arith, omega arith)
-
-pub returns-in_default : goal.returns-in_default
-returns-in_default c =
-    let none = named_stop _ _ _ c.item_at.ensures c.see.ensures c.loop-i-test.true (opened c.in_default.in_default-own.keys2) in
-    omega (arith, c.loop-i.invariant.1, ap length none)
-
-pub loop-i-preserved : goal.loop-i-preserved
-loop-i-preserved c =
-    let one = named_more _ _ _ c.item_at.ensures c.see.ensures c.loop-i-test.true c.in-Names.is in
-    (omega arith, omega (arith, c.loop-i.invariant.1, ap length one))
-
 pub returns : goal.returns
-returns c = let a = c.args in omega (arith, c.loop-i.invariant.1, ap length (named_end a.items.now _ _ c.loop-i-test.false))
+returns c =
+    count_from_yields_List c.take_while.result _ c.count.ensures.ran (YieldsList-from_take_while _ (λ i. is_name (seen i)) (YieldsList-from_slice c.args.items.now (cc)) c.take_while.ensures.closure c.take_while.ensures.done (λ x b q k. search (rules, tests)))
+    ∙ length-prefix_len (λ i. is_name (seen i)) c.args.items.now
+    ∙ count_named c.args.items.now

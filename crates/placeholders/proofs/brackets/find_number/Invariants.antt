@@ -1,18 +1,13 @@
--- The invariant: what is given from the present name and number on is what is given from the first on. The measure is the items that are left.
-use Prim.Native.Nat.{ℕ, ◌-◌}
+-- The invariant: the number that the pairs from the present one on give is the one that all give.
 use mathlib.Core.Path.{◌≡◌}
-use mathlib.Core.List.{List}
+use Rattle.std.specs.Iterator.Adapters.{zip_first, zip_second}
+use Rattle.std.specs.Slice.Iter.{iter_rest}
 use Rattle.symbols.specs.Names.{name_at}
-use Rattle.names.specs.Inner.{items_between}
 use Rattle.placeholders.specs.Placeholders.{named, handed}
 use Rattle.placeholders.specs.Filling.{given}
 use Rattle.placeholders.proofs.brackets.find_number.Given as goal
 
-abbrev pub number_from : List ℕ → List ℕ → ℕ → ℕ → ℕ → ℕ → ℕ
-number_from text items to at i j = given text (named (items_between items i to)) (handed (items_between items j to)) (name_at text at)
-
-abbrev pub invariant-loop-i : goal.invariant-loop-i
-invariant-loop-i l = number_from l.text l.items l.to l.at l.i l.j ≡ number_from l.text l.items l.to l.at l.from l.call
-
-abbrev pub decreases-loop-i : goal.decreases-loop-i
-decreases-loop-i l = l.to - l.i
+abbrev pub invariant-loop-name : goal.invariant-loop-name
+invariant-loop-name l =
+    given l.text (named (iter_rest (zip_first l.name-iterator))) (handed (iter_rest (zip_second l.name-iterator))) (name_at l.text l.at)
+    ≡ given l.text (named l.body) (handed l.after) (name_at l.text l.at)

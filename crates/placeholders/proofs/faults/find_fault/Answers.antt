@@ -2,34 +2,32 @@
 -- items that are left.
 use mathlib.Core.Path.{refl, sym, ◌∙◌}
 use native.Mathlib.Omega.{arith}
-use borrow.Enum.Refused.{opened}
-use Rattle.names.specs.Inner.{items_in, items_between}
+use Rattle.grammar.specs.declared.Item.TheVariants.{MutedPosition}
 use Rattle.placeholders.specs.Inner.{names_in}
-use Rattle.placeholders.proofs.Wrong.{names_begun, names_grown, fault_none, fault_here_step, fault_later}
+use Rattle.placeholders.proofs.Wrong.{part, names_begun, names_grown, fault_none, fault_here_step, fault_later}
 use Rattle.placeholders.proofs.faults.find_fault.Goals.{in-Declares, in_default-see}
 use Rattle.placeholders.proofs.faults.find_fault.Goals as goal
 
 pub loop-i-init : goal.loop-i-init
-unfolding names_in items_in
+unfolding names_in
 loop-i-init c = (omega arith, refl)
 
 pub returns-in-At : goal.returns-in-At
 returns-in-At c =
-    sym (fault_here_step _ _ _ _ _ _ c.loop-i-test.true (sym c.fault_at.ensures ∙ c.in-At.is)) ∙ c.loop-i.invariant.1
+    sym (fault_here_step _ _ _ _ _ c.loop-i-test.true MutedPosition (sym c.fault_at.ensures ∙ c.in-At.is)) ∙ c.loop-i.invariant.1
 
 pub loop-i-preserved : goal.loop-i-preserved
 loop-i-preserved c =
     let a = c.args in
     let inv = c.loop-i.invariant in
-    let e = c.item_at.ensures in
     let t = c.see.ensures in
-    let later = fault_later _ _ _ _ _ _ c.loop-i-test.true e t (sym c.fault_at.ensures ∙ c.in_default.is) in
+    let later = fault_later _ _ _ _ _ c.loop-i-test.true _ t (sym c.fault_at.ensures ∙ c.in_default.is) in
     elim c.match-see.branch [
       | in-Declares w ↦
-          (omega (arith, w.from-is), rw w.from-is (rw (← names_begun _ _ e t w.in-Declares.is (names_in (items_between a.items.now c.loop-i.from c.loop-i.i))) (sym later ∙ inv.1)))
+          (omega (arith, w.from-is), rw w.from-is (rw (← names_begun a.items.now c.loop-i.i c.loop-i-test.true _ t w.in-Declares.is (names_in (part c.loop-i.from c.loop-i.i a.items.now))) (sym later ∙ inv.1)))
       | in_default-see w ↦
-          (omega (arith, inv.0, w.from-is), rw w.from-is (rw (← names_grown _ _ e t _ inv.0 (opened w.in_default-see.in_default-see-own.keys2)) (sym later ∙ inv.1)))
+          (omega (arith, inv.0, w.from-is), rw w.from-is (rw (← names_grown a.items.now c.loop-i.i c.loop-i-test.true _ t _ inv.0 w.in_default-see.not-Declares) (sym later ∙ inv.1)))
     ]
 
 pub returns : goal.returns
-returns c = sym (fault_none _ _ _ _ _ _ c.loop-i-test.false) ∙ c.loop-i.invariant.1
+returns c = sym (fault_none _ _ _ _ _ c.loop-i-test.false) ∙ c.loop-i.invariant.1

@@ -1,12 +1,8 @@
--- The invariant: what the present item and those after it want is what all want. The measure is the items that are left.
-use Prim.Native.Nat.{◌-◌}
+-- The invariant: what the present item and those after it want is what all want.
 use mathlib.Core.Path.{◌≡◌}
-use Rattle.names.specs.Inner.{items_between}
+use lib.ListN.{drop}
 use Rattle.placeholders.specs.Filling.{wanted_by}
 use Rattle.placeholders.proofs.writing.find_wanted.Given as goal
 
-abbrev pub invariant-loop-i : goal.invariant-loop-i
-invariant-loop-i l = wanted_by (items_between l.items l.i l.to) ≡ wanted_by (items_between l.items l.from l.to)
-
-abbrev pub decreases-loop-i : goal.decreases-loop-i
-decreases-loop-i l = l.to - l.i
+abbrev pub invariant-loop-item : goal.invariant-loop-item
+invariant-loop-item l = wanted_by (drop l.item-index l.items) ≡ wanted_by l.items
