@@ -2,13 +2,14 @@
 -- Assumes nothing.
 use mathlib.Core.Path.{◌≡◌, refl, sym, ◌∙◌, ap}
 use mathlib.Core.List.{List, [], ◌∷◌, map}
+use mathlib.Core.Bool.{Bool, true, false}
 use Prim.Native.Nat.{ℕ, zero, suc, ◌+◌, ◌≤◌, ◌<◌}
 use native.Mathlib.Omega.{arith}
 use lib.ListN.{length, get_or, take, length-map, get_or-map}
 use lib.Seq.{slice}
+use Rattle.grammar.specs.declared.Kind.{Kind}
 use Rattle.grammar.specs.declared.Item.{Item}
 use Rattle.grammar.specs.declared.Item.TheVariants as item
-use Rattle.grammar.specs.Items as items
 use Rattle.names.specs.Parts.{Part, declares, gives, uses, says, part}
 use Rattle.names.specs.Inner.{beginning_by, beginnings_from, beginnings}
 use Rattle.program.specs.Program.{Program, declaration_of, up_to, parts_of, program_then, program_of}
@@ -36,41 +37,44 @@ get_d_suc [] d n h = absurd (omega arith)
 get_d_suc (x ∷ l) zero n h = refl
 get_d_suc (x ∷ l) (suc d) n h = get_d_suc l d n (omega arith)
 
--- ---- the place that an item gives
+-- ---- the item that declares a name
 
-place_in : Part → ℕ
-place_in (declares k p) = p
-place_in (gives g a b) = b
-place_in (uses u a p) = p
-place_in (says m) = 0
+is_declares : Part → Bool
+is_declares (declares k p) = true
+is_declares (gives g a b) = false
+is_declares (uses u a p) = false
+is_declares (says m) = false
 
-place_in_holds : (x : Item) → items.place x ≡ place_in (part x)
-unfolding place_in
-place_in_holds (item.Declared k p) = refl
-place_in_holds (item.Ratio p q) = refl
-place_in_holds (item.Root a b) = refl
-place_in_holds (item.Add f p) = refl
-place_in_holds (item.Subtract f p) = refl
-place_in_holds (item.Frequency f) = refl
-place_in_holds (item.Base p) = refl
-place_in_holds (item.AnchorKey n) = refl
-place_in_holds item.MutedPosition = refl
-place_in_holds item.KeptPosition = refl
-place_in_holds (item.TonePosition p) = refl
-place_in_holds item.AnchorKept = refl
-place_in_holds (item.Amount f n) = refl
-place_in_holds item.WidthKept = refl
-place_in_holds item.Period = refl
-place_in_holds item.Onward = refl
-place_in_holds (item.Letter c) = refl
-place_in_holds (item.Start q p) = refl
-place_in_holds (item.Order q p) = refl
-place_in_holds (item.Trigger p) = refl
-place_in_holds (item.Key v) = refl
-place_in_holds (item.StarredKey v) = refl
-place_in_holds (item.AmountName f p) = refl
-place_in_holds (item.Placeholder p) = refl
-place_in_holds (item.Argument v) = refl
+other : {A : Type 0} → ◌≡◌ {A = Bool} false true → A
+other e = let z : ◌≡◌ {A = ℕ} 0 1 = cc in absurd (omega arith)
+
+declared_item : (x : Item) (k : Kind) (p : ℕ) → part x ≡ declares k p → x ≡ item.Declared k p
+unfolding is_declares
+declared_item (item.Declared k p) l q e = cc
+declared_item (item.Ratio a b) l q e = other (ap is_declares e)
+declared_item (item.Root a b) l q e = other (ap is_declares e)
+declared_item (item.Add a b) l q e = other (ap is_declares e)
+declared_item (item.Subtract a b) l q e = other (ap is_declares e)
+declared_item (item.Frequency a) l q e = other (ap is_declares e)
+declared_item (item.Base a) l q e = other (ap is_declares e)
+declared_item (item.AnchorKey a) l q e = other (ap is_declares e)
+declared_item item.MutedPosition l q e = other (ap is_declares e)
+declared_item item.KeptPosition l q e = other (ap is_declares e)
+declared_item (item.TonePosition a) l q e = other (ap is_declares e)
+declared_item item.AnchorKept l q e = other (ap is_declares e)
+declared_item (item.Amount a b) l q e = other (ap is_declares e)
+declared_item item.WidthKept l q e = other (ap is_declares e)
+declared_item item.Period l q e = other (ap is_declares e)
+declared_item item.Onward l q e = other (ap is_declares e)
+declared_item (item.Letter a) l q e = other (ap is_declares e)
+declared_item (item.Start a b) l q e = other (ap is_declares e)
+declared_item (item.Order a b) l q e = other (ap is_declares e)
+declared_item (item.Trigger a) l q e = other (ap is_declares e)
+declared_item (item.Key a) l q e = other (ap is_declares e)
+declared_item (item.StarredKey a) l q e = other (ap is_declares e)
+declared_item (item.AmountName a b) l q e = other (ap is_declares e)
+declared_item (item.Placeholder a) l q e = other (ap is_declares e)
+declared_item (item.Argument a) l q e = other (ap is_declares e)
 
 -- ---- the items up to the first declared name
 
@@ -112,7 +116,7 @@ record Stands (p : Program) (bs : List ℕ) (is : List Item) (d : ℕ) : Type 0 
   ordered : from bs d ≤ to bs (length is) d
   within : to bs (length is) d ≤ length is
   body : declaration_at p d ≡ declaration_of (slice (from bs d) (to bs (length is) d) is)
-  place : (none : Item) → (get_or p d nothing).place ≡ items.place (get_or is (get_or bs d 0) none)
+  names : (none : Item) → (k : Kind) × (get_or is (get_or bs d 0) none ≡ item.Declared k (get_or p d nothing).place)
 
 stands_later : (x : Item) {p : Program} {bs : List ℕ} {is : List Item} {d : ℕ} → d < length bs → Stands p bs is d → Stands p (map suc bs) (x ∷ is) d
 stands_later x {p} {bs} {is} {d} h s =
@@ -125,11 +129,11 @@ stands_later x {p} {bs} {is} {d} h s =
       ordered = omega arith;
       within = omega arith;
       body = rw (f, b) s.body;
-      place = λ none. rw a (s.place none);
+      names = λ none. rw a (s.names none);
     }
 
 stands : (is : List Item) (d : ℕ) → d < length (beginnings is) → Stands (program_of is) (beginnings is) is d
-unfolding beginnings_from program_of place_in
+unfolding beginnings_from program_of
 stands [] d h = absurd (omega arith)
 stands (x ∷ is) d h = rw one_later (go (part x) refl d (rw one_later at h) (stands is))
   where
@@ -147,12 +151,12 @@ stands (x ∷ is) d h = rw one_later (go (part x) refl d (rw one_later at h) (st
           ordered = omega arith;
           within = omega arith;
           body = rw b (ap declaration_of f.parts);
-          place = λ none. sym (place_in_holds x ∙ ap place_in e);
+          names = λ none. (k, declared_item x k p e);
         }
     go (declares k p) e (suc d) h s =
         let m : d < length (map suc (beginnings is)) = omega arith in
         let l = stands_later x (within m) (s d (within m)) in
-        record { ordered = l.ordered; within = l.within; body = l.body; place = l.place }
+        record { ordered = l.ordered; within = l.within; body = l.body; names = l.names }
     go (gives g a b) e d h s = stands_later x (within h) (s d (within h))
     go (uses u a b) e d h s = stands_later x (within h) (s d (within h))
     go (says m) e d h s = stands_later x (within h) (s d (within h))
@@ -179,5 +183,5 @@ module _ (is : List Item) (d : ℕ) (h : d < length (beginnings is)) where
   pub body_at : declaration_at (program_of is) d ≡ declaration_of (slice (from (beginnings is) d) (to (beginnings is) (length is) d) is)
   body_at = (stands is d h).body
 
-  pub place_at : (none : Item) → (get_or (program_of is) d nothing).place ≡ items.place (get_or is (get_or (beginnings is) d 0) none)
-  place_at none = (stands is d h).place none
+  pub name_at : (none : Item) → (k : Kind) × (get_or is (get_or (beginnings is) d 0) none ≡ item.Declared k (get_or (program_of is) d nothing).place)
+  name_at none = (stands is d h).names none
