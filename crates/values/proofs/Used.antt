@@ -1,43 +1,36 @@
 -- The uses of a value: their declarations are its references, and gathered one by one they give what the definition says.
-use Prim.Native.Nat.{ℕ, zero, suc, ◌+◌, ◌-◌, ◌*◌, ◌≤◌, ◌<◌}
+use Prim.Native.Nat.{ℕ, zero, suc, ◌+◌, ◌<◌, ◌≤◌}
 use mathlib.Core.Path.{◌≡◌, refl, sym, ◌∙◌, ap}
 use mathlib.Core.List.{List, [], ◌∷◌, ◌++◌, map}
 use native.Mathlib.Omega.{arith}
-use borrow.Author.Rules.{rules}
-use borrow.Author.Tests.{ne_eqb}
-use lib.IntN.{ℤ, pos, nat_abs}
-use lib.ListN.{length, get_or}
-use lib.Seq.{slice}
-use Rattle.values.specs.declared.Value.{Value}
-use Rattle.values.specs.declared.Value.TheVariants.{Exactly}
-use Rattle.values.specs.declared.uses.Use.{Use as CodeUse}
-use Rattle.values.specs.declared.uses.Use.TheVariants.{Nothing, Base, Term as ATerm}
+use lib.IntN.{pos}
+use lib.ListN.{length, get_or, drop, drop_of_length-le}
+use Rattle.std.specs.Prelude.{Option, Some, None, option_map, option_to_list}
+use Rattle.values.specs.declared.Row.{Row}
+use Rattle.values.specs.declared.uses.Use.{Use}
+use Rattle.values.specs.declared.uses.Use.TheVariants as use'
 use Rattle.values.specs.declared.sums.Parts.{Parts}
-use types.Run.{OneOf, miss}
-use denote.Enum.Declared.{tag_of}
-use Rattle.values.specs.contracts.uses.Use as variants
 use Rattle.values.specs.Values as values
-use Rattle.values.specs.Values.{Term, Origin, interval, pitch, Own, plus, total, summed, start_of, shifted, of_origin, references}
-use Rattle.values.specs.Rows.{terms_per_row, per_declaration, term_of, terms_of, pitch_form, base_form, origin_of, own_in, Declared}
-use Rattle.values.specs.Inner.{Use, base, term, used_in, base_of, uses_of, use_in, used_by, Readable, uses_from, begun, taken, taken_at, gathered, joined}
-use Rattle.values.proofs.Terms.{terms_skip, terms_on, terms_out}
+use Rattle.values.specs.Values.{Term, Origin, interval, pitch, Own, Value, plus, total, summed, start_of, shifted, of_origin, references}
+use Rattle.values.specs.Rows.{row_terms, row_own}
+use Rattle.values.specs.Inner.{used_in, base_of, use_in, uses_of, begun, taken, gathered, joined}
 
 -- ---- one by one
 
-of_terms : (ts : List Term) → map used_in (map term ts) ≡ map (λ (t : Term). t.of) ts
+of_terms : (ts : List Term) → map used_in (map use'.Term ts) ≡ map (λ (t : Term). t.of) ts
 of_terms [] = refl
 of_terms (t ∷ ts) = ap (λ rs. t.of ∷ rs) (of_terms ts)
 
 pub of_uses : (o : Own) → map used_in (uses_of o) ≡ references o
 of_uses o = go o.origin
   where
-    go : (x : Origin) → map used_in (base_of x ++ map term o.terms) ≡ of_origin x ++ map (λ (t : Term). t.of) o.terms
+    go : (x : Origin) → map used_in (option_to_list (base_of x) ++ map use'.Term o.terms) ≡ of_origin x ++ map (λ (t : Term). t.of) o.terms
     go (interval d) = of_terms o.terms
     go (pitch p) = of_terms o.terms
     go (values.base k) = ap (λ rs. k ∷ rs) (of_terms o.terms)
 
 module _ (value : ℕ → Value) where
-  gathered_terms : (a b : Value) (ts : List Term) → gathered value (record { start = a; sum = b }) (map term ts) ≡ record { start = a; sum = total value b ts }
+  gathered_terms : (a b : Value) (ts : List Term) → gathered value (record { start = a; sum = b }) (map use'.Term ts) ≡ record { start = a; sum = total value b ts }
   unfolding gathered total
   gathered_terms a b [] = refl
   gathered_terms a b (t ∷ ts) = gathered_terms a (plus b t (value t.of)) ts
@@ -46,98 +39,40 @@ module _ (value : ℕ → Value) where
   unfolding gathered
   gathered_all o = go o.origin
     where
-      go : (x : Origin) → joined (gathered value (begun x) (base_of x ++ map term o.terms)) ≡ shifted (start_of value x) (summed value o.terms)
-      go (interval d) = ap joined (gathered_terms (Exactly d) (Exactly (pos 0)) o.terms)
-      go (pitch p) = ap joined (gathered_terms (Exactly p) (Exactly (pos 0)) o.terms)
-      go (values.base k) = ap joined (gathered_terms (value k) (Exactly (pos 0)) o.terms)
+      go : (x : Origin) → joined (gathered value (begun x) (option_to_list (base_of x) ++ map use'.Term o.terms)) ≡ shifted (start_of value x) (summed value o.terms)
+      go (interval d) = ap joined (gathered_terms (Some d) (Some (pos 0)) o.terms)
+      go (pitch p) = ap joined (gathered_terms (Some p) (Some (pos 0)) o.terms)
+      go (values.base k) = ap joined (gathered_terms (value k) (Some (pos 0)) o.terms)
 
--- ---- as the code reads them
+-- ---- place by place, as a row has them
 
-pub record AUse (x : CodeUse) : Type 0 where
-  pub use' : Use
-  pub read : use_in x ≡ use' ∷ []
-  pub of : used_by x ≡ used_in use'
-  pub taking : (s : Parts) (v : Value) → taken_at s x v ≡ taken s use' v
+-- the uses of a row from a place on
+abbrev pub uses_from : Row → ℕ → List Use
+uses_from r zero = uses_of (row_own r)
+uses_from r (suc j) = map use'.Term (row_terms (drop j r.terms))
 
--- a place is passed on where there is nothing, and has a use where there is something
-abbrev something : List ℕ
-something = 1 ∷ 2 ∷ []
+terms_step : (l : List (Option Term)) (j : ℕ) → map use'.Term (row_terms (drop j l)) ≡ option_to_list (option_map use'.Term (get_or l j None)) ++ map use'.Term (row_terms (drop (suc j) l))
+terms_step [] zero = refl
+terms_step [] (suc j) = refl
+terms_step (None ∷ l) zero = refl
+terms_step (Some t ∷ l) zero = refl
+terms_step (x ∷ l) (suc j) = terms_step l j
 
-pub a_use : (x : CodeUse) → OneOf something (tag_of variants.the_type x) → AUse x
-a_use Nothing h = absurd (miss something 0 tt h)
-a_use (Base k) h = record { use' = base k; read = refl; of = refl; taking = λ s v. refl }
-a_use (ATerm c) h = record { use' = term (term_of c); read = refl; of = refl; taking = λ s v. refl }
+uses_step : (r : Row) (j : ℕ) → uses_from r j ≡ option_to_list (use_in r j) ++ uses_from r (suc j)
+uses_step r zero = refl
+uses_step r (suc j) = terms_step r.terms j
 
-pub a_use_else : (x : CodeUse) → (x ≡ Nothing → ⊥) → AUse x
-a_use_else Nothing h = absurd (h refl)
-a_use_else (Base k) h = a_use (Base k) (search rules)
-a_use_else (ATerm c) h = a_use (ATerm c) (search rules)
+module _ (r : Row) (j : ℕ) {x : Option Use} (e : x ≡ use_in r j) where
+  -- a place is passed on where there is nothing, and has a use where there is something
+  pub place_passed : x ≡ None → uses_from r j ≡ uses_from r (j + 1)
+  place_passed h = let q : j + 1 ≡ suc j = omega arith in rw q (uses_step r j ∙ ap (λ y. option_to_list y ++ uses_from r (suc j)) (sym e ∙ h))
 
-pub place_passed : (x : CodeUse) {all rest : List Use} → Nothing ≡ x → all ≡ use_in x ++ rest → all ≡ rest
-place_passed x {rest} n e = e ∙ ap (λ y. use_in y ++ rest) (sym n)
+  pub place_used : {u : Use} → x ≡ Some u → uses_from r j ≡ u ∷ uses_from r (j + 1)
+  place_used h = let q : j + 1 ≡ suc j = omega arith in rw q (uses_step r j ∙ ap (λ y. option_to_list y ++ uses_from r (suc j)) (sym e ∙ h))
 
-pub place_used : (x : CodeUse) (u : AUse x) {all rest : List Use} → all ≡ use_in x ++ rest → all ≡ u.use' ∷ rest
-place_used x u {rest} e = e ∙ ap (λ us. us ++ rest) u.read
+pub uses_out : (r : Row) (j : ℕ) → length r.terms < j → uses_from r j ≡ []
+uses_out r zero h = absurd (omega arith)
+uses_out r (suc j) h = ap (λ l. map use'.Term (row_terms l)) (drop_of_length-le r.terms (omega arith))
 
-module _ {form : ℕ} (start : ℤ) where
-  pub pitch_form_step : form ≡ pitch_form → pitch start ≡ origin_of form start
-  pitch_form_step e = rw e
-
-  pub base_form_step : form ≡ base_form → values.base (nat_abs start) ≡ origin_of form start
-  base_form_step e = rw e
-
-  pub interval_form_step : (form ≡ pitch_form → ⊥) → (form ≡ base_form → ⊥) → interval start ≡ origin_of form start
-  interval_form_step d e = rw (ne_eqb _ pitch_form d, ne_eqb _ base_form e)
-
-module _ (forms : List ℕ) (starts : List ℤ) (terms : List ℕ) (row : ℕ) where
-  -- at place 0 there is the base
-  pub uses_base : (x : CodeUse) {j : ℕ} → j ≡ 0 → use_in x ≡ base_of (origin_of (get_or forms row 0) (get_or starts row (pos 0)))
-      → uses_from forms starts terms row j ≡ use_in x ++ uses_from forms starts terms row (j + 1)
-  unfolding uses_from
-  uses_base x e f =
-      let z : row * terms_per_row + 0 ≡ row * terms_per_row = omega arith in
-      rw (e, f, z)
-
-  -- at each other a term, or nothing
-  module _ {j : ℕ} (n : j ≡ 0 → ⊥) (l : j ≤ terms_per_row) (h : row * terms_per_row + terms_per_row ≤ length terms) where
-    from_here : uses_from forms starts terms row j ≡ map term (terms_of (slice (row * terms_per_row + (j - 1)) (row * terms_per_row + terms_per_row) terms))
-    unfolding uses_from
-    from_here = let e : j ≡ suc (j - 1) = omega arith in ap (uses_from forms starts terms row) e
-
-    from_next : map term (terms_of (slice (row * terms_per_row + (j - 1) + 1) (row * terms_per_row + terms_per_row) terms)) ≡ uses_from forms starts terms row (j + 1)
-    unfolding uses_from
-    from_next =
-        let e : row * terms_per_row + (j - 1) + 1 ≡ row * terms_per_row + j = omega arith in
-        let f : suc j ≡ j + 1 = omega arith in
-        ap (λ i. map term (terms_of (slice i (row * terms_per_row + terms_per_row) terms))) e ∙ ap (uses_from forms starts terms row) f
-
-    pub uses_skip : get_or terms (row * terms_per_row + (j - 1)) 0 < per_declaration → uses_from forms starts terms row j ≡ uses_from forms starts terms row (j + 1)
-    uses_skip q =
-        from_here ∙ ap (map term) (terms_skip terms (row * terms_per_row + (j - 1)) (row * terms_per_row + terms_per_row) (omega arith) h q) ∙ from_next
-
-    pub uses_on : per_declaration ≤ get_or terms (row * terms_per_row + (j - 1)) 0
-        → uses_from forms starts terms row j ≡ term (term_of (get_or terms (row * terms_per_row + (j - 1)) 0)) ∷ uses_from forms starts terms row (j + 1)
-    uses_on q =
-        from_here
-        ∙ ap (map term) (terms_on terms (row * terms_per_row + (j - 1)) (row * terms_per_row + terms_per_row) (omega arith) h q)
-        ∙ ap (λ us. term (term_of (get_or terms (row * terms_per_row + (j - 1)) 0)) ∷ us) from_next
-
-  pub uses_out : {j : ℕ} → suc terms_per_row ≤ j → uses_from forms starts terms row j ≡ []
-  unfolding uses_from
-  uses_out {j = zero} h = absurd (omega arith)
-  uses_out {j = suc j} h = ap (map term) (terms_out terms (row * terms_per_row + j) (row * terms_per_row + terms_per_row) (omega arith))
-
-  pub uses_all : uses_of (own_in forms starts terms row) ≡ uses_from forms starts terms row 0
-  unfolding uses_from
-  uses_all = refl
-
-  pub refs_all : references (own_in forms starts terms row) ≡ map used_in (uses_from forms starts terms row 0)
-  refs_all = sym (of_uses (own_in forms starts terms row)) ∙ ap (map used_in) uses_all
-
-pub readable : {n : ℕ} {forms : List ℕ} {starts : List ℤ} {terms : List ℕ} {row : ℕ} → Declared n forms starts terms → row < n → Readable forms starts row
-readable {row} h l =
-    record {
-      form = omega (arith, h.few, h.all_forms);
-      start = omega (arith, h.few, h.all_starts);
-      numbered = λ e. let b = h.based row e in (b.0, b.2);
-    }
+pub refs_all : (r : Row) → references (row_own r) ≡ map used_in (uses_from r 0)
+refs_all r = sym (of_uses (row_own r))

@@ -1,11 +1,11 @@
 // "Sequences add factor times measure": values, terms and ranges.
-ghost use Rattle.std.specs.Prelude.{◌≡◌, ◌+◌, ◌≤◌, ◌<◌, nat_abs, ◌+ℤ◌, ◌*ℤ◌};
-ghost use Rattle.values.specs.Values.{Range, farthest_tone, within, ranged, plus, shifted, weight};
-ghost use Rattle.values.specs.Rows.{per_declaration, term_of, range_of};
-ghost use Rattle.values.specs.Inner.{size, greatest_factor, largest_measure, largest_term, largest_sum, meant, starting_at, begun, taken_at, Small};
+ghost use Rattle.std.specs.Prelude.{◌≡◌, ◌+◌, ◌≤◌, nat_abs};
+ghost use Rattle.values.specs.Values.{farthest_tone, within, ranged, plus, shifted, weight};
+ghost use Rattle.values.specs.Rows.{meant};
+ghost use Rattle.values.specs.Inner.{size, largest_factor, largest_measure, largest_term, largest_sum, begun, taken, Small};
 
 use crate::uses::Use;
-use crate::{FACTORS, Origin, PER_DECLARATION, PERIOD_FORM, Value};
+use crate::{Origin, Range, Term, Value};
 use limits::{FARTHEST_TONE, LONGEST_PERIOD};
 
 // What a value starts from, and the sum of its terms.
@@ -15,132 +15,84 @@ pub struct Parts {
     pub sum: Value,
 }
 
-const LOWEST_TONE: i64 = -HIGHEST_TONE;
+const HIGHEST_TONE: i64 = FARTHEST_TONE as i64;
 
-pub const HIGHEST_TONE: i64 = FARTHEST_TONE as i64;
+const LOWEST_TONE: i64 = -HIGHEST_TONE;
 
 const HIGHEST_PERIOD: i64 = LONGEST_PERIOD as i64;
 
-// Whether it is in the range of intervals and tones.
-fn fits_tone(z: i64) -> bool
-    ensures { result ≡ within Range.tone z }
-{
-    LOWEST_TONE <= z && z <= HIGHEST_TONE
-}
-
-// Whether a value is in the range of its row.
-pub fn fits_range(form: u8, z: i64) -> bool
-    ensures { result ≡ within (range_of form) z }
-{
-    if form == PERIOD_FORM {
-        return 0 <= z && z <= HIGHEST_PERIOD;
+impl Range {
+    fn contains(self, z: i64) -> bool
+        ensures { result ≡ within self z }
+    {
+        match self {
+            Range::Tone => LOWEST_TONE <= z && z <= HIGHEST_TONE,
+            Range::Period => 0 <= z && z <= HIGHEST_PERIOD,
+        }
     }
-    fits_tone(z)
-}
 
-pub fn limit_tone(v: Value) -> Value
-    ensures { (result ≡ ranged Range.tone v) × (size result ≤ farthest_tone) }
-{
-    let Value::Exactly(z) = v else {
-        return Value::Beyond;
-    };
-    if fits_tone(z) {
-        Value::Exactly(z)
-    } else {
-        Value::Beyond
+    // The value, unless it is out of range.
+    #[tactic(auto, unfolding(crate::specs::Values::ranged))]
+    pub fn limit(self, value: Value) -> Value
+        ensures { result ≡ ranged self value }
+    {
+        let z = value?;
+        if self.contains(z) { Some(z) } else { None }
     }
-}
-
-// The declaration that a term is of.
-pub fn decode_declaration(term: u32) -> usize
-    requires { per_declaration ≤ term }
-    ensures { result ≡ (term_of term).of }
-{
-    (term / PER_DECLARATION) as usize - 1
 }
 
 // The factor of a term, with its sign.
-fn weigh(term: u32) -> i64
-    ensures { (result ≡ weight (term_of term)) × (nat_abs result ≤ greatest_factor) }
+fn weigh(term: Term) -> i64
+    ensures { (result ≡ weight term) × (nat_abs result ≤ largest_factor) }
 {
-    let factor = (term % FACTORS) as i64;
-    if FACTORS <= term % PER_DECLARATION {
-        0 - factor
-    } else {
-        factor
-    }
+    let factor = i64::from(term.factor);
+    if term.minus { -factor } else { factor }
 }
 
-fn add_product(s: i64, z: i64, w: i64) -> i64
-    requires { (nat_abs s ≤ largest_sum) × (nat_abs z ≤ farthest_tone) × (nat_abs w ≤ greatest_factor) }
-    ensures { (result ≡ s +ℤ z *ℤ w) × (nat_abs result ≤ nat_abs s + largest_term) }
+// The sum with one term more, whose declaration has this value.
+#[tactic(auto, unfolding(crate::specs::Values::plus))]
+fn add_term(sum: Value, term: Term, value: Value) -> Value
+    requires { (size sum ≤ largest_sum) × (size value ≤ farthest_tone) }
+    ensures { (result ≡ plus sum term value) × (size result ≤ size sum + largest_term) }
 {
-    s + z * w
-}
-
-// The sum with one term more, whose declaration has the value v.
-fn add_term(sum: Value, term: u32, v: Value) -> Value
-    requires { (size sum ≤ largest_sum) × (size v ≤ farthest_tone) }
-    ensures { (result ≡ plus sum (term_of term) v) × (size result ≤ size sum + largest_term) }
-{
-    let Value::Exactly(s) = sum else {
-        return Value::Beyond;
-    };
-    let Value::Exactly(z) = v else {
-        return Value::Beyond;
-    };
-    Value::Exactly(add_product(s, z, weigh(term)))
-}
-
-fn begin_at(start: i32) -> Parts
-    ensures { (result ≡ starting_at start) × Small result largest_sum }
-{
-    Parts {
-        start: Value::Exactly(start as i64),
-        sum: Value::Exactly(0),
-    }
+    Some(sum? + value? * weigh(term))
 }
 
 // What a value starts from, and no sum yet; the value of a base is taken later.
 pub fn begin(origin: Origin) -> Parts
     ensures { (result ≡ begun (meant origin)) × Small result largest_sum }
 {
-    match origin {
-        Origin::Interval(d) => begin_at(d.0),
-        Origin::Pitch(p) => begin_at(p.0),
-        Origin::Base(_) => begin_at(0),
+    let start = match origin {
+        Origin::Interval(d) => i64::from(d.0),
+        Origin::Pitch(p) => i64::from(p.0),
+        Origin::Base(_) => 0,
+    };
+    Parts {
+        start: Some(start),
+        sum: Some(0),
     }
 }
 
-// With one use more, whose declaration has the value v.
-pub fn take(parts: Parts, used: Use, v: Value) -> Parts
-    requires { Small parts largest_term × (size v ≤ farthest_tone) }
-    ensures { (result ≡ taken_at parts used v) × (size result.start ≤ largest_measure) × (size result.sum ≤ size parts.sum + largest_term) }
+// With one use more, whose declaration has this value.
+pub fn take(parts: Parts, used: Use, value: Value) -> Parts
+    requires { Small parts largest_term × (size value ≤ farthest_tone) }
+    ensures { (result ≡ taken parts used value) × (size result.start ≤ largest_measure) × (size result.sum ≤ size parts.sum + largest_term) }
 {
-    let start = parts.start;
-    let sum = parts.sum;
+    let Parts { start, sum } = parts;
     match used {
-        Use::Nothing => parts,
-        Use::Base(_) => Parts { start: v, sum },
+        Use::Base(_) => Parts { start: value, sum },
         Use::Term(term) => Parts {
             start,
-            sum: add_term(sum, term, v),
+            sum: add_term(sum, term, value),
         },
     }
 }
 
 // The start shifted by the sum.
+#[tactic(auto, unfolding(crate::specs::Values::shifted))]
 pub fn shift(parts: Parts) -> Value
     requires { Small parts 0 }
     ensures { result ≡ shifted parts.start parts.sum }
 {
-    let start = parts.start;
-    let sum = parts.sum;
-    let Value::Exactly(p) = start else {
-        return Value::Beyond;
-    };
-    let Value::Exactly(d) = sum else {
-        return Value::Beyond;
-    };
-    Value::Exactly(p + d)
+    Some(parts.start? + parts.sum?)
 }

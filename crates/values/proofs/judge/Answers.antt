@@ -2,14 +2,14 @@
 use Rattle.values.specs.Values.{verdict}
 use Rattle.values.proofs.judge.Goals as goal
 
-pub returns-in-At : goal.returns-in-At
+pub returns-in-Some : goal.returns-in-Some
 unfolding verdict
-returns-in-At c = simp (← c.find_circular.ensures, c.in-At.is)
+returns-in-Some c = simp (← c.find_circular.ensures, c.in-Some.is)
 
-pub returns-in_default-find_beyond : goal.returns-in_default-find_beyond
+pub returns-in-Some-find_beyond : goal.returns-in-Some-find_beyond
 unfolding verdict
-returns-in_default-find_beyond c = simp (← c.find_circular.ensures, c.in_default.is, ← c.find_beyond.ensures, c.in_default-find_beyond.is)
+returns-in-Some-find_beyond c = rw (← c.find_circular.ensures, c.in_default.is, ← c.find_beyond.ensures, c.in-Some-find_beyond.is)
 
-pub returns : goal.returns
+pub returns-in-None : goal.returns-in-None
 unfolding verdict
-returns c = simp (← c.find_circular.ensures, c.in_default.is, ← c.find_beyond.ensures, c.in-At-find_beyond.is)
+returns-in-None c = rw (← c.find_circular.ensures, c.in_default.is, ← c.find_beyond.ensures, c.in-None.is)

@@ -1,39 +1,25 @@
 -- The loop's invariant: the first from here on is the first of all.
-use mathlib.Core.Path.{sym, ◌∙◌}
-use native.Mathlib.Omega.{arith}
+use mathlib.Core.Path.{◌≡◌, sym, ◌∙◌}
+use mathlib.Core.Bool.{false}
+use borrow.Author.Rules.{rules}
+use lib.ListN.{length}
 use Rattle.values.specs.Values.{circular}
 use Rattle.values.specs.Rows.{own_in}
-use Rattle.values.proofs.First.{first_start, first_on, first_hit, first_out}
-use Rattle.values.proofs.circular.find_circular.Goals.{At-loop-i, Start}
+use Rattle.values.proofs.First.{first_on, first_hit, first_out}
+use Rattle.values.proofs.circular.find_circular.Goals.{else-is_none-via-then-is_none+else-is_circular, else-is_none-via-else-is_none}
 use Rattle.values.proofs.circular.find_circular.Goals as goal
 
-pub loop-i-init : goal.loop-i-init
-loop-i-init c = first_start _ _
-
-pub is_known-requires : goal.is_known-requires
-is_known-requires c = omega (arith, c.requires.0.few, c.requires.1)
-
-pub loop-i-preserved-then-is_known : goal.loop-i-preserved-then-is_known
-loop-i-preserved-then-is_known c =
-    let start = (goal.at.loop-i-preserved-then-is_known c).Start in
-    first_on (circular (own_in start.args.forms.now start.args.starts.now start.args.terms.now) start.args.n) _ _ c.loop-i-test.true (start.requires.2 _ c.loop-i-test.true (sym c.is_known.ensures ∙ c.if-is_known.true)) ∙ c.loop-i.invariant
-
-pub is_circular-requires : goal.is_circular-requires
-is_circular-requires c =
-    let start = (goal.at.is_circular-requires c).Start in
-    (start.requires.0, omega (arith, c.loop-i-test.true))
-
 pub returns-then-is_circular : goal.returns-then-is_circular
-returns-then-is_circular c =
-    let turn = (goal.at.returns-then-is_circular c).At-loop-i in
-    let start = (goal.at.returns-then-is_circular c).Start in
-    first_hit (circular (own_in start.args.forms.now start.args.starts.now start.args.terms.now) start.args.n) _ _ c.loop-i-test.true (sym c.is_circular.ensures ∙ c.if-is_circular.true) ∙ turn.loop-i.invariant
+returns-then-is_circular c = first_hit _ _ _ c.loop-row-test.true (sym c.is_circular.ensures ∙ c.if-is_circular.true) ∙ c.loop-row.invariant
 
-pub loop-i-preserved : goal.loop-i-preserved
-loop-i-preserved c =
-    let turn = (goal.at.loop-i-preserved c).At-loop-i in
-    let start = (goal.at.loop-i-preserved c).Start in
-    first_on (circular (own_in start.args.forms.now start.args.starts.now start.args.terms.now) start.args.n) _ _ c.loop-i-test.true (sym c.is_circular.ensures ∙ c.if-is_circular.false) ∙ turn.loop-i.invariant
+pub loop-row-preserved : goal.loop-row-preserved
+loop-row-preserved c = first_on _ _ _ c.loop-row-test.true passed ∙ c.loop-row.invariant
+  where
+    passed : circular (own_in c.args.rows.now) (length c.args.rows.now) c.loop-row.row ≡ false
+    passed = elim c.else-is_none.branch [
+      | else-is_none-via-then-is_none+else-is_circular w ↦ sym w.is_circular.ensures ∙ w.if-is_circular.false
+      | else-is_none-via-else-is_none w ↦ c.requires.2 c.loop-row.row c.loop-row-test.true (search rules)
+    ]
 
 pub returns : goal.returns
-returns c = first_out _ _ _ c.loop-i-test.false ∙ c.loop-i.invariant
+returns c = first_out _ _ _ c.loop-row-test.false ∙ c.loop-row.invariant

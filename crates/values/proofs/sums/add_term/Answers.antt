@@ -1,33 +1,46 @@
--- By the two values; a sum of both is in range by its bounds.
+-- Neither the product nor the sum leaves the range of an `i64`.
+use Prim.Native.Nat.{◌+◌, ◌≤◌}
+use mathlib.Core.Path.{◌≡◌, refl, sym, ap, subst, ◌∙◌}
 use borrow.Author.Rules.{rules}
+use lib.IntN.{ℤ, nat_abs, ◌+ℤ◌, ◌*ℤ◌}
 use mir.Facts.{to_z-of_z}
 use mir.Syntax.{w64}
-use mir.Val.{SFits}
-use Rattle.values.proofs.Totals.{plus_first, plus_second, plus_both, size_of}
-use Rattle.values.proofs.sums.add_term.Goals.{Start}
+use mir.Val.{SFits, to_z, of_z}
+use Rattle.integers.proofs.Signed.{signed, sum, mul_size, mul_bound}
+use Rattle.std.specs.Prelude.{Option, Some}
+use Rattle.values.specs.Values.{Term, Value, farthest_tone, plus, weight}
+use Rattle.values.specs.Inner.{size, largest_factor, largest_term, largest_sum}
 use Rattle.values.proofs.sums.add_term.Goals as goal
 
-pub returns-in_default : goal.returns-in_default
-returns-in_default c = plus_first _ _ _ c.in_default.is
+module _ (s z w : ℤ) (a : nat_abs s ≤ largest_sum) (b : nat_abs z ≤ farthest_tone) (c : nat_abs w ≤ largest_factor) where
+  product : nat_abs (z *ℤ w) ≤ largest_term
+  product = omega (signed, mul_size z w, mul_bound b c)
 
-pub returns-in_default-v : goal.returns-in_default-v
-returns-in_default-v c = plus_second _ _ _ c.in-Exactly.is c.in_default-v.is
+  bound : nat_abs (s +ℤ z *ℤ w) ≤ nat_abs s + largest_term
+  bound = let p = product in omega (signed, sum s (z *ℤ w))
 
-pub add_product-requires : goal.add_product-requires
-add_product-requires c =
-    let start = (goal.at.add_product-requires c).Start in
-    let f : SFits w64 c.in-Exactly-v.z = search rules in
-    let g : SFits w64 c.in-Exactly.s = search rules in
-    let h : SFits w64 c.weigh.result = search rules in (
-      simp to_z-of_z (size_of _ c.in-Exactly.is start.requires.0),
-      simp to_z-of_z (size_of _ c.in-Exactly-v.is start.requires.1),
-      simp to_z-of_z c.weigh.ensures.1,
-    )
+  -- what the machine makes of it
+  made : to_z w64 (of_z w64 (s +ℤ to_z w64 (of_z w64 (z *ℤ w)))) ≡ s +ℤ z *ℤ w
+  made =
+      let p = product in
+      let q = bound in
+      let f : SFits w64 (z *ℤ w) = omega signed in
+      let g : SFits w64 (s +ℤ z *ℤ w) = omega signed in
+      rw (to_z-of_z f, to_z-of_z g)
+
+summed : {a b : Value} {s z w : ℤ} (t : Term) → a ≡ Some s → b ≡ Some z → w ≡ weight t → Some (s +ℤ z *ℤ w) ≡ plus a t b
+unfolding plus
+summed t e f g = rw (e, f, g)
 
 pub returns : goal.returns
 returns c =
-    let f : SFits w64 c.in-Exactly-v.z = search rules in
-    let g : SFits w64 c.in-Exactly.s = search rules in
-    let h : SFits w64 c.weigh.result = search rules in
-    let k : SFits w64 c.add_product.result = search rules in
-    simp to_z-of_z (plus_both _ _ _ c.in-Exactly.is c.in-Exactly-v.is c.weigh.ensures.0 (simp to_z-of_z at c.add_product.ensures.0) (simp to_z-of_z at c.add_product.ensures.1))
+    let s = c.in_ok-sum.field-0 in
+    let z = c.in_ok-value.field-0 in
+    let w = c.weigh.result in
+    let f : SFits w64 s = search rules in
+    let g : SFits w64 z = search rules in
+    let h : SFits w64 w = search rules in
+    let a : nat_abs s ≤ largest_sum = rw c.in_ok-sum.was at c.requires.0 in
+    let b : nat_abs z ≤ farthest_tone = rw c.in_ok-value.was at c.requires.1 in
+    let e : size c.args.sum ≡ nat_abs s = rw c.in_ok-sum.was in
+    rw (to_z-of_z f, to_z-of_z g, to_z-of_z h, made s z w a b c.weigh.ensures.1, e) (summed c.args.term c.in_ok-sum.was c.in_ok-value.was c.weigh.ensures.0, bound s z w a b c.weigh.ensures.1)
