@@ -2,7 +2,6 @@
 use mathlib.Core.Path.{◌≡◌, refl, sym, ◌∙◌, ap, subst}
 use mathlib.Core.Bool.{Bool, true, false}
 use mathlib.Core.List.{List, [], ◌∷◌, map}
-use Rattle.std.specs.Prelude.{Option}
 use Prim.Native.Nat.{ℕ, zero, suc, ◌+◌, ◌-◌, ◌≤◌, ◌<◌}
 use native.Mathlib.Omega.{arith}
 use borrow.Author.Tests.{ltb-true, ltb-false, le-leb}
@@ -11,9 +10,9 @@ use lib.IntN.{ℤ, pos, negsuc, nat_abs, ◌+ℤ◌}
 use lib.ListN.{length, get_or, get_or-eq_default}
 use Rattle.status.specs.Status.{done}
 use Rattle.tuning.specs.Desk.{is_period, is_tone}
-use Rattle.values.specs.declared.Value.TheVariants.{Exactly}
-use Rattle.values.specs.declared.Outcome.{Outcome}
-use Rattle.values.specs.declared.Outcome.TheVariants.{Done, Circular, OutOfRange}
+use Rattle.std.specs.Prelude.{Option, Some, Result, Ok, Err, unwrap_or}
+use Rattle.values.specs.declared.Fault.{Fault}
+use Rattle.values.specs.declared.Fault.TheVariants.{Circular, OutOfRange}
 use Rattle.values.specs.Values.{Term, farthest_tone, within, value_at, references, outcome}
 use Rattle.values.specs.Inner.{Uses, here, there}
 use Rattle.values.proofs.Cases.{impossible}
@@ -27,7 +26,7 @@ use Rattle.limits.specs.Limits.{most_rows}
 use Rattle.placeholders.specs.Filling.{settled}
 use Rattle.program.specs.Program.{Placed, Program, program_of, Declaration, ratio, root, sequence, frequency, from, system}
 use Rattle.program.specs.Program.{anchor, width, fresh_period, onward_period, tones, pattern, logic, harmony}
-use Rattle.program.specs.Meaning.{nothing, declaration_at, own, own_of, exactly, value_of, valued}
+use Rattle.program.specs.Meaning.{nothing, declaration_at, own, own_of, value_of, valued}
 use Rattle.program.specs.Allowed.{kind_of, Each, FitTerm, Fits, if_kind, count_of, Allowed}
 use Rattle.program.specs.Text.{Verdict, accepted, by_value, if_zero, read_text}
 
@@ -38,17 +37,17 @@ pub record Steps (text : List ℕ) (p : Program) : Type 0 where
   pub meant : (meanings text (read_items text).items).number ≡ done
   pub filled : (settled text (meanings text (read_items text).items).items).number ≡ done
   pub program : program_of (settled text (meanings text (read_items text).items).items).items ≡ p
-  pub values : valued p ≡ Done
+  pub values : valued p ≡ Ok tt
 
 module _ {p : Program} where
   number_done : (n place : ℕ) (v : Verdict) → if_zero n place v ≡ accepted p → (n ≡ done) × (v ≡ accepted p)
   number_done zero place v e = (refl, e)
   number_done (suc n) place v e = impossible (cc)
 
-  values_done : (q : Program) (o : Outcome) → by_value q o ≡ accepted p → (o ≡ Done) × (q ≡ p)
-  values_done q Done e = (refl, cc)
-  values_done q (Circular i) e = impossible (cc)
-  values_done q (OutOfRange i) e = impossible (cc)
+  values_done : (q : Program) (o : Result Unit Fault) → by_value q o ≡ accepted p → (o ≡ Ok tt) × (q ≡ p)
+  values_done q (Ok u) e = (refl, cc)
+  values_done q (Err (Circular i)) e = impossible (cc)
+  values_done q (Err (OutOfRange i)) e = impossible (cc)
 
 pub steps : (text : List ℕ) (p : Program) → read_text text ≡ accepted p → Steps text p
 unfolding read_text
@@ -57,7 +56,7 @@ steps text p e =
     let m = number_done _ _ _ r.1 in
     let f = number_done _ _ _ m.1 in
     let v = values_done _ _ f.1 in
-    record { read = r.0; meant = m.0; filled = f.0; program = v.1; values = subst (λ q. valued q ≡ Done) v.1 v.0 }
+    record { read = r.0; meant = m.0; filled = f.0; program = v.1; values = subst (λ q. valued q ≡ Ok tt) v.1 v.0 }
 
 -- ---- each declaration fits
 
@@ -139,21 +138,21 @@ tone_in : (z : ℤ) → nat_abs z ≤ farthest_tone → is_tone z ≡ true
 tone_in (pos n) h = le-leb n farthest_tone h
 tone_in (negsuc n) h = rw (le-leb n (farthest_tone - 1) (omega arith))
 
-module _ (p : Program) (e : valued p ≡ Done) where
+module _ (p : Program) (e : valued p ≡ Ok tt) where
   -- as values/proofs/Plain.antt takes it
-  pub outcome_done : outcome (own p) (length p) ≡ Done
+  pub outcome_done : outcome (own p) (length p) ≡ Ok tt
   unfolding valued
   outcome_done = e
 
   value_within : (i : ℕ) → i < length p
-      → (value_at (own p) (length p) i ≡ Exactly (value_of p i)) × (within (own p i).range (value_of p i) ≡ true)
+      → (value_at (own p) (length p) i ≡ Some (value_of p i)) × (within (own p i).range (value_of p i) ≡ true)
   unfolding value_of
   value_within i h =
       let x = done_exact (own p) (length p) outcome_done i h in
-      let z : value_of p i ≡ x.0 = ap exactly x.1 in
-      (x.1 ∙ ap Exactly (sym z), rw z x.2)
+      let z : value_of p i ≡ x.0 = ap (λ v. unwrap_or v (pos 0)) x.1 in
+      (x.1 ∙ ap Some (sym z), rw z x.2)
 
-  pub value_exact : (i : ℕ) → i < length p → value_at (own p) (length p) i ≡ Exactly (value_of p i)
+  pub value_exact : (i : ℕ) → i < length p → value_at (own p) (length p) i ≡ Some (value_of p i)
   value_exact i h = (value_within i h).0
 
   pub value_small : (i : ℕ) → i < length p → nat_abs (value_of p i) ≤ farthest_tone

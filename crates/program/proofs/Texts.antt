@@ -59,7 +59,7 @@ unfolding Hold verdicts count_leading_zeros sets.has sets.added grammarSyntax.ru
     grammarReading.read_from grammarReading.read_items namesNames.declared namesNames.bearer_from namesNames.twice_from namesNames.called_in namesNames.resolved
     namesNames.meanings namesInner.beginnings_from placeholders.named placeholders.handed placeholders.is_among
     placeholders.fault_from filled.wanted_by filled.given filled.filled_from filled.filled_in filled.settled valuesValues.plus valuesValues.total valuesValues.shifted valuesValues.ranged valuesValues.value_at valuesValues.any_of valuesValues.leads
-    valuesValues.is_beyond valuesValues.first_from valuesValues.verdict valuesValues.outcome valuesValues.number valuesValues.numbers valuesValues.handed
+    valuesValues.is_beyond valuesValues.first_from valuesValues.verdict valuesValues.outcome valuesValues.numbers valuesValues.handed
     valuesValues.value_table centsLog.highest_bit centsLog.bits centsLog.L centsMeasure.nearest centsMeasure.measure Program.terms_of Program.system_positions_of
     Program.grouped Program.ordered Program.start_of Program.keys_of Program.parts_of Program.program_of Meaning.value_of Meaning.valued Text.read_text
 read =

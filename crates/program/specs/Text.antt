@@ -1,9 +1,9 @@
 -- What a text is read as: its number and place, or what it declares. Document 01: "Reading goes symbol by symbol ..
 -- Then the earliest 5, the earliest 6, the earliest 7, the earliest 8."; document 02, 1/13: "24, after 6 and before 7".
-use Rattle.std.specs.Prelude.{List, ℕ, zero, suc, get_or}
+use Rattle.std.specs.Prelude.{List, ℕ, zero, suc, get_or, Result, Ok, Err}
 use Rattle.status.specs.Status.{depends_on_itself, value_out_of_range}
-use Rattle.values.specs.declared.Outcome.{Outcome}
-use Rattle.values.specs.declared.Outcome.TheVariants.{Done, Circular, OutOfRange}
+use Rattle.values.specs.declared.Fault.{Fault}
+use Rattle.values.specs.declared.Fault.TheVariants.{Circular, OutOfRange}
 use Rattle.grammar.specs.Reading.{read_items}
 use Rattle.names.specs.Names.{Meant, meanings}
 use Rattle.placeholders.specs.Filling.{settled}
@@ -18,10 +18,10 @@ abbrev pub place_of : Program → ℕ → ℕ
 place_of p i = (get_or p i nothing).place
 
 -- 7 and 8 at the declared name
-abbrev pub by_value : Program → Outcome → Verdict
-by_value p (Circular i) = refused depends_on_itself (place_of p i)
-by_value p (OutOfRange i) = refused value_out_of_range (place_of p i)
-by_value p Done = accepted p
+abbrev pub by_value : Program → Result Unit Fault → Verdict
+by_value p (Err (Circular i)) = refused depends_on_itself (place_of p i)
+by_value p (Err (OutOfRange i)) = refused value_out_of_range (place_of p i)
+by_value p (Ok _) = accepted p
 
 abbrev pub if_zero : ℕ → ℕ → Verdict → Verdict
 if_zero zero place v = v

@@ -1,7 +1,7 @@
 -- What the items of a declaration have for its value is what the declaration has.
 -- Assumes nothing.
 use Prim.Native.Nat.{ℕ, ◌*◌, ◌≤◌, ◌<◌}
-use mathlib.Core.Path.{◌≡◌, refl, sym, ◌∙◌, ap}
+use mathlib.Core.Path.{◌≡◌, refl, sym, ◌∙◌, ap, subst}
 use mathlib.Core.Bool.{Bool, true, false, cond}
 use mathlib.Core.List.{List, [], ◌∷◌, ◌++◌, map}
 use native.Mathlib.Omega.{arith}
@@ -13,21 +13,23 @@ use Rattle.grammar.specs.declared.Item.{Item}
 use Rattle.names.specs.Parts as parts
 use Rattle.names.specs.Parts.{Part, declares, gives, uses, says, part}
 use Rattle.values.specs.Values as values
-use Rattle.values.specs.Values.{Own}
-use Rattle.values.specs.Rows.{rows, terms_per_row, code_of}
+use Rattle.values.specs.declared.Range.{Range}
+use Rattle.values.specs.Values.{Own, Origin}
+use Rattle.values.specs.Rows.{terms_per_row}
+use Rattle.limits.specs.Limits.{most_rows}
+use Rattle.std.specs.Prelude.{Some, None, option_to_list}
 use Rattle.program.specs.Program.{Declaration, ratio, root, sequence, frequency, from, system}
 use Rattle.program.specs.Program.{anchor, width, fresh_period, onward_period, tones, pattern, logic, harmony}
 use Rattle.program.specs.Program.{Program, term_then, terms_of, period_by, period_of, by_part, form_of}
 use Rattle.program.specs.Meaning.{own_of}
 use Rattle.program.specs.Allowed.{Each, FitTerm, Fits}
-use Rattle.valuation.specs.declared.OriginCode.{OriginCode}
 use Rattle.valuation.specs.declared.Content.{Content}
 use Rattle.valuation.specs.declared.Content.TheVariants as content
-use Rattle.valuation.specs.Inner.{content_of, content_at, range_by, origin_by, has_terms, own_by, term_in, Measurable, Small, Writable, form_by, number_by, coded_as, Gatherable, Entered}
+use Rattle.valuation.specs.Inner.{content_of, content_at, range_by, origin_by, has_terms, own_by, term_in, Measurable, Small, Holdable, Gatherable}
 
 -- ---- the terms of items, one by one
 
-terms_by : (q : Part) (ts : List values.Term) → term_then q ts ≡ term_in (content_of q) ++ ts
+terms_by : (q : Part) (ts : List values.Term) → term_then q ts ≡ option_to_list (term_in (content_of q)) ++ ts
 terms_by (declares k p) ts = refl
 terms_by (gives parts.ratio a b) ts = refl
 terms_by (gives parts.root a b) ts = refl
@@ -54,13 +56,13 @@ terms_by (says parts.width_kept) ts = refl
 terms_by (says parts.period) ts = refl
 terms_by (says parts.onward) ts = refl
 
-pub terms_cons : (i : Item) (is : List Item) → terms_of (i ∷ is) ≡ term_in (content_of (part i)) ++ terms_of is
+pub terms_cons : (i : Item) (is : List Item) → terms_of (i ∷ is) ≡ option_to_list (term_in (content_of (part i))) ++ terms_of is
 unfolding terms_of
 terms_cons i is = terms_by (part i) (terms_of is)
 
 -- ---- a declaration's value
 
-module _ (p : Program) (few : length p ≤ rows) where
+module _ (p : Program) (few : length p ≤ most_rows) where
   -- declaration c, of which x tells the form and ts are the terms among its items
   record Valued (c : Declaration) (x : Content) (ts : List values.Term) : Type 0 where
     own : own_of c ≡ own_by x ts
@@ -154,40 +156,20 @@ module _ (p : Program) (n : ℕ) (h : length p ≤ n) where
   own_small (logic c s os) w = (omega arith, tt)
   own_small (harmony ks) w = (omega arith, tt)
 
-pub gatherable : (p : Program) → length p ≤ rows → (is : List Item) → Fits p (form_of is) → Gatherable is
+pub gatherable : (p : Program) → length p ≤ most_rows → (is : List Item) → Fits p (form_of is) → Gatherable is
 gatherable p h is w =
-    let s = own_small p rows h (form_of is) w in
-    record { measurable = (valued p h is).measurable w; few = s.0; small = s.1 }
+    let s = own_small p most_rows h (form_of is) w in
+    record { measurable = (valued p h is).measurable w; terms = record { few = s.0; small = s.1 } }
 
--- ---- a row of the tables, from the items
+-- ---- a row, from the items
 
-module _ (is : List Item) (d : ℕ) (table : List ℕ) {x : Content} (e : x ≡ content_at is) where
+module _ (is : List Item) {x : Content} (e : x ≡ content_at is) where
   own_here : own_of (form_of is) ≡ own_by x (terms_of is)
   own_here = declared_own is ∙ ap (λ y. own_by y (terms_of is)) (sym e)
 
-  module _ {b : Bool} (t : b ≡ has_terms x) where
-    terms_here : (own_of (form_of is)).terms ≡ cond b (terms_of is) []
-    terms_here = ap (λ (o : Own). o.terms) own_here ∙ ap (λ y. cond y (terms_of is) []) (sym t)
+  pub row_here : {g : Range} {o : Origin} {ts : List values.Term} → g ≡ range_by x → o ≡ origin_by x → ts ≡ cond (has_terms x) (terms_of is) []
+      → record { range = g; origin = o; terms = ts } ≡ own_of (form_of is)
+  row_here a b c = rw (own_here, a, b, c)
 
-    pub terms_writable : b ≡ true → d < rows → length table ≡ rows * terms_per_row → Gatherable is → Writable (terms_of is) (d * terms_per_row) table
-    terms_writable k h l g =
-        let f = g.few in
-        let q : (own_of (form_of is)).terms ≡ terms_of is = terms_here ∙ ap (λ y. cond y (terms_of is) []) k in
-        rw (← q) (record { room = omega arith; small = g.small })
-
-    module _ (forms : List ℕ) (origins : List ℤ) {code : OriginCode} (c : code ≡ coded_as (form_by (range_by x) (origin_by x)) (number_by (origin_by x))) where
-      entered : {table' : List ℕ} → table' ≡ sets table (d * terms_per_row) (map code_of (cond b (terms_of is) []))
-          → Entered (form_of is) d forms origins table (set forms d code.form) (set origins d code.number) table'
-      entered f =
-          record {
-            form = ap (λ (y : OriginCode). set forms d y.form) c ∙ ap (λ (o : Own). set forms d (form_by o.range o.origin)) (sym own_here);
-            origin = ap (λ (y : OriginCode). set origins d y.number) c ∙ ap (λ (o : Own). set origins d (number_by o.origin)) (sym own_here);
-            terms = f ∙ ap (λ ts. sets table (d * terms_per_row) (map code_of ts)) (sym terms_here);
-          }
-
-      pub entered_none : b ≡ false → Entered (form_of is) d forms origins table (set forms d code.form) (set origins d code.number) table
-      entered_none k = entered (rw k)
-
-      pub entered_terms : b ≡ true → {table' : List ℕ} → table' ≡ sets table (d * terms_per_row) (map code_of (terms_of is))
-          → Entered (form_of is) d forms origins table (set forms d code.form) (set origins d code.number) table'
-      entered_terms k f = entered (f ∙ rw k)
+  pub terms_here : has_terms x ≡ true → Gatherable is → Holdable (terms_of is)
+  terms_here t g = subst Holdable (ap (λ (o : Own). o.terms) own_here ∙ ap (λ b. cond b (terms_of is) []) t) g.terms

@@ -4,7 +4,6 @@ use mathlib.Core.Path.{◌≡◌, refl, sym, ◌∙◌, ap, subst}
 use mathlib.Core.List.{List, [], ◌∷◌}
 use Prim.Native.Nat.{ℕ, ◌+◌, ◌≤◌, ◌<◌}
 use native.Mathlib.Omega.{arith}
-use lib.IntN.{ℤ}
 use types.Run.{OneOf, miss}
 use denote.Enum.Declared.{tag_of}
 use Rattle.grammar.specs.declared.Item.{Item}
@@ -13,8 +12,7 @@ use Rattle.grammar.specs.contracts.Item as variants
 use Rattle.grammar.specs.Items.{item_at}
 use Rattle.names.specs.Inner.{items_between}
 use Rattle.names.proofs.Between.{between_here, between_none}
-use Rattle.program.specs.Program.{Declaration, unnamed}
-use Rattle.valuation.specs.Inner.{Entered}
+use Rattle.program.specs.Program.{unnamed}
 
 -- every item but a placeholder's name
 abbrev pub nameless : List ℕ
@@ -90,9 +88,3 @@ module _ (items : List ℕ) (i to : ℕ) {x : Item} (e : x ≡ item_at items i) 
 
 pub no_parts : (items : List ℕ) (i to : ℕ) → to ≤ i → items_between items to to ≡ unnamed (items_between items i to)
 no_parts items i to h = between_none items to to (omega arith) ∙ ap unnamed (sym (between_none items i to h))
-
--- the tables hold a declaration, told in another way
-pub entered_as : {c e : Declaration} {d : ℕ} {forms : List ℕ} {origins : List ℤ} {table forms' : List ℕ} {origins' : List ℤ} {table' : List ℕ} → c ≡ e
-    → Entered c d forms origins table forms' origins' table' → Entered e d forms origins table forms' origins' table'
-entered_as {d} {forms} {origins} {table} {forms'} {origins'} {table'} q w =
-    subst (λ (x : Declaration). Entered x d forms origins table forms' origins' table') q w

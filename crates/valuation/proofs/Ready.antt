@@ -9,7 +9,7 @@ use lib.Seq.{slice}
 use Rattle.grammar.specs.declared.Item.{Item}
 use Rattle.names.specs.Inner.{beginnings}
 use Rattle.names.proofs.Held.{length_items_in}
-use Rattle.values.specs.Rows.{rows}
+use Rattle.limits.specs.Limits.{most_rows}
 use Rattle.program.specs.Program.{unnamed, declaration_of, program_of}
 use Rattle.program.specs.Meaning.{declaration_at}
 use Rattle.program.specs.Allowed.{Fits}
@@ -28,7 +28,7 @@ module _ {is : List Item} {items : List ℕ} {count : ℕ} {starts : List ℕ} {
   pub ready_count : count ≡ length is
   ready_count = sym (length_items_in count items) ∙ ap length r.counted
 
-  pub ready_few : length (program_of is) ≤ rows
+  pub ready_few : length (program_of is) ≤ most_rows
   ready_few = few_declarations r.allowed
 
   pub ready_room : n ≤ length starts

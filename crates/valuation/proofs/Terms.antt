@@ -1,118 +1,115 @@
--- Laws of the loop that puts the terms among items into a table.
+-- Laws of the loop that puts the terms among items into a row.
 -- Assumes nothing.
-use Prim.Native.Nat.{ℕ, ◌+◌, ◌≤◌, ◌<◌}
+use Prim.Native.Nat.{ℕ, zero, suc, ◌+◌, ◌-◌, ◌≤◌, ◌<◌}
 use mathlib.Core.Path.{◌≡◌, refl, sym, ◌∙◌, ap, subst}
-use mathlib.Core.List.{List, [], ◌∷◌, ◌++◌, map}
-use mathlib.Core.Logic.{◌⊎◌, inl, inr}
+use mathlib.Core.List.{List, [], ◌∷◌, ◌++◌, append_assoc, append-nil}
 use native.Mathlib.Numerals.{add-one}
 use native.Mathlib.Omega.{arith}
-use lib.ListN.{length, set, length-set}
-use lib.Seq.{sets}
+use lib.ListN.{length, get_or, set, replicate, length-set}
+use lib.Seq.{get_or-set_other}
+use Rattle.std.specs.Prelude.{Option, Some, None, IfSome, option_to_list}
 use Rattle.grammar.specs.Items.{item_at}
 use Rattle.names.specs.Parts.{part}
 use Rattle.values.specs.Values as values
-use Rattle.values.specs.Rows.{rows, code_of}
+use Rattle.values.specs.Rows.{terms_per_row, row_terms}
+use Rattle.limits.specs.Limits.{most_rows}
 use Rattle.program.specs.Program.{terms_of}
 use Rattle.program.specs.Allowed.{Each}
-use Rattle.valuation.specs.declared.Content.{Content}
-use Rattle.valuation.specs.declared.Content.TheVariants.{Ratio, Root, Frequency, Period, Tone, Term, Nothing}
-use Rattle.valuation.specs.Inner.{content_of, term_in, code_in, Small, Writable}
+use Rattle.valuation.specs.Inner.{content_of, term_in, Small, Holdable}
 use Rattle.names.specs.Inner.{items_between}
 use Rattle.names.proofs.Between.{between_here, between_none}
 use Rattle.valuation.proofs.Contents.{terms_cons}
 
--- what is said of each term of two lists
-abbrev AllSmall : List values.Term → Type 0
-AllSmall ts = Each (Small rows) ts
+both_small : (x : Option values.Term) (ys : List values.Term) → Each (Small most_rows) (option_to_list x ++ ys) → IfSome x (Small most_rows) × Each (Small most_rows) ys
+both_small None ys w = (tt, w)
+both_small (Some t) ys w = (w.0, w.1)
 
-both_small : (xs ys : List values.Term) → AllSmall (xs ++ ys) → AllSmall xs × AllSmall ys
-both_small [] ys w = (tt, w)
-both_small (x ∷ xs) ys w = let v = both_small xs ys w.1 in ((w.0, v.0), v.1)
+-- ---- the places of a row
 
--- an item is one term or none
-one_or_none : (x : Content) → (term_in x ≡ []) ⊎ ((t : values.Term) × (term_in x ≡ t ∷ []))
-one_or_none (Ratio p q) = inl refl
-one_or_none (Root a b) = inl refl
-one_or_none (Frequency f) = inl refl
-one_or_none Period = inl refl
-one_or_none (Tone k) = inl refl
-one_or_none (Term m f k) = inr (_, refl)
-one_or_none Nothing = inl refl
+-- nothing from a place on
+abbrev pub Free : List (Option values.Term) → ℕ → Type 0
+Free l n = (k : ℕ) → n ≤ k → get_or l k None ≡ None
 
--- the number of none is 0, and that of a term is not
-no_code : (x : Content) → code_in (term_in x) ≡ 0 → term_in x ≡ []
-no_code x e = go (one_or_none x)
-  where
-    go : (term_in x ≡ []) ⊎ ((t : values.Term) × (term_in x ≡ t ∷ [])) → term_in x ≡ []
-    go (inl q) = q
-    go (inr q) = absurd (omega (arith, ap code_in (sym q.1) ∙ e))
+all_free : (l : List (Option values.Term)) → Free l 0 → row_terms l ≡ []
+all_free [] f = refl
+all_free (x ∷ l) f = rw (f 0 (omega arith)) (all_free l (λ k h. f (suc k) (omega arith)))
 
-a_code : (x : Content) → (code_in (term_in x) ≡ 0 → ⊥) → (t : values.Term) × (term_in x ≡ t ∷ [])
-a_code x n = go (one_or_none x)
-  where
-    go : (term_in x ≡ []) ⊎ ((t : values.Term) × (term_in x ≡ t ∷ [])) → (t : values.Term) × (term_in x ≡ t ∷ [])
-    go (inl q) = absurd (n (ap code_in q))
-    go (inr q) = q
+-- one term more
+put_next : (l : List (Option values.Term)) (n : ℕ) (t : values.Term) → n < length l → Free l n → row_terms (set l n (Some t)) ≡ row_terms l ++ t ∷ []
+put_next [] n t h f = absurd (omega arith)
+put_next (x ∷ l) zero t h f =
+    let e = all_free l (λ k h. f (suc k) (omega arith)) in
+    rw (f 0 (omega arith), e)
+put_next (None ∷ l) (suc n) t h f = put_next l n t (omega arith) (λ k h. f (suc k) (omega arith))
+put_next (Some y ∷ l) (suc n) t h f = ap (λ ts. y ∷ ts) (put_next l n t (omega arith) (λ k h. f (suc k) (omega arith)))
 
-module _ (items : List ℕ) (from to : ℕ) (terms₀ : List ℕ) (at : ℕ) where
+free_next : (l : List (Option values.Term)) (n : ℕ) (t : values.Term) → Free l n → Free (set l n (Some t)) (n + 1)
+free_next l n t f k h = get_or-set_other l n k (Some t) None (λ e. omega arith) ∙ f k (omega arith)
+
+abbrev empty : ℕ → List (Option values.Term)
+empty n = replicate n None
+
+no_places : (n k : ℕ) → get_or (empty n) k None ≡ None
+no_places zero k = refl
+no_places (suc n) zero = refl
+no_places (suc n) (suc k) = no_places n k
+
+module _ (items : List ℕ) (from to : ℕ) where
   -- the terms that are left before the i-th item
   abbrev left : ℕ → List values.Term
   left i = terms_of (items_between items i to)
 
-  pub record Gathering (terms : List ℕ) (next i : ℕ) : Type 0 where
-    pub whole : sets terms next (map code_of (left i)) ≡ sets terms₀ at (map code_of (left from))
-    pub same : length terms ≡ length terms₀
-    pub fits : Writable (left i) next terms
+  pub record Gathering (terms : List (Option values.Term)) (next i : ℕ) : Type 0 where
+    pub whole : row_terms terms ++ left i ≡ left from
+    pub free : Free terms next
+    pub full : length terms ≡ terms_per_row
+    pub room : next + length (left i) ≤ terms_per_row
+    pub small : Each (Small most_rows) (left i)
 
-  pub gathering_none : Writable (left from) at terms₀ → Gathering terms₀ at from
-  gathering_none w = record { whole = refl; same = refl; fits = w }
+  pub gathering_none : Holdable (left from) → Gathering (replicate terms_per_row None) 0 from
+  gathering_none w = record { whole = refl; free = λ k h. no_places terms_per_row k; full = refl; room = omega (arith, w.few); small = w.small }
 
-  module _ {terms : List ℕ} {next i : ℕ} (g : Gathering terms next i) where
-    pub gathering_all : to ≤ i → terms ≡ sets terms₀ at (map code_of (left from))
+  module _ {terms : List (Option values.Term)} {next i : ℕ} (g : Gathering terms next i) where
+    pub gathering_all : to ≤ i → row_terms terms ≡ left from
     unfolding terms_of
-    gathering_all h = ap (λ is. sets terms next (map code_of (terms_of is))) (sym (between_none items i to h)) ∙ g.whole
+    gathering_all h = sym (append-nil (row_terms terms)) ∙ ap (λ is. row_terms terms ++ terms_of is) (sym (between_none items i to h)) ∙ g.whole
 
     -- at an item
     module _ (h : i < to) where
-      abbrev here : Content
-      here = content_of (part (item_at items i))
+      abbrev here : Option values.Term
+      here = term_in (content_of (part (item_at items i)))
 
-      split : left i ≡ term_in here ++ left (i + 1)
+      split : left i ≡ option_to_list here ++ left (i + 1)
       split = ap terms_of (between_here items i to h) ∙ terms_cons (item_at items i) (items_between items (i + 1) to)
 
-      smalls : AllSmall (term_in here) × AllSmall (left (i + 1))
-      smalls = both_small (term_in here) (left (i + 1)) (subst AllSmall split g.fits.small)
+      smalls : IfSome here (Small most_rows) × Each (Small most_rows) (left (i + 1))
+      smalls = both_small here (left (i + 1)) (subst (λ ts. Each (Small most_rows) ts) split g.small)
 
-      pub small_here : Each (Small rows) (term_in here)
+      pub small_here : IfSome here (Small most_rows)
       small_here = smalls.0
 
-      module _ {code : ℕ} (e : code ≡ code_in (term_in here)) where
-        pub gathering_on : code ≡ 0 → Gathering terms next (i + 1)
-        gathering_on z =
-            let s : left i ≡ left (i + 1) = split ∙ ap (λ ts. ts ++ left (i + 1)) (no_code here (sym e ∙ z)) in
-            let r = g.fits.room in
+      pub gathering_on : here ≡ None → Gathering terms next (i + 1)
+      gathering_on e =
+          let s : left i ≡ left (i + 1) = split ∙ ap (λ x. option_to_list x ++ left (i + 1)) e in
+          let r = g.room in
+          record { whole = ap (λ ts. row_terms terms ++ ts) (sym s) ∙ g.whole; free = g.free; full = g.full; room = omega (arith, ap length s); small = smalls.1 }
+
+      module _ {t : values.Term} (e : here ≡ Some t) where
+        more : left i ≡ t ∷ left (i + 1)
+        more = split ∙ ap (λ x. option_to_list x ++ left (i + 1)) e
+
+        pub has_room : next < length terms
+        has_room = let r = g.room in omega (arith, g.full, ap length more)
+
+        pub gathering_more : Gathering (set terms next (Some t)) (next + 1) (i + 1)
+        gathering_more =
+            let r = g.room in
             record {
-              whole = ap (λ ts. sets terms next (map code_of ts)) (sym s) ∙ g.whole;
-              same = g.same;
-              fits = record { room = omega (arith, ap length s); small = smalls.1 };
+              whole =
+                  ap (λ ts. ts ++ left (i + 1)) (put_next terms next t has_room g.free) ∙ append_assoc (row_terms terms) (t ∷ []) (left (i + 1))
+                  ∙ ap (λ ts. row_terms terms ++ ts) (sym more) ∙ g.whole;
+              free = free_next terms next t g.free;
+              full = length-set terms next (Some t) ∙ g.full;
+              room = omega (arith, ap length more);
+              small = smalls.1;
             }
-
-        module _ (n : code ≡ 0 → ⊥) where
-          abbrev term : values.Term
-          term = (a_code here (λ z. n (e ∙ z))).0
-
-          more : left i ≡ term ∷ left (i + 1)
-          more = split ∙ ap (λ ts. ts ++ left (i + 1)) (a_code here (λ z. n (e ∙ z))).1
-
-          pub has_room : next < length terms
-          has_room = let r = g.fits.room in omega (arith, ap length more)
-
-          pub gathering_more : Gathering (set terms next code) (next + 1) (i + 1)
-          gathering_more =
-              let c : code ≡ code_of term = e ∙ ap code_in (a_code here (λ z. n (e ∙ z))).1 in
-              let r = g.fits.room in
-              record {
-                whole = rw (c, add-one next) (ap (λ ts. sets terms next (map code_of ts)) (sym more) ∙ g.whole);
-                same = length-set terms next code ∙ g.same;
-                fits = record { room = rw length-set (omega (arith, ap length more)); small = smalls.1 };
-              }

@@ -1,18 +1,20 @@
 -- What the contracts cite: how the items of a text lie in slices, where each declaration's own stand, and what they have for its value.
-use Rattle.std.specs.Prelude.{◌≡◌, Bool, true, false, cond, List, [], ◌∷◌, map, ℕ, suc, ◌+◌, ◌*◌, ◌≤◌, ◌<◌, ℤ, pos, length, get_or, take, drop, set, replicate}
-use Rattle.std.proofs.lemmas.List.Edits.{sets}
+use Rattle.std.specs.Prelude.{◌≡◌, Bool, true, false, cond, List, [], ◌∷◌, ℕ, suc, ◌+◌, ◌≤◌, ◌<◌, pos, length, get_or, take, Option, Some, None}
 use Rattle.grammar.specs.declared.Item.{Item}
 use Rattle.names.specs.Parts as parts
 use Rattle.names.specs.Parts.{Part, declares, gives, uses, says, part}
 use Rattle.names.specs.Inner.{Held, items_in, beginnings}
 use Rattle.cents.specs.Measure as measures
 use Rattle.values.specs.Values as values
-use Rattle.values.specs.Values.{Own, Range, tone, period, Origin, interval, pitch, base}
-use Rattle.values.specs.Rows.{rows, terms_per_row, factors, code_of, interval_form, period_form, pitch_form, base_form, own_in, Declared}
-use Rattle.program.specs.Program.{Declaration, form_of, Program, program_of}
+use Rattle.values.specs.Values.{Own, Origin, interval, pitch, base}
+use Rattle.values.specs.declared.Range.{Range}
+use Rattle.values.specs.declared.Range.TheVariants as range
+use Rattle.values.specs.declared.Row.{Row}
+use Rattle.values.specs.Rows.{terms_per_row, own_in, Declared}
+use Rattle.limits.specs.Limits.{most_factor, most_rows}
+use Rattle.program.specs.Program.{form_of, Program, program_of}
 use Rattle.program.specs.Meaning.{own_of, own}
 use Rattle.program.specs.Allowed.{Allowed, Each, Decimal, Degree}
-use Rattle.valuation.specs.declared.OriginCode.{OriginCode}
 use Rattle.valuation.specs.declared.Content.{Content}
 use Rattle.valuation.specs.declared.Content.TheVariants.{Ratio, Root, Frequency, Period, Tone, Term, Nothing}
 
@@ -61,13 +63,13 @@ content_at [] = Nothing
 content_at (i ∷ is) = content_of (part i)
 
 abbrev pub range_by : Content → Range
-range_by (Ratio p q) = tone
-range_by (Root a b) = tone
-range_by (Frequency f) = tone
-range_by Period = period
-range_by (Tone k) = tone
-range_by (Term m f k) = tone
-range_by Nothing = tone
+range_by (Ratio p q) = range.Tone
+range_by (Root a b) = range.Tone
+range_by (Frequency f) = range.Tone
+range_by Period = range.Period
+range_by (Tone k) = range.Tone
+range_by (Term m f k) = range.Tone
+range_by Nothing = range.Tone
 
 abbrev pub origin_by : Content → Origin
 origin_by (Ratio p q) = interval (measures.ratio p q)
@@ -93,21 +95,16 @@ abbrev pub own_by : Content → List values.Term → Own
 own_by x ts = record { range = range_by x; origin = origin_by x; terms = cond (has_terms x) ts [] }
 
 -- the term that an item is, if it is one
-abbrev pub term_in : Content → List values.Term
-term_in (Ratio p q) = []
-term_in (Root a b) = []
-term_in (Frequency f) = []
-term_in Period = []
-term_in (Tone k) = []
-term_in (Term m f k) = record { minus = m; factor = f; of = k } ∷ []
-term_in Nothing = []
+abbrev pub term_in : Content → Option values.Term
+term_in (Ratio p q) = None
+term_in (Root a b) = None
+term_in (Frequency f) = None
+term_in Period = None
+term_in (Tone k) = None
+term_in (Term m f k) = Some (record { minus = m; factor = f; of = k })
+term_in Nothing = None
 
--- its number, or 0
-abbrev pub code_in : List values.Term → ℕ
-code_in [] = 0
-code_in (t ∷ ts) = code_of t
-
--- ---- what can be put into the tables of the values
+-- ---- what can be put into the rows of the values
 
 -- its numbers have a measure, and its base a number
 abbrev pub Measurable : Content → Type 0
@@ -115,69 +112,26 @@ Measurable (Ratio p q) = Decimal p × Decimal q
 Measurable (Root a b) = Degree a × Decimal b
 Measurable (Frequency f) = Decimal f
 Measurable Period = Unit
-Measurable (Tone k) = k < rows
+Measurable (Tone k) = k < most_rows
 Measurable (Term m f k) = Unit
 Measurable Nothing = Unit
 
 -- a term of one of n declarations; "factor: whole, 0 to 999"
 pub record Small (n : ℕ) (t : values.Term) : Type 0 where
-  pub factor : t.factor < factors
+  pub factor : t.factor ≤ most_factor
   pub of : t.of < n
 
--- terms that can be put into a table from a place on
-pub record Writable (ts : List values.Term) (at : ℕ) (table : List ℕ) : Type 0 where
-  pub room : at + length ts ≤ length table
-  pub small : Each (Small rows) ts
+-- terms that a row can hold
+pub record Holdable (ts : List values.Term) : Type 0 where
+  pub few : length ts ≤ terms_per_row
+  pub small : Each (Small most_rows) ts
 
--- ---- the tables
-
--- what a row has of what a value starts from: the form, and the number of the interval, the pitch or the base
-abbrev pub form_by : Range → Origin → ℕ
-form_by period o = period_form
-form_by tone (interval d) = interval_form
-form_by tone (pitch p) = pitch_form
-form_by tone (base k) = base_form
-
-abbrev pub number_by : Origin → ℤ
-number_by (interval d) = d
-number_by (pitch p) = p
-number_by (base k) = pos k
-
-abbrev pub coded_as : ℕ → ℤ → OriginCode
-coded_as form number = record { form = form; number = number }
-
--- a base is one of the rows
-abbrev pub Holdable : Origin → Type 0
-Holdable (interval d) = Unit
-Holdable (pitch p) = Unit
-Holdable (base k) = k < rows
-
--- tables of full size
-pub record Full (forms : List ℕ) (origins : List ℤ) (table : List ℕ) : Type 0 where
-  pub all_forms : length forms ≡ rows
-  pub all_origins : length origins ≡ rows
-  pub all_terms : length table ≡ rows * terms_per_row
-
--- and these with nothing in them
-pub record Blank (forms : List ℕ) (origins : List ℤ) (table : List ℕ) : Type 0 where
-  pub no_form : forms ≡ replicate rows 0
-  pub no_origin : origins ≡ replicate rows (pos 0)
-  pub no_term_holds : table ≡ replicate (rows * terms_per_row) 0
-
--- the declaration of these items goes into the tables
+-- the declaration of these items goes into a row
 pub record Gatherable (is : List Item) : Type 0 where
   pub measurable : Measurable (content_at is)
-  pub few : length (own_of (form_of is)).terms ≤ terms_per_row
-  pub small : Each (Small rows) (own_of (form_of is)).terms
+  pub terms : Holdable (own_of (form_of is)).terms
 
--- the tables before declaration c went into row d, and after
-module _ (c : Declaration) (d : ℕ) (forms : List ℕ) (origins : List ℤ) (table : List ℕ) where
-  pub record Entered (forms' : List ℕ) (origins' : List ℤ) (table' : List ℕ) : Type 0 where
-    pub form : forms' ≡ set forms d (form_by (own_of c).range (own_of c).origin)
-    pub origin : origins' ≡ set origins d (number_by (own_of c).origin)
-    pub terms : table' ≡ sets table (d * terms_per_row) (map code_of (own_of c).terms)
-
--- the tables hold all n declarations of a program
-pub record Gathered (p : Program) (n : ℕ) (forms : List ℕ) (origins : List ℤ) (table : List ℕ) : Type 0 where
-  pub declared : Declared n forms origins table
-  pub own_all : (i : ℕ) → own_in forms origins table i ≡ own p i
+-- the rows hold all declarations of a program
+pub record Gathered (p : Program) (rows : List Row) : Type 0 where
+  pub declared : Declared rows
+  pub own_all : (i : ℕ) → own_in rows i ≡ own p i

@@ -1,26 +1,20 @@
 // The values of a text's declarations: what each value starts from and its terms are gathered from the items, then resolved.
 #![tactic(auto)]
 
-ghost use Rattle.std.specs.Prelude.{◌≡◌, List, map, suc, ◌<◌, length, get_or, take};
-ghost use Rattle.std.proofs.lemmas.List.Edits.{sets};
+ghost use Rattle.std.specs.Prelude.{◌≡◌, List, suc, ◌<◌, length, get_or, take, IfSome};
 ghost use Rattle.names.specs.Parts.{part};
 ghost use Rattle.names.specs.Inner.{items_in};
-ghost use Rattle.values.specs.Values.{tone};
-ghost use Rattle.values.specs.Rows.{rows, code_of, Resolved};
-ghost use Rattle.values.specs.Inner.{meant};
+ghost use Rattle.limits.specs.Limits.{most_rows};
+ghost use Rattle.values.specs.Rows.{meant, row_terms, row_own, Resolved};
 ghost use Rattle.program.specs.Program.{terms_of, form_of, unnamed, declaration_of, program_of};
-ghost use Rattle.program.specs.Meaning.{own};
-ghost use Rattle.program.specs.Allowed.{Each};
-ghost use Rattle.valuation.specs.Inner.{Ready, content_of, content_at, range_by, origin_by, has_terms, term_in, code_in, Measurable, Small, Writable, form_by, number_by, coded_as, Holdable, Full, Blank, Gatherable, Entered, Gathered};
+ghost use Rattle.program.specs.Meaning.{own_of, own};
+ghost use Rattle.valuation.specs.Inner.{Ready, content_of, content_at, range_by, origin_by, has_terms, term_in, Measurable, Small, Holdable, Gatherable, Gathered};
 ghost use Rattle.names.specs.Inner.{items_between};
 
 use cents::Interval;
 use cents::measure::{measure_frequency, measure_ratio, measure_root};
 use grammar::{Item, items};
-use values::{
-    BASE_FORM, FACTORS, INTERVAL_FORM, Origin, Outcome, PER_DECLARATION, PERIOD_FORM, PITCH_FORM,
-    ROWS, TERMS_PER_ROW,
-};
+use values::{Fault, Origin, ROWS, Range, Row, TERMS_PER_ROW, Term};
 
 // What an item has for the value of its declaration.
 #[derive(Clone, Copy)]
@@ -34,12 +28,12 @@ enum Content {
     Nothing,
 }
 
-// How a row has what a value starts from.
-#[derive(Clone, Copy)]
-struct OriginCode {
-    form: u8,
-    number: i32,
-}
+// A row before its declaration is put in.
+const BLANK: Row = Row {
+    range: Range::Tone,
+    origin: Origin::Interval(Interval(0)),
+    terms: [None; TERMS_PER_ROW],
+};
 
 fn content_of(item: Item) -> Content
     ensures { result ≡ content_of (part item) }
@@ -80,39 +74,15 @@ fn origin_of(content: Content) -> Origin
     }
 }
 
-// The form and the number of what a value starts from. From here on an interval's number and a pitch's go the same way, told apart by the form.
-fn encode(origin: Origin) -> OriginCode
-    requires { Holdable (meant origin) }
-    ensures { result ≡ coded_as (form_by tone (meant origin)) (number_by (meant origin)) }
-{
-    match origin {
-        Origin::Interval(d) => OriginCode {
-            form: INTERVAL_FORM,
-            number: d.0,
-        },
-        Origin::Pitch(p) => OriginCode {
-            form: PITCH_FORM,
-            number: p.0,
-        },
-        Origin::Base(k) => OriginCode {
-            form: BASE_FORM,
-            number: k as i32,
-        },
-    }
-}
-
-// The form and the number of a row whose declaration begins with this content.
-fn encode_content(content: Content) -> OriginCode
-    requires { Measurable content }
-    ensures { result ≡ coded_as (form_by (range_by content) (origin_by content)) (number_by (origin_by content)) }
+// Only a tone system's value, its period, has a range of its own.
+fn range_of(content: Content) -> Range
+    ensures { result ≡ range_by content }
 {
     if let Content::Period = content {
-        return OriginCode {
-            form: PERIOD_FORM,
-            number: 0,
-        };
+        Range::Period
+    } else {
+        Range::Tone
     }
-    encode(origin_of(content))
 }
 
 // Whether the terms among the items are those of the value.
@@ -127,40 +97,36 @@ fn has_terms(content: Content) -> bool
     }
 }
 
-// The number of a term.
-fn encode_term(minus: bool, factor: u32, of: u32) -> u32
-    requires { Small rows (record { minus = minus; factor = factor; of = of }) }
-    ensures { result ≡ code_of (record { minus = minus; factor = factor; of = of }) }
-{
-    let code = (of + 1) * PER_DECLARATION + factor;
-    if minus { code + FACTORS } else { code }
-}
-
-// The number of the term that an item is, or 0.
-fn encode_item(item: Item) -> u32
-    requires { Each (Small rows) (term_in (content_of (part item))) }
-    ensures { result ≡ code_in (term_in (content_of (part item))) }
+// The term that an item is, if it is one.
+fn term_of(item: Item) -> Option<Term>
+    requires { IfSome (term_in (content_of (part item))) (Small most_rows) }
+    ensures { result ≡ term_in (content_of (part item)) }
 {
     let Content::Term(minus, factor, of) = content_of(item) else {
-        return 0;
+        return None;
     };
-    encode_term(minus, factor, of)
+    Some(Term {
+        minus,
+        factor: factor as u16,
+        of: of as u16,
+    })
 }
 
-// Puts the terms among the items from `from` to `to` into a table, one after the other from `at` on.
-fn gather_terms(items: &[u32], from: usize, to: usize, terms: &mut [u32], at: usize)
-    requires { Writable (terms_of (items_between items.now from to)) at terms.old }
-    ensures { terms.new ≡ sets terms.old at (map code_of (terms_of (items_between items.now from to))) }
+// The terms among the items from `from` to `to`, one after the other in the places of a row.
+fn gather_terms(items: &[u32], from: usize, to: usize) -> [Option<Term>; TERMS_PER_ROW]
+    requires { Holdable (terms_of (items_between items.now from to)) }
+    ensures { row_terms result ≡ terms_of (items_between items.now from to) }
 {
-    let mut next = at;
+    let mut terms = [None; TERMS_PER_ROW];
+    let mut next = 0;
     for i in from..to {
-        let code = encode_item(items::item_at(items, i));
-        if code == 0 {
+        let Some(term) = term_of(items::item_at(items, i)) else {
             continue;
-        }
-        terms[next] = code;
+        };
+        terms[next] = Some(term);
         next += 1;
     }
+    terms
 }
 
 // Where the parts of a declaration begin whose items stand from `from` to `to`: after the names of its placeholders.
@@ -175,49 +141,31 @@ pub fn skip_names(items: &[u32], from: usize, to: usize) -> usize
     to
 }
 
-// Puts the declaration whose parts stand from `from` to `to` into row `d` of the tables.
-fn gather_parts(
-    items: &[u32],
-    from: usize,
-    to: usize,
-    d: usize,
-    forms: &mut [u8],
-    origins: &mut [i32],
-    terms: &mut [u32],
-)
-    requires d_lt_rows { d < rows }
-    requires full { Full forms.old origins.old terms.old }
-    requires gatherable { Gatherable (items_between items.now from to) }
-    ensures { Entered (form_of (items_between items.now from to)) d forms.old origins.old terms.old forms.new origins.new terms.new }
+// The row of the declaration whose parts stand from `from` to `to`.
+fn gather_parts(items: &[u32], from: usize, to: usize) -> Row
+    requires { Gatherable (items_between items.now from to) }
+    ensures { row_own result ≡ own_of (form_of (items_between items.now from to)) }
 {
     let content = content_at(items, from, to);
-    let code = encode_content(content);
-    let number = code.number;
-    forms[d] = code.form;
-    origins[d] = number;
-    if !has_terms(content) {
-        return;
+    let terms = if has_terms(content) {
+        gather_terms(items, from, to)
+    } else {
+        [None; TERMS_PER_ROW]
+    };
+    Row {
+        range: range_of(content),
+        origin: origin_of(content),
+        terms,
     }
-    gather_terms(items, from, to, terms, d * TERMS_PER_ROW);
 }
 
-// Puts the declaration whose items stand from `from` to `to` into row `d` of the tables.
-fn gather_declaration(
-    items: &[u32],
-    from: usize,
-    to: usize,
-    d: usize,
-    forms: &mut [u8],
-    origins: &mut [i32],
-    terms: &mut [u32],
-)
-    requires d_lt_rows { d < rows }
-    requires full { Full forms.old origins.old terms.old }
-    requires gatherable { Gatherable (unnamed (items_between items.now from to)) }
-    ensures { Entered (declaration_of (items_between items.now from to)) d forms.old origins.old terms.old forms.new origins.new terms.new }
+// The row of the declaration whose items stand from `from` to `to`.
+fn gather_declaration(items: &[u32], from: usize, to: usize) -> Row
+    requires { Gatherable (unnamed (items_between items.now from to)) }
+    ensures { row_own result ≡ own_of (declaration_of (items_between items.now from to)) }
 {
     let parts = skip_names(items, from, to);
-    gather_parts(items, parts, to, d, forms, origins, terms);
+    gather_parts(items, parts, to)
 }
 
 // Where the items of declaration `d` end.
@@ -235,26 +183,18 @@ pub fn end_of(starts: &[u32], n: usize, count: usize, d: usize) -> usize
     starts[next] as usize
 }
 
-// Puts all n declarations into blank tables.
-fn gather_all(
-    items: &[u32],
-    count: usize,
-    starts: &[u32],
-    n: usize,
-    forms: &mut [u8],
-    origins: &mut [i32],
-    terms: &mut [u32],
-)
+// Puts each declaration into its row.
+fn gather_all(items: &[u32], count: usize, starts: &[u32], rows: &mut [Row])
     ghost is: { List Item }
     requires value { items_in count items.now ≡ is }
-    requires ready { Ready is items.now count starts.now n }
-    requires blank { Blank forms.old origins.old terms.old }
-    ensures { Gathered (program_of is) n forms.new origins.new terms.new }
+    requires ready { Ready is items.now count starts.now (length rows.old) }
+    ensures { Gathered (program_of is) rows.new }
 {
+    let n = rows.len();
     for d in 0..n {
         let from = starts[d] as usize + 1;
         let to = end_of(starts, n, count, d);
-        gather_declaration(items, from, to, d, forms, origins, terms);
+        rows[d] = gather_declaration(items, from, to);
     }
 }
 
@@ -265,24 +205,15 @@ pub fn value_declarations(
     starts: &[u32],
     n: usize,
     values: &mut [i64],
-) -> Outcome
+) -> Result<(), Fault>
     ghost is: { List Item }
     requires value { items_in count items.now ≡ is }
     requires ready { Ready is items.now count starts.now n }
-    requires values_len { length values.old ≡ rows }
+    requires values_len { length values.old ≡ most_rows }
     ensures { Resolved (own (program_of is)) n result values.new }
 {
-    let mut forms = [0u8; ROWS];
-    let mut origins = [0i32; ROWS];
-    let mut terms = [0u32; ROWS * TERMS_PER_ROW];
-    gather_all(
-        items,
-        count,
-        starts,
-        n,
-        &mut forms,
-        &mut origins,
-        &mut terms,
-    );
-    values::resolve(&forms, &origins, &terms, n, values)
+    let mut rows = [BLANK; ROWS];
+    let rows = &mut rows[..n];
+    gather_all(items, count, starts, rows);
+    values::resolve(rows, values)
 }
