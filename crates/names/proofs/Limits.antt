@@ -17,8 +17,6 @@ use Rattle.symbols.specs.declared.Symbol.{Symbol}
 use Rattle.symbols.specs.declared.Symbol.TheVariants as symbol
 use Rattle.symbols.specs.Symbols.{next_symbol, after, cut, symbols_from, symbols}
 use Rattle.symbols.proofs.Progress.{Placed as StandsFrom, next_placed, after_within}
-use Rattle.numerals.specs.declared.WrittenNumber.{WrittenNumber}
-use Rattle.numerals.specs.declared.WrittenNumber.TheVariants.{Outside, Value}
 use Rattle.grammar.specs.declared.Kind.{Kind}
 use Rattle.grammar.specs.declared.Kind.TheVariants.{Interval, Tone, System, Retuning, Logic, Order as AnOrder, Harmony}
 use Rattle.grammar.specs.declared.NumberUse.{NumberUse}
@@ -154,9 +152,9 @@ module _ (s : Progress) (x : Span) where
   numbered_counts : (text : List ℕ) (u : NumberUse) (a b : ℕ) → Fine (numbered text s u a b x)
   numbered_counts text u a b = go (judged u (slice a b text))
     where
-      go : (v : WrittenNumber) → Fine (if_allowed s u a x v)
-      go Outside = tt
-      go (Value v) = used_counts u v
+      go : (v : Option ℕ) → Fine (if_allowed s u a x v)
+      go None = tt
+      go (Some v) = used_counts u v
 
   positioned_counts : (i : Item) → named_by (part i) [] ≡ [] → Fine (positioned s i x)
   positioned_counts i e =

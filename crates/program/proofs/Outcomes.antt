@@ -8,9 +8,8 @@ use native.Mathlib.Omega.{arith}
 use borrow.Author.Tests.{leb-false}
 use lib.Dec.{leb}
 use lib.Seq.{slice}
+use Rattle.std.specs.Prelude.{Option, Some, None}
 use Rattle.status.specs.Status.{done, number_out_of_range, item_too_many}
-use Rattle.numerals.specs.declared.WrittenNumber.{WrittenNumber}
-use Rattle.numerals.specs.declared.WrittenNumber.TheVariants.{Outside, Value}
 use Rattle.grammar.specs.declared.NumberUse.{NumberUse}
 use Rattle.grammar.specs.declared.Progress.{Progress}
 use Rattle.grammar.specs.declared.Span.{Span}
@@ -31,6 +30,6 @@ module _ (F : Outcome → Type 0) (refused : (k p : ℕ) → (k ≡ done → ⊥
       → ((v : ℕ) → InRange (allowed u) v → F (used s u v x)) → F (numbered text s u start end x)
   if_allowed_step text s u start end x h = go (judged u (slice start end text)) (judged_fits u (slice start end text))
     where
-      go : (v : WrittenNumber) → Judged (InRange (allowed u)) v → F (if_allowed s u start x v)
-      go Outside r = refused number_out_of_range start (λ (q : number_out_of_range ≡ done). omega arith)
-      go (Value v) (value w) = h v w
+      go : (v : Option ℕ) → Judged (InRange (allowed u)) v → F (if_allowed s u start x v)
+      go None r = refused number_out_of_range start (λ (q : number_out_of_range ≡ done). omega arith)
+      go (Some v) (value w) = h v w

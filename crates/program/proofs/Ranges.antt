@@ -9,24 +9,21 @@ use borrow.Author.Tests.{leb-true}
 use lib.Dec.{leb, ltb, eqb}
 use lib.ListN.{length}
 use lib.Seq.{slice}
+use Rattle.std.specs.Prelude.{Option, Some, None, unwrap_or}
 use Rattle.symbols.specs.declared.Symbol.{Symbol}
 use Rattle.symbols.specs.declared.Symbol.TheVariants as symbol
 use Rattle.symbols.specs.declared.words.Word.{Word}
-use Rattle.symbols.specs.declared.spelling.Letter.{Letter as Spelled}
-use Rattle.symbols.specs.declared.spelling.Letter.TheVariants.{Missing, Capital}
 use Rattle.ascii.specs.Ascii.{byte}
 use Rattle.symbols.specs.Bytes.{among, hash, small}
 use Rattle.symbols.specs.Names.{spelled, letter_of}
 use Rattle.symbols.specs.Words.{word_of}
-use Rattle.numerals.specs.declared.WrittenNumber.{WrittenNumber}
-use Rattle.numerals.specs.declared.WrittenNumber.TheVariants.{Outside, Value}
 use Rattle.numerals.specs.Numbers.{numeral, before_point, places, ranged, ten_thousandths, point_of, decimal_of, whole_of}
 use Rattle.grammar.specs.declared.NumberUse.{NumberUse}
 use Rattle.grammar.specs.declared.NumberUse.TheVariants as numberUse
 use Rattle.grammar.specs.declared.NumberRange.{NumberRange}
 use Rattle.grammar.specs.declared.NumberRange.TheVariants as range
 use Rattle.grammar.specs.Syntax.{letter}
-use Rattle.grammar.specs.Terminals.{terminal_number, of_letter, terminal_of, span_of, capital, letter_at}
+use Rattle.grammar.specs.Terminals.{terminal_number, of_letter, terminal_of, span_of, letter_at}
 use Rattle.grammar.specs.Reading.{allowed, number_in, judged}
 use Rattle.grammar.proofs.Numbered.{word_apart, mark_apart}
 use Rattle.program.specs.Allowed.{Decimal, Degree, Letter}
@@ -42,11 +39,11 @@ InRange range.Decimal v = Decimal v
 InRange (range.Whole low high) v = Between low high v
 
 -- a number is outside its range, or P holds of its value
-pub data Judged (P : ℕ → Type 0) : WrittenNumber → Type 0 where
-  outside : Judged P Outside
-  value : {v : ℕ} → P v → Judged P (Value v)
+pub data Judged (P : ℕ → Type 0) : Option ℕ → Type 0 where
+  outside : Judged P None
+  value : {v : ℕ} → P v → Judged P (Some v)
 
-either : {P : ℕ → Type 0} (b : Bool) {o p : WrittenNumber} → Judged P o → Judged P p → Judged P (cond b o p)
+either : {P : ℕ → Type 0} (b : Bool) {o p : Option ℕ} → Judged P o → Judged P p → Judged P (cond b o p)
 either true h k = h
 either false h k = k
 
@@ -59,7 +56,7 @@ ranged_fits : (P : ℕ → Type 0) (low high x : ℕ) → (Between low high x �
 unfolding ranged
 ranged_fits P low high x h = go (leb low x && leb x high) refl
   where
-    go : (b : Bool) → (leb low x && leb x high) ≡ b → Judged P (cond b (Value x) Outside)
+    go : (b : Bool) → (leb low x && leb x high) ≡ b → Judged P (cond b (Some x) None)
     go true e = value (h (both low high x e))
     go false e = outside
 
@@ -95,16 +92,16 @@ degree h = record { least = h.0; most = omega arith }
 
 -- ---- letters
 
-abbrev LetterFits : Spelled → Type 0
-LetterFits Missing = Unit {0}
-LetterFits (Capital c) = Letter c
+abbrev LetterFits : Option ℕ → Type 0
+LetterFits None = Unit {0}
+LetterFits (Some c) = Letter c
 
 letter_fits : (bytes : List ℕ) → LetterFits (letter_of bytes)
 unfolding letter_of
 letter_fits [] = tt
 letter_fits (b ∷ []) = go (among "a" "z" (small b)) refl
   where
-    go : (t : Bool) → among "a" "z" (small b) ≡ t → LetterFits (cond t (Capital (small b - (byte "a" - byte "A"))) Missing)
+    go : (t : Bool) → among "a" "z" (small b) ≡ t → LetterFits (cond t (Some (small b - (byte "a" - byte "A"))) None)
     go true e = let h = both (byte "a") (byte "z") (small b) e in record { least = omega arith; most = omega arith }
     go false e = tt
 letter_fits (b ∷ c ∷ more) = tt
@@ -117,9 +114,9 @@ letter_there text (symbol.Name a b) e = go (letter_of (slice a b text)) (letter_
     w : Word
     w = word_of (spelled (slice a b text))
 
-    go : (l : Spelled) → LetterFits l → of_letter l w ≡ letter → Letter (capital l)
-    go Missing h q = absurd ((word_apart w).0 q)
-    go (Capital c) h q = h
+    go : (l : Option ℕ) → LetterFits l → of_letter l w ≡ letter → Letter (unwrap_or l 0)
+    go None h q = absurd ((word_apart w).0 q)
+    go (Some c) h q = h
 letter_there text (symbol.Number a b) e = let z = ap terminal_number e in absurd (omega arith)
 letter_there text (symbol.Mark k a b) e = absurd ((mark_apart k).0 e)
 letter_there text (symbol.End a) e = let z = ap terminal_number e in absurd (omega arith)
