@@ -3,7 +3,7 @@
 use mathlib.Core.Bool.{Bool, true, false}
 use mathlib.Core.List.{List, [], ◌∷◌, ◌++◌, map, append_assoc}
 use mathlib.Core.Logic.{◌⊎◌, inl, inr, ⊎_elim}
-use Rattle.std.specs.Prelude.{Option, Some, None}
+use Rattle.std.specs.Prelude.{Option, Some, None, Ok, Err}
 use mathlib.Core.Path.{◌≡◌, refl, sym, ◌∙◌, ap, subst}
 use Prim.Native.Nat.{ℕ, zero, suc}
 use native.Mathlib.Omega.{arith}
@@ -12,12 +12,11 @@ use Rattle.status.specs.Status.{no_symbol, symbol_not_allowed, number_out_of_ran
 use Rattle.symbols.specs.declared.Symbol.{Symbol}
 use Rattle.grammar.specs.declared.NumberUse.{NumberUse}
 use Rattle.grammar.specs.declared.Action.{Action}
-use Rattle.grammar.specs.declared.Outcome.{Outcome}
-use Rattle.grammar.specs.declared.Outcome.TheVariants.{Go, Give, Refuse}
+use Rattle.status.specs.Reasons.{number_of}
 use Rattle.grammar.specs.Syntax.{Terminal, nothing, Node, Begin, Finish, Rule, rules}
 use Rattle.grammar.specs.Terminals.{is_nothing, picked, terminal_of, start_of, span_of}
 use Rattle.grammar.specs.Moves.{node_number, node_count}
-use Rattle.grammar.specs.Reading.{used, if_allowed, acted, Standing, Moved, then_at, by_rule, stepped, begun}
+use Rattle.grammar.specs.Reading.{Outcome, used, if_allowed, acted, Standing, Moved, then_at, by_rule, stepped, begun}
 use Rattle.grammar.specs.Reading as reading
 use Rattle.grammar.specs.Live.{walked, NoContinuation, reached, KeyUse, plain, starred, NamedTwice, UnfitNumber, ThreeExactly, Refused, two, three, four, nine, LowerNumber}
 use Rattle.grammar.proofs.Diagrams.{same_node, same_terminal_holds, at_each, none_at_nothing}
@@ -75,9 +74,9 @@ unfolding stepped
 follows text s y ts = go (picked (rules s.node) (terminal_of text y)) refl
   where
     by : (n : Node) → walked s.node (terminal_of text y ∷ ts) ≡ walked n ts → (o : Outcome) → Follows text s y ts (then_at n o)
-    by n e (Refuse k p) = tt
-    by n e (Go t) = e
-    by n e (Give t i) = e
+    by n e (Err f) = tt
+    by n e (Ok (t, None)) = e
+    by n e (Ok (t, Some i)) = e
 
     go : (o : Option Rule) → picked (rules s.node) (terminal_of text y) ≡ o → Follows text s y ts (by_rule text s.kept y o)
     go None e = tt
@@ -126,9 +125,9 @@ module _ (text : List ℕ) (s : Standing) (y : Symbol) where
 
       acts : (r : Rule) → picked (rules s.node) (terminal_of text y) ≡ Some r → (o : Outcome) → Explained text s.kept (span_of y) r.action o
           → then_at r.next o ≡ reading.refuse symbol_not_allowed p → NamedTwice text s y
-      acts r f (Refuse m q) g w = let z : m ≡ symbol_not_allowed = cc in why r f m z g
-      acts r f (Go t) g w = let z : ◌≡◌ {A = ℕ} 0 1 = cc in absurd (omega arith)
-      acts r f (Give t i) g w = let z : ◌≡◌ {A = ℕ} 0 1 = cc in absurd (omega arith)
+      acts r f (Err k) g w = let z : number_of k.reason ≡ symbol_not_allowed = cc in why r f (number_of k.reason) z g
+      acts r f (Ok (t, None)) g w = let z : ◌≡◌ {A = ℕ} 0 1 = cc in absurd (omega arith)
+      acts r f (Ok (t, Some i)) g w = let z : ◌≡◌ {A = ℕ} 0 1 = cc in absurd (omega arith)
 
       go : (o : Option Rule) → picked (rules s.node) (terminal_of text y) ≡ o → by_rule text s.kept y o ≡ reading.refuse symbol_not_allowed p
           → (o ≡ None) ⊎ NamedTwice text s y
@@ -211,9 +210,9 @@ lower_number text ys y s e n p f = by_place (is_nothing (terminal_of text y)) re
 
     by_action_holds : is_nothing (terminal_of text y) ≡ false → (r : Rule) → picked (rules s.node) (terminal_of text y) ≡ Some r → (o : Outcome)
         → Explained text s.kept (span_of y) r.action o → then_at r.next o ≡ reading.refuse n p → Refused text ys s y n
-    by_action_holds h r q (Refuse i k) g w = let z : i ≡ n = cc in why h r q i z g
-    by_action_holds h r q (Go t) g w = let z : ◌≡◌ {A = ℕ} 0 1 = cc in absurd (omega arith)
-    by_action_holds h r q (Give t i) g w = let z : ◌≡◌ {A = ℕ} 0 1 = cc in absurd (omega arith)
+    by_action_holds h r q (Err e) g w = let z : number_of e.reason ≡ n = cc in why h r q (number_of e.reason) z g
+    by_action_holds h r q (Ok (t, None)) g w = let z : ◌≡◌ {A = ℕ} 0 1 = cc in absurd (omega arith)
+    by_action_holds h r q (Ok (t, Some i)) g w = let z : ◌≡◌ {A = ℕ} 0 1 = cc in absurd (omega arith)
 
     by_rule_step : is_nothing (terminal_of text y) ≡ false → (o : Option Rule) → picked (rules s.node) (terminal_of text y) ≡ o
         → by_rule text s.kept y o ≡ reading.refuse n p → Refused text ys s y n

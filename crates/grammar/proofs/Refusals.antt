@@ -2,7 +2,7 @@
 -- Assumes nothing.
 use mathlib.Core.Bool.{Bool, true, false, cond}
 use mathlib.Core.List.{List}
-use Rattle.std.specs.Prelude.{Option, Some, None}
+use Rattle.std.specs.Prelude.{Option, Some, None, Ok, Err}
 use mathlib.Core.Path.{◌≡◌, refl}
 use Prim.Native.Nat.{ℕ}
 use lib.Dec.{T, leb, eqb}
@@ -20,12 +20,12 @@ use Rattle.grammar.specs.declared.Action.TheVariants.{Pass, Declare, Hold, Held,
 use Rattle.grammar.specs.declared.Item.{Item}
 use Rattle.grammar.specs.declared.Progress.{Progress}
 use Rattle.grammar.specs.declared.Span.{Span}
-use Rattle.grammar.specs.declared.Outcome.{Outcome}
-use Rattle.grammar.specs.declared.Outcome.TheVariants.{Go, Give, Refuse}
+use Rattle.status.specs.declared.Reason.TheVariants.{SymbolNotAllowed, ItemTooMany}
+use Rattle.status.specs.Reasons.{number_of}
 use Rattle.grammar.specs.Syntax.{Terminal, Node, Rule, rules}
 use Rattle.grammar.specs.Terminals.{picked}
 use Rattle.grammar.specs.Moves.{action_number}
-use Rattle.grammar.specs.Reading.{most_terms, most_positions, judged, limit, so_far, unless_full, key_named, key_counted, with_key, used, if_allowed, numbered, acted}
+use Rattle.grammar.specs.Reading.{Outcome, refusal, most_terms, most_positions, judged, limit, so_far, unless_full, key_named, key_counted, with_key, used, if_allowed, numbered, acted}
 use Rattle.grammar.specs.Live.{KeyUse, plain, starred}
 use Rattle.grammar.proofs.Table.{both, both_left, both_right, each}
 use Rattle.grammar.proofs.Diagrams.{at_each, picked_of}
@@ -58,14 +58,13 @@ module _ (text : List ℕ) (s : Progress) (x : Span) where
     held_key : {u : NumberUse} → KeyUse u → a ≡ Held u → Why a symbol_not_allowed
 
   abbrev pub Explained : Action → Outcome → Type 0
-  Explained a (Refuse k p) = Why a k
-  Explained a (Go t) = Unit {0}
-  Explained a (Give t i) = Unit {0}
+  Explained a (Err e) = Why a (number_of e.reason)
+  Explained a (Ok kept) = Unit {0}
 
   full_why : (a : Action) (most n : ℕ) (o : Outcome) → Explained a o → Explained a (unless_full most n x o)
   full_why a most n o h = go (leb most n)
     where
-      go : (b : Bool) → Explained a (cond b (Refuse item_too_many x.start) o)
+      go : (b : Bool) → Explained a (cond b (Err (refusal ItemTooMany x.start)) o)
       go true = full
       go false = h
 
@@ -73,9 +72,9 @@ module _ (text : List ℕ) (s : Progress) (x : Span) where
   key_why : (a : Action) (v : ℕ) (i : Item) → (has s.keys v ≡ true → Why a symbol_not_allowed) → Explained a (key_named s v i x)
   key_why a v i k = go (has s.keys v) refl
     where
-      go : (b : Bool) → has s.keys v ≡ b → Explained a (cond b (Refuse symbol_not_allowed x.start) (key_counted s x (Give (with_key v s) i)))
+      go : (b : Bool) → has s.keys v ≡ b → Explained a (cond b (Err (refusal SymbolNotAllowed x.start)) (key_counted s x (Ok (with_key v s, Some i))))
       go true e = k e
-      go false e = full_why a most_harmony_keys s.positions (Give (with_key v s) i) tt
+      go false e = full_why a most_harmony_keys s.positions (Ok (with_key v s, Some i)) tt
 
   used_why : (a : Action) (u : NumberUse) (v : ℕ) → (KeyUse u → has s.keys v ≡ true → Why a symbol_not_allowed) → Explained a (used s u v x)
   used_why a RatioFirst v k = tt

@@ -2,11 +2,11 @@
 -- Assumes nothing.
 use mathlib.Core.Bool.{Bool, true, false, cond}
 use mathlib.Core.List.{List, [], ◌∷◌, ◌++◌, append-nil}
-use Rattle.std.specs.Prelude.{Option, Some, None}
+use Rattle.std.specs.Prelude.{Option, Some, None, Result, Ok, Err, IsErrAnd}
 use mathlib.Core.Path.{◌≡◌, refl, sym, ◌∙◌, ap, subst}
 use Prim.Native.Nat.{ℕ, ◌+◌, ◌-◌, ◌*◌, ◌^◌, ◌≤◌, ◌<◌}
 use native.Mathlib.Omega.{arith}
-use Rattle.std.proofs.lemmas.Option.{same_Some}
+use Rattle.std.proofs.lemmas.Option.{same_Some, none-some}
 use borrow.Author.Tests.{eq-eqb, ne_eqb, le-leb, lt-leb}
 use lib.Dec.{leb, eqb}
 use lib.ListN.{length, set, length-append}
@@ -32,13 +32,14 @@ use Rattle.grammar.specs.declared.Action.TheVariants.{Pass, Declare, Hold, Held,
 use Rattle.grammar.specs.declared.Item.{Item}
 use Rattle.grammar.specs.declared.Progress.{Progress}
 use Rattle.grammar.specs.declared.Span.{Span}
-use Rattle.grammar.specs.declared.Outcome.{Outcome}
-use Rattle.grammar.specs.declared.Outcome.TheVariants.{Go, Give, Refuse}
-use Rattle.grammar.specs.declared.reading.Reading.{Reading}
+use Rattle.status.specs.declared.Reason.{Reason}
+use Rattle.status.specs.declared.Reason.TheVariants.{TextTooLong, NoSymbol, SymbolNotAllowed, ItemTooMany}
+use Rattle.status.specs.declared.Refusal.{Refusal}
+use Rattle.status.specs.Reasons.{number_of}
 use Rattle.grammar.specs.Syntax.{Terminal, end, nothing, Node, Begin, Finish, Rule, rules}
 use Rattle.grammar.specs.Terminals.{terminal_number, picked, of_letter, terminal_of, start_of, end_of, span_of}
 use Rattle.grammar.specs.Moves.{Move, node_number, move_by, move_of}
-use Rattle.grammar.specs.Reading.{Read, limit, most_terms, most_positions, so_far, one_more, with_counts, with_positions, no_term, next_term, unless_full, counted, positioned, judged, used, if_allowed, numbered, acted, standing, Moved, then_at, not_allowed, by_rule, stepped, begun, with, refused_at, read_from, most_bytes, read_items, answered, with_keys, with_key, with_bracketed, in_brackets, key_counted, key_named, order_counted}
+use Rattle.grammar.specs.Reading.{Outcome, refusal, Answered, Read, limit, most_terms, most_positions, so_far, one_more, with_counts, with_positions, no_term, next_term, unless_full, counted, positioned, judged, used, if_allowed, numbered, acted, standing, Moved, then_at, not_allowed, by_rule, stepped, begun, with, refused_at, read_whole, read_from, most_bytes, read_items, with_keys, with_key, with_bracketed, in_brackets, key_counted, key_named, order_counted}
 use Rattle.grammar.specs.Reading as reading
 use Rattle.grammar.specs.Items.{holding, most_items}
 use Rattle.grammar.proofs.Numbered.{word_apart, mark_apart}
@@ -71,36 +72,40 @@ module _ (n : Node) (t : Terminal) where
           let same = same_Some (a, k) (r.action, node_number r.next) q in
           record { rule = r; picks = p; does = ap (λ (m : Move). m.0) same; leads = ap (λ (m : Move). m.1) same }
 
+-- the item that is given
+given_of : Outcome → Option Item
+given_of (Ok kept) = kept.1
+given_of (Err e) = None
+
 -- ---- an action adds at most one term
 
 abbrev pub Grown : ℕ → Outcome → Type 0
-Grown n (Refuse k p) = Unit {0}
-Grown n (Go s) = s.term.before ≤ n + 1
-Grown n (Give s i) = s.term.before ≤ n + 1
+Grown n (Err e) = Unit {0}
+Grown n (Ok kept) = kept.0.term.before ≤ n + 1
 
 full_grown : (n most k : ℕ) (x : Span) (o : Outcome) → Grown n o → Grown n (unless_full most k x o)
 full_grown n most k x o h = go (leb most k)
   where
-    go : (b : Bool) → Grown n (cond b (Refuse item_too_many x.start) o)
+    go : (b : Bool) → Grown n (cond b (Err (refusal ItemTooMany x.start)) o)
     go true = tt
     go false = h
 
 counted_grown : (s : Progress) (k : Kind) (i : Item) (x : Span) → Grown s.term.before (counted s k i x)
 counted_grown s k i x =
-    full_grown s.term.before (limit k) (so_far k s.counts) x (Give (with_counts (one_more k s.counts) (with_bracketed 0 (with_keys 0 (with_positions 0 (no_term s))))) i) (omega arith)
+    full_grown s.term.before (limit k) (so_far k s.counts) x (Ok (with_counts (one_more k s.counts) (with_bracketed 0 (with_keys 0 (with_positions 0 (no_term s)))), Some i)) (omega arith)
 
 positioned_grown : (s : Progress) (i : Item) (x : Span) → Grown s.term.before (positioned s i x)
-positioned_grown s i x = full_grown s.term.before most_positions s.positions x (Give (with_positions (s.positions + 1) (no_term s)) i) (omega arith)
+positioned_grown s i x = full_grown s.term.before most_positions s.positions x (Ok (with_positions (s.positions + 1) (no_term s), Some i)) (omega arith)
 
 key_grown : (s : Progress) (v : ℕ) (i : Item) (x : Span) → Grown s.term.before (key_named s v i x)
 key_grown s v i x = go (has s.keys v)
   where
-    go : (b : Bool) → Grown s.term.before (cond b (Refuse symbol_not_allowed x.start) (key_counted s x (Give (with_key v s) i)))
+    go : (b : Bool) → Grown s.term.before (cond b (Err (refusal SymbolNotAllowed x.start)) (key_counted s x (Ok (with_key v s, Some i))))
     go true = tt
-    go false = full_grown s.term.before most_harmony_keys s.positions x (Give (with_key v s) i) (omega arith)
+    go false = full_grown s.term.before most_harmony_keys s.positions x (Ok (with_key v s, Some i)) (omega arith)
 
 bracketed_grown : (s : Progress) (i : Item) (x : Span) → Grown s.term.before (in_brackets s i x)
-bracketed_grown s i x = full_grown s.term.before most_placeholders s.bracketed x (Give (with_bracketed (s.bracketed + 1) s) i) (omega arith)
+bracketed_grown s i x = full_grown s.term.before most_placeholders s.bracketed x (Ok (with_bracketed (s.bracketed + 1) s, Some i)) (omega arith)
 
 used_grown : (s : Progress) (u : NumberUse) (v : ℕ) (x : Span) → Grown s.term.before (used s u v x)
 used_grown s RatioFirst v x = omega arith
@@ -133,7 +138,7 @@ acted_grown text s (Declare k) x = counted_grown s k _ x
 acted_grown text s Hold x = omega arith
 acted_grown text s (Held u) x = numbered_grown text s u s.first.start s.first.end x
 acted_grown text s (Number u) x = numbered_grown text s u x.start x.end x
-acted_grown text s (Sign m) x = full_grown s.term.before most_terms s.term.before x (Go (next_term m 1 s.term.before s)) (omega arith)
+acted_grown text s (Sign m) x = full_grown s.term.before most_terms s.term.before x (Ok (next_term m 1 s.term.before s, None)) (omega arith)
 acted_grown text s (Name Term) x = omega arith
 acted_grown text s (Name Base) x = omega arith
 acted_grown text s (Name Position) x = positioned_grown s _ x
@@ -149,7 +154,7 @@ acted_grown text s (Mark KeptAnchor) x = omega arith
 acted_grown text s (Mark KeptWidth) x = omega arith
 acted_grown text s (Mark Period) x = omega arith
 acted_grown text s (Mark Onward) x = omega arith
-acted_grown text s (Mark Star) x = full_grown s.term.before most_harmony_keys s.positions x (Go s) (omega arith)
+acted_grown text s (Mark Star) x = full_grown s.term.before most_harmony_keys s.positions x (Ok (s, None)) (omega arith)
 acted_grown text s Letter x = omega arith
 acted_grown text s CountOrder x = order_grown s x _ (omega arith)
 
@@ -262,25 +267,39 @@ midway_first text before h k = record {
 }
 
 -- what a call answers, and what the slice holds then
-abbrev pub Answer : (text : List ℕ) (before items : List Item) (count number place : ℕ) → Type 0
-Answer text before items count number place =
-    (◌≡◌ {A = Reading} (record { count = count; number = number; place = place }) (answered (read_items text))) × (items ≡ holding (read_items text).items before)
+abbrev pub Answer : (text : List ℕ) (before items : List Item) → Result ℕ Refusal → Type 0
+Answer text before items r = Answered (read_items text) r × (items ≡ holding (read_items text).items before)
 
-pub too_long : (text : List ℕ) (items : List Item) → most_bytes < length text → Answer text items items 0 text_too_long 0
+pub too_long : (text : List ℕ) (items : List Item) → most_bytes < length text → Answer text items items (Err (refusal TextTooLong 0))
 unfolding read_items
-too_long text items h = rw (lt-leb (length text) most_bytes h) (refl, refl)
+too_long text items h = rw (lt-leb (length text) most_bytes h) ((refl, refl), refl)
+
+-- why a symbol is refused for which there is no rule
+reason_number : (b : Bool) → cond b no_symbol symbol_not_allowed ≡ number_of (cond b NoSymbol SymbolNotAllowed)
+reason_number true = refl
+reason_number false = refl
 
 module _ {text : List ℕ} {before items : List Item} {n : Node} {s : Progress} {at count : ℕ} (st : Midway text before items n s at count) where
   -- the slice keeps its length
   kept : length items ≡ length before
   kept = ap length st.held ∙ length_holding st.so_far_case before (omega (arith, st.few, st.counted, st.within, st.short, st.room))
 
-  stopped : {k p : ℕ} → read_from text (standing n s) (symbols_from text at) ≡ refused_at k p → Answer text before items count k p
-  stopped {k} {p} e =
+  stops : {k p : ℕ} → read_from text (standing n s) (symbols_from text at) ≡ refused_at k p
+      → read_items text ≡ record { items = st.so_far_case; number = k; place = p }
+  stops {k} {p} e =
       let is = st.so_far_case in
-      let r : read_items text ≡ record { items = is; number = k; place = p } =
-      st.left ∙ ap (onto is) e ∙ ap (λ (l : List Item). record { items = l; number = k; place = p }) (append-nil is) in
-      (ap (λ (m : ℕ). record { count = m; number = k; place = p }) st.counted ∙ ap answered (sym r), st.held ∙ ap (λ (q : Read). holding q.items before) (sym r))
+      st.left ∙ ap (onto is) e ∙ ap (λ (l : List Item). record { items = l; number = k; place = p }) (append-nil is)
+
+  holds : {r : Read} → read_items text ≡ r → r.items ≡ st.so_far_case → items ≡ holding (read_items text).items before
+  holds e f = st.held ∙ ap (λ (l : List Item). holding l before) (sym (ap (λ (q : Read). q.items) e ∙ f))
+
+  stopped : (e : Refusal) → read_from text (standing n s) (symbols_from text at) ≡ refused_at (number_of e.reason) e.place → Answer text before items (Err e)
+  stopped e q = let r = stops q in ((ap (λ (q : Read). q.number) r, ap (λ (q : Read). q.place) r), holds r refl)
+
+  completed : read_from text (standing n s) (symbols_from text at) ≡ read_whole → Answer text before items (Ok count)
+  completed q =
+      let r = stops q in
+      ((st.counted ∙ sym (ap (λ (q : Read). length q.items) r), ap (λ (q : Read). q.number) r, ap (λ (q : Read). q.place) r), holds r refl)
 
   -- the first symbol from `at` on is y
   module _ {y : Symbol} (ey : y ≡ next_symbol text at) where
@@ -293,29 +312,28 @@ module _ {text : List ℕ} {before items : List Item} {n : Node} {s : Progress} 
         ap (read_from text (standing n s)) (symbols_next text at st.within ∙ ap (λ (z : Symbol). z ∷ going_on text (after z)) (sym ey))
         ∙ turned_by text n s y (going_on text (after y)) e
 
-    unruled : picked (rules n) (terminal_of text y) ≡ None → Answer text before items count (not_allowed (terminal_of text y)) (start_of y)
-    unruled e = stopped (reads e)
+    unruled : picked (rules n) (terminal_of text y) ≡ None → (e : Refusal) → not_allowed (terminal_of text y) ≡ number_of e.reason → start_of y ≡ e.place
+        → Answer text before items (Err e)
+    unruled p e k q = stopped e (reads p ∙ ap (λ (m : ℕ). refused_at m (start_of y)) k ∙ ap (refused_at (number_of e.reason)) q)
 
     -- a rule leads to o
     module _ {r : Rule} (picks : picked (rules n) (terminal_of text y) ≡ Some r) {o : Outcome} (eo : o ≡ acted text s r.action (span_of y)) where
       reads_on : read_from text (standing n s) (symbols_from text at) ≡ turned text (then_at r.next o) (going_on text (after y))
       reads_on = reads picks ∙ ap (λ (p : Outcome). turned text (then_at r.next p) (going_on text (after y))) (sym eo)
 
-      refused : {k p : ℕ} → o ≡ Refuse k p → Answer text before items count k p
-      refused q = stopped (reads_on ∙ rw q)
+      refused : (e : Refusal) → o ≡ Err e → Answer text before items (Err e)
+      refused e q = stopped e (reads_on ∙ rw q)
 
-      finished : {t : Progress} → o ≡ Go t → r.next ≡ Finish → Answer text before items count done 0
+      finished : {t : Progress} → o ≡ Ok (t, None) → r.next ≡ Finish → Answer text before items (Ok count)
       unfolding read_from
-      finished {t} q f = stopped (reads_on ∙ rw (q, none_after_finish text n y picks f))
+      finished {t} q f = completed (reads_on ∙ rw (q, none_after_finish text n y picks f))
 
       -- an item is not given at the end
-      given_before : {t : Progress} {i : Item} → o ≡ Give t i → after y ≡ None → ⊥
-      unfolding acted
+      given_before : {t : Progress} {i : Item} → o ≡ Ok (t, Some i) → after y ≡ None → ⊥
+      unfolding acted given_of
       given_before q e =
           let f = finish_after_none text n y picks e in
-          let p = sym q ∙ eo ∙ ap (λ (a : Action). acted text s a (span_of y)) f.1 in
-          let z : ◌≡◌ {A = ℕ} 0 1 = cc in
-          omega arith
+          none-some _ (sym (ap given_of (sym q ∙ eo ∙ ap (λ (a : Action). acted text s a (span_of y)) f.1)))
 
       -- reading goes on with progress t: later in the text, with at most one term more
       record Further (t : Progress) : Type 0 where
@@ -340,7 +358,7 @@ module _ {text : List ℕ} {before items : List Item} {n : Node} {s : Progress} 
               }
 
       -- less of the text is left, and reading stands after the symbol
-      goes_on : {t : Progress} → o ≡ Go t → (r.next ≡ Finish → ⊥)
+      goes_on : {t : Progress} → o ≡ Ok (t, None) → (r.next ≡ Finish → ⊥)
           → (length text - end_of y < length text - at) × Midway text before items r.next t (end_of y) count
       goes_on {t} q m =
           let f = further t (λ e. m (finish_after_none text n y picks e).0) (λ g. subst (Grown s.term.before) q g) in
@@ -360,7 +378,7 @@ module _ {text : List ℕ} {before items : List Item} {n : Node} {s : Progress} 
             },
           )
 
-      gives : {t : Progress} {i : Item} {next : List Item} → o ≡ Give t i → next ≡ set items count i
+      gives : {t : Progress} {i : Item} {next : List Item} → o ≡ Ok (t, Some i) → next ≡ set items count i
           → (length text - end_of y < length text - at) × Midway text before next r.next t (end_of y) (count + 1)
       gives {t} {i} {next} q e =
           let f = further t (given_before q) (λ g. subst (Grown s.term.before) q g) in
@@ -386,13 +404,18 @@ module _ {text : List ℕ} {before items : List Item} {n : Node} {s : Progress} 
             },
           )
 
+-- a refusal that is handed on
+pub handed_on : (r : Result ℕ Refusal) {e : Refusal} → IsErrAnd r (λ f. f ≡ e) → r ≡ Err e
+handed_on (Ok n) h = absurd h
+handed_on (Err f) h = ap (λ (g : Refusal). Err g) h
+
 -- ---- the loop: reading stands at the node of which the code holds the number, or is finished
 
 pub record Walking (text : List ℕ) (before items : List Item) (s : Progress) (node at count : ℕ) : Type 0 where
   pub stands : Node
   pub number : node ≡ node_number stands
   pub midway : (node ≡ node_number Finish → ⊥) → Midway text before items stands s at count
-  pub ended : node ≡ node_number Finish → Answer text before items count done 0
+  pub ended : node ≡ node_number Finish → Answer text before items (Ok count)
   pub same_size : length items ≡ length before
 
 -- how many symbols may still come
@@ -427,11 +450,11 @@ module _ {text : List ℕ} {before items : List Item} {s : Progress} {node at co
     fits = spans_fit (w.midway n) ey
 
     module _ {t : ℕ} (et : t ≡ terminal_number (terminal_of text y)) {x : Span} (ex : x ≡ span_of y) where
-      pub walk_unruled : None ≡ move_of node t → {k : ℕ} → k ≡ cond (eqb t (terminal_number nothing)) no_symbol symbol_not_allowed
-          → Answer text before items count k x.start
+      pub walk_unruled : None ≡ move_of node t → {k : Reason} → k ≡ cond (eqb t (terminal_number nothing)) NoSymbol SymbolNotAllowed
+          → Answer text before items (Err (refusal k x.start))
       walk_unruled e {k} ek =
           let q = no_rule w.stands (terminal_of text y) (e ∙ rw (w.number, et)) in
-          rw (ex, ek, et) (unruled (w.midway n) ey q)
+          rw (ex, ek, et) (unruled (w.midway n) ey q _ (reason_number (eqb (terminal_number (terminal_of text y)) (terminal_number nothing))) refl)
 
       -- its move's action leads to o
       module _ {a : Action} {k : ℕ} (e : Some (a, k) ≡ move_of node t) {o : Outcome} (eo : o ≡ acted text s a x) where
@@ -444,12 +467,12 @@ module _ {text : List ℕ} {before items : List Item} {s : Progress} {node at co
         next_is : (k ≡ node_number Finish → ⊥) → by.rule.next ≡ Finish → ⊥
         next_is m f = m (by.leads ∙ ap node_number f)
 
-        pub walk_refused : {m p : ℕ} → o ≡ Refuse m p → Answer text before items count m p
-        walk_refused q = refused (w.midway n) ey by.picks done_so q
+        pub walk_refused : {f : Refusal} → o ≡ Err f → Answer text before items (Err f)
+        walk_refused {f} q = refused (w.midway n) ey by.picks done_so f q
 
         module _ {u : Progress} where
-          pub walks_on : o ≡ Go u → (turns_left text k x.end < turns_left text node at) × Walking text before items u k x.end count
-          walks_on q = rw ex (
+          pub walks_on : {item : Option Item} → o ≡ Ok (u, item) → item ≡ None → (turns_left text k x.end < turns_left text node at) × Walking text before items u k x.end count
+          walks_on given none = let q : o ≡ Ok (u, None) = rw none at given in rw ex (
             turns_less text node k at (end_of y) n (λ m. (goes_on (w.midway n) ey by.picks done_so q (next_is m)).0),
             record {
               stands = by.rule.next;
@@ -460,9 +483,10 @@ module _ {text : List ℕ} {before items : List Item} {s : Progress} {node at co
             },
           )
 
-          pub walks_with : {i : Item} {next : List Item} → o ≡ Give u i → next ≡ set items count i
+          pub walks_with : {item : Option Item} → o ≡ Ok (u, item) → {i : Item} {next : List Item} → item ≡ Some i → next ≡ set items count i
               → (turns_left text k x.end < turns_left text node at) × Walking text before next u k x.end (count + 1)
-          walks_with {i} {next} q h =
+          walks_with given {i} {next} some h =
+              let q : o ≡ Ok (u, Some i) = rw some at given in
               let g = gives (w.midway n) ey by.picks done_so q h in
               rw ex (
                 turns_less text node k at (end_of y) n (λ m. g.0),

@@ -1,7 +1,11 @@
 -- Reading a text symbol by symbol into items: document 01, "Declarations", "Numbers allowed", and the numbers 2, 3, 4 and 9; document 02, 5/13 and 1/13.
-use Rattle.std.specs.Prelude.{Bool, true, false, cond, List, [], ◌∷◌, ℕ, ◌+◌, leb, length, Option, Some, None}
+use Rattle.std.specs.Prelude.{◌≡◌, Bool, true, false, cond, List, [], ◌∷◌, ℕ, ◌+◌, leb, length, Option, Some, None, Result, Ok, Err}
 use Rattle.std.proofs.Math.Seq.{slice}
-use Rattle.status.specs.Status.{done, text_too_long, no_symbol, symbol_not_allowed, number_out_of_range, item_too_many}
+use Rattle.status.specs.declared.Reason.{Reason}
+use Rattle.status.specs.declared.Reason.TheVariants.{SymbolNotAllowed, NumberOutOfRange, ItemTooMany}
+use Rattle.status.specs.declared.Refusal.{Refusal}
+use Rattle.status.specs.Reasons.{number_of}
+use Rattle.status.specs.Status.{done, text_too_long, no_symbol, symbol_not_allowed}
 use Rattle.numerals.specs.Numbers.{decimal_of, whole_of}
 use Rattle.grammar.specs.declared.Kind.{Kind}
 use Rattle.grammar.specs.declared.Kind.TheVariants.{Interval, Tone, System, Retuning, Logic, Order as AnOrder, Harmony}
@@ -24,11 +28,8 @@ use Rattle.grammar.specs.declared.FirstNumber.{FirstNumber}
 use Rattle.grammar.specs.declared.NextTerm.{NextTerm}
 use Rattle.grammar.specs.declared.Progress.{Progress}
 use Rattle.grammar.specs.declared.Span.{Span}
-use Rattle.grammar.specs.declared.Outcome.{Outcome}
-use Rattle.grammar.specs.declared.Outcome.TheVariants.{Go, Give, Refuse}
 use Rattle.symbols.specs.Symbols.{symbols}
 use Rattle.symbols.specs.declared.Symbol.{Symbol}
-use Rattle.grammar.specs.declared.reading.Reading.{Reading}
 use Rattle.grammar.specs.Syntax.{Terminal, Node, Begin, Rule, rules}
 use Rattle.sets.specs.Sets.{has, added}
 use Rattle.limits.specs.Limits.{least_degree, most_degree, most_factor, most_anchor, most_amount, least_divisor, most_intervals, most_tone_names, most_systems, most_logics, most_retunings, most_orders, most_harmonies, most_harmony_key, most_harmony_keys, most_placeholders}
@@ -139,14 +140,21 @@ no_term s = next_term false 1 0 s
 
 -- ---- what each action does at the symbol x
 
+-- a refusal, or what reading keeps from then on, perhaps with an item
+abbrev pub Outcome : Type 0
+Outcome = Result (Progress × Option Item) Refusal
+
+abbrev pub refusal : Reason → ℕ → Refusal
+refusal r p = record { reason = r; place = p }
+
 -- "one more item than allowed; its first symbol"
 abbrev pub unless_full : ℕ → ℕ → Span → Outcome → Outcome
-unless_full most n x o = cond (leb most n) (Refuse item_too_many x.start) o
+unless_full most n x o = cond (leb most n) (Err (refusal ItemTooMany x.start)) o
 
 -- a declaration begins with its name; there is no term, no position, no key and no placeholder yet
 abbrev pub counted : Progress → Kind → Item → Span → Outcome
 counted s k i x =
-    unless_full (limit k) (so_far k s.counts) x (Give (with_counts (one_more k s.counts) (with_bracketed 0 (with_keys 0 (with_positions 0 (no_term s))))) i)
+    unless_full (limit k) (so_far k s.counts) x (Ok (with_counts (one_more k s.counts) (with_bracketed 0 (with_keys 0 (with_positions 0 (no_term s)))), Some i))
 
 -- an order begins with KEY, or with the name of its harmony
 abbrev pub order_counted : Progress → Span → Outcome → Outcome
@@ -157,7 +165,7 @@ with_order s = with_counts (one_more AnOrder s.counts) s
 
 -- a sign belongs to its term
 abbrev pub signed : Progress → Bool → Span → Outcome
-signed s m x = unless_full most_terms s.term.before x (Go (next_term m 1 s.term.before s))
+signed s m x = unless_full most_terms s.term.before x (Ok (next_term m 1 s.term.before s, None))
 
 abbrev pub term_item : Bool → ℕ → ℕ → Item
 term_item true factor place = item.Subtract factor place
@@ -165,11 +173,11 @@ term_item false factor place = item.Add factor place
 
 -- a term ends with its interval's name
 abbrev pub termed : Progress → ℕ → Span → Outcome
-termed s factor x = Give (next_term false 1 (s.term.before + 1) s) (term_item s.term.minus factor x.start)
+termed s factor x = Ok (next_term false 1 (s.term.before + 1) s, Some (term_item s.term.minus factor x.start))
 
 -- a position of a list, with no terms yet; "(empty: the mark after)"
 abbrev pub positioned : Progress → Item → Span → Outcome
-positioned s i x = unless_full most_positions s.positions x (Give (with_positions (s.positions + 1) (no_term s)) i)
+positioned s i x = unless_full most_positions s.positions x (Ok (with_positions (s.positions + 1) (no_term s), Some i))
 
 -- a key of a harmony: "at most 64 harmonies of at most 60 keys"
 abbrev pub key_counted : Progress → Span → Outcome → Outcome
@@ -180,54 +188,54 @@ with_key v s = with_keys (added s.keys v) (with_positions (s.positions + 1) s)
 
 -- "3 also for .. a number named twice"; its number begins a key, unless a star does
 abbrev pub key_named : Progress → ℕ → Item → Span → Outcome
-key_named s v i x = cond (has s.keys v) (Refuse symbol_not_allowed x.start) (key_counted s x (Give (with_key v s) i))
+key_named s v i x = cond (has s.keys v) (Err (refusal SymbolNotAllowed x.start)) (key_counted s x (Ok (with_key v s, Some i)))
 
 -- document 02, 1/13: a placeholder's name, or a number that a call gives: "9 for a fifth name or number"
 abbrev pub in_brackets : Progress → Item → Span → Outcome
-in_brackets s i x = unless_full most_placeholders s.bracketed x (Give (with_bracketed (s.bracketed + 1) s) i)
+in_brackets s i x = unless_full most_placeholders s.bracketed x (Ok (with_bracketed (s.bracketed + 1) s, Some i))
 
 -- what is called, by the place of its name, which stays in the item where its meaning is put for the other; it gives no number yet
 abbrev pub called : Progress → Item → Outcome
-called s i = Give (with_bracketed 0 s) i
+called s i = Ok (with_bracketed 0 s, Some i)
 
 abbrev pub named : Progress → NameUse → Span → Outcome
 named s Term x = termed s s.term.factor x
-named s Base x = Give s (item.Base x.start)
+named s Base x = Ok (s, Some (item.Base x.start))
 named s Position x = positioned s (item.TonePosition x.start) x
 named s Start x = called s (item.Start x.start x.start)
 named s Order x = called s (item.Order x.start x.start)
-named s Trigger x = Give s (item.Trigger x.start)
-named s CountedTrigger x = order_counted s x (Give (with_order s) (item.Trigger x.start))
+named s Trigger x = Ok (s, Some (item.Trigger x.start))
+named s CountedTrigger x = order_counted s x (Ok (with_order s, Some (item.Trigger x.start)))
 named s Placeholder x = in_brackets s (item.Placeholder x.start) x
-named s (NamedAmount f) x = Give s (item.AmountName f x.start)
+named s (NamedAmount f) x = Ok (s, Some (item.AmountName f x.start))
 
 abbrev pub marked : Progress → MarkUse → Span → Outcome
 marked s MutedPosition x = positioned s item.MutedPosition x
 marked s KeptPosition x = positioned s item.KeptPosition x
-marked s KeptAnchor x = Give s item.AnchorKept
-marked s KeptWidth x = Give s item.WidthKept
-marked s Period x = Give s item.Period
-marked s Onward x = Give s item.Onward
-marked s Star x = key_counted s x (Go s)
+marked s KeptAnchor x = Ok (s, Some item.AnchorKept)
+marked s KeptWidth x = Ok (s, Some item.WidthKept)
+marked s Period x = Ok (s, Some item.Period)
+marked s Onward x = Ok (s, Some item.Onward)
+marked s Star x = key_counted s x (Ok (s, None))
 
 -- a number of which the value is allowed, at the symbol x
 abbrev pub used : Progress → NumberUse → ℕ → Span → Outcome
-used s RatioFirst v x = Go (judged_first v s)
-used s RatioSecond v x = Give s (item.Ratio s.first.value v)
-used s Degree v x = Go (judged_first v s)
-used s Radicand v x = Give s (item.Root s.first.value v)
+used s RatioFirst v x = Ok (judged_first v s, None)
+used s RatioSecond v x = Ok (s, Some (item.Ratio s.first.value v))
+used s Degree v x = Ok (judged_first v s, None)
+used s Radicand v x = Ok (s, Some (item.Root s.first.value v))
 used s FirstFactor v x = termed s v x
-used s Factor v x = Go (next_term s.term.minus v s.term.before s)
-used s Frequency v x = Give s (item.Frequency v)
-used s AnchorKey v x = Give s (item.AnchorKey v)
-used s (Amount f) v x = Give s (item.Amount f v)
+used s Factor v x = Ok (next_term s.term.minus v s.term.before s, None)
+used s Frequency v x = Ok (s, Some (item.Frequency v))
+used s AnchorKey v x = Ok (s, Some (item.AnchorKey v))
+used s (Amount f) v x = Ok (s, Some (item.Amount f v))
 used s Key v x = key_named s v (item.Key v) x
 used s StarredKey v x = key_named s v (item.StarredKey v) x
 used s Argument v x = in_brackets s (item.Argument v) x
 
 -- "number out of range, too many places, or a point where whole is asked; its place": the number from `start` to `end`
 abbrev pub if_allowed : Progress → NumberUse → ℕ → Span → Option ℕ → Outcome
-if_allowed s u start x None = Refuse number_out_of_range start
+if_allowed s u start x None = Err (refusal NumberOutOfRange start)
 if_allowed s u start x (Some v) = used s u v x
 
 abbrev pub numbered : List ℕ → Progress → NumberUse → ℕ → ℕ → Span → Outcome
@@ -235,16 +243,16 @@ numbered text s u start end x = if_allowed s u start x (judged u (slice start en
 
 -- what is done at the symbol x
 unfoldable pub acted : List ℕ → Progress → Action → Span → Outcome
-acted text s Pass x = Go s
+acted text s Pass x = Ok (s, None)
 acted text s (Declare k) x = counted s k (item.Declared k x.start) x
-acted text s Hold x = Go (held_first x s)
+acted text s Hold x = Ok (held_first x s, None)
 acted text s (Held u) x = numbered text s u s.first.start s.first.end x
 acted text s (Number u) x = numbered text s u x.start x.end x
 acted text s (Sign m) x = signed s m x
 acted text s (Name u) x = named s u x
 acted text s (Mark u) x = marked s u x
-acted text s Letter x = Give s (item.Letter (letter_at text x))
-acted text s CountOrder x = order_counted s x (Go (with_order s))
+acted text s Letter x = Ok (s, Some (item.Letter (letter_at text x)))
+acted text s CountOrder x = order_counted s x (Ok (with_order s, None))
 
 -- ---- one symbol
 
@@ -262,11 +270,14 @@ pub data Moved : Type 0 where
   go : Standing → Moved
   give : Standing → Item → Moved
 
+abbrev pub goes_to : Standing → Option Item → Moved
+goes_to s None = go s
+goes_to s (Some i) = give s i
+
 -- after what is done, the next node
 abbrev pub then_at : Node → Outcome → Moved
-then_at n (Go s) = go (standing n s)
-then_at n (Give s i) = give (standing n s) i
-then_at n (Refuse k p) = refuse k p
+then_at n (Ok kept) = goes_to (standing n kept.0) kept.1
+then_at n (Err e) = refuse (number_of e.reason) e.place
 
 -- where there is no rule: "symbol that no continuation allows; its place", or 2 where there is no symbol
 abbrev pub not_allowed : Terminal → ℕ
@@ -320,6 +331,7 @@ read_from text s (y ∷ ys) =
 unfoldable pub read_items : List ℕ → Read
 read_items text = cond (leb (length text) most_bytes) (read_from text begun (symbols text)) (refused_at text_too_long 0)
 
--- as a call answers it: how many items, and the refusal's number and place, or 0 and 0
-abbrev pub answered : Read → Reading
-answered r = record { count = length r.items; number = r.number; place = r.place }
+-- as a call answers it: how many items, or the refusal
+abbrev pub Answered : Read → Result ℕ Refusal → Type 0
+Answered r (Ok count) = (count ≡ length r.items) × (r.number ≡ done) × (r.place ≡ 0)
+Answered r (Err e) = (r.number ≡ number_of e.reason) × (r.place ≡ e.place)

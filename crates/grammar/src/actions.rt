@@ -1,10 +1,10 @@
 // What is done at a symbol: each action answers more progress, perhaps with an item, or a refusal.
-ghost use Rattle.std.specs.Prelude.{◌≡◌, ◌<◌, ◌≤◌, leb};
+ghost use Rattle.std.specs.Prelude.{◌≡◌, ◌<◌, ◌≤◌, leb, Some, None, Ok};
 ghost use Rattle.std.proofs.Math.Seq.{slice};
-ghost use Rattle.status.specs.Status.{item_too_many};
+ghost use Rattle.status.specs.declared.Reason.TheVariants.{ItemTooMany};
 ghost use Rattle.limits.specs.Limits.{most_harmony_key};
 ghost use Rattle.grammar.specs.Terminals.{letter_at};
-ghost use Rattle.grammar.specs.Reading.{allowed_amount, allowed, judged, limit, so_far, one_more, held_first, judged_first, no_term, next_term, counted, signed, termed, positioned, named, marked, used, numbered, order_counted, with_order, key_counted, key_named, in_brackets, called, acted};
+ghost use Rattle.grammar.specs.Reading.{refusal, allowed_amount, allowed, judged, limit, so_far, one_more, held_first, judged_first, no_term, next_term, counted, signed, termed, positioned, named, marked, used, numbered, order_counted, with_order, key_counted, key_named, in_brackets, called, acted};
 ghost use Rattle.grammar.specs.Inner.{room_for_term, in_range};
 
 use crate::{
@@ -16,6 +16,7 @@ use limits::{
     MOST_HARMONIES, MOST_HARMONY_KEY, MOST_HARMONY_KEYS, MOST_INTERVALS, MOST_LOGICS, MOST_ORDERS,
     MOST_PLACEHOLDERS, MOST_POSITIONS, MOST_RETUNINGS, MOST_SYSTEMS, MOST_TERMS, MOST_TONE_NAMES,
 };
+use status::{Reason, Refusal};
 use symbols::spelling;
 
 const MOST_ANCHOR_KEY: u32 = MOST_ANCHOR as u32;
@@ -74,11 +75,11 @@ fn count_one_more(mut counts: Counts, kind: Kind) -> Counts
 }
 
 // One item more than allowed.
-fn refuse_item(x: Span) -> Outcome
-    ensures { result ≡ Outcome.Refuse item_too_many x.start }
+fn one_too_many(x: Span) -> Refusal
+    ensures { result ≡ refusal ItemTooMany x.start }
 {
-    Outcome::Refuse {
-        number: status::ITEM_TOO_MANY,
+    Refusal {
+        reason: Reason::ItemTooMany,
         place: x.start,
     }
 }
@@ -108,14 +109,14 @@ fn declare(s: Progress, kind: Kind, x: Span) -> Outcome
 {
     let counts = s.counts;
     if is_full(counts, kind) {
-        return refuse_item(x);
+        return Err(one_too_many(x));
     }
     let mut next = await_first_term(s);
     next.positions = 0;
     next.keys = 0;
     next.bracketed = 0;
     next.counts = count_one_more(counts, kind);
-    Outcome::Give(next, Item::Declared(kind, x.start))
+    Ok((next, Some(Item::Declared(kind, x.start))))
 }
 
 // One order more.
@@ -129,22 +130,22 @@ fn add_order(mut s: Progress) -> Progress
 
 // An order begins with KEY.
 fn count_order(s: Progress, x: Span) -> Outcome
-    ensures { result ≡ order_counted s x (Outcome.Go (with_order s)) }
+    ensures { result ≡ order_counted s x (Ok (with_order s, None)) }
 {
     if is_full(s.counts, Kind::Order) {
-        return refuse_item(x);
+        return Err(one_too_many(x));
     }
-    Outcome::Go(add_order(s))
+    Ok((add_order(s), None))
 }
 
 // An order begins with the name of its harmony.
 fn begin_order(s: Progress, x: Span) -> Outcome
-    ensures { result ≡ order_counted s x (Outcome.Give (with_order s) (Item.Trigger x.start)) }
+    ensures { result ≡ order_counted s x (Ok (with_order s, Some (Item.Trigger x.start))) }
 {
     if is_full(s.counts, Kind::Order) {
-        return refuse_item(x);
+        return Err(one_too_many(x));
     }
-    Outcome::Give(add_order(s), Item::Trigger(x.start))
+    Ok((add_order(s), Some(Item::Trigger(x.start))))
 }
 
 // A term begins with its sign.
@@ -153,9 +154,9 @@ fn begin_term(s: Progress, minus: bool, x: Span) -> Outcome
 {
     let before = s.term.before;
     if MOST_TERMS <= before {
-        return refuse_item(x);
+        return Err(one_too_many(x));
     }
-    Outcome::Go(await_term(s, minus, 1, before))
+    Ok((await_term(s, minus, 1, before), None))
 }
 
 // A term ends with its interval's name.
@@ -165,9 +166,9 @@ fn end_term(s: Progress, factor: u32, x: Span) -> Outcome
 {
     let next = await_term(s, false, 1, s.term.before + 1);
     if s.term.minus {
-        return Outcome::Give(next, Item::Subtract(factor, x.start));
+        return Ok((next, Some(Item::Subtract(factor, x.start))));
     }
-    Outcome::Give(next, Item::Add(factor, x.start))
+    Ok((next, Some(Item::Add(factor, x.start))))
 }
 
 fn add_position(s: Progress, item: Item, x: Span) -> Outcome
@@ -175,21 +176,21 @@ fn add_position(s: Progress, item: Item, x: Span) -> Outcome
 {
     let positions = s.positions;
     if MOST_POSITIONS <= positions {
-        return refuse_item(x);
+        return Err(one_too_many(x));
     }
     let mut next = await_first_term(s);
     next.positions = positions + 1;
-    Outcome::Give(next, item)
+    Ok((next, Some(item)))
 }
 
 // A key of a harmony begins with its star.
 fn await_key(s: Progress, x: Span) -> Outcome
-    ensures { result ≡ key_counted s x (Outcome.Go s) }
+    ensures { result ≡ key_counted s x (Ok (s, None)) }
 {
     if MOST_HARMONY_KEYS <= s.positions {
-        return refuse_item(x);
+        return Err(one_too_many(x));
     }
-    Outcome::Go(s)
+    Ok((s, None))
 }
 
 // A harmony names a key. One that it has named already may not stand there.
@@ -199,18 +200,18 @@ fn name_key(mut s: Progress, value: u32, item: Item, x: Span) -> Outcome
 {
     let key = value as u8;
     if sets::has(s.keys, key) {
-        return Outcome::Refuse {
-            number: status::SYMBOL_NOT_ALLOWED,
+        return Err(Refusal {
+            reason: Reason::SymbolNotAllowed,
             place: x.start,
-        };
+        });
     }
     let positions = s.positions;
     if MOST_HARMONY_KEYS <= positions {
-        return refuse_item(x);
+        return Err(one_too_many(x));
     }
     s.positions = positions + 1;
     s.keys = sets::with(s.keys, key);
-    Outcome::Give(s, item)
+    Ok((s, Some(item)))
 }
 
 // A placeholder's name, or a number that a call gives.
@@ -219,10 +220,10 @@ fn add_bracketed(mut s: Progress, item: Item, x: Span) -> Outcome
 {
     let bracketed = s.bracketed;
     if MOST_PLACEHOLDERS <= bracketed {
-        return refuse_item(x);
+        return Err(one_too_many(x));
     }
     s.bracketed = bracketed + 1;
-    Outcome::Give(s, item)
+    Ok((s, Some(item)))
 }
 
 // A call, which gives no number yet.
@@ -230,7 +231,7 @@ fn begin_call(mut s: Progress, item: Item) -> Outcome
     ensures { result ≡ called s item }
 {
     s.bracketed = 0;
-    Outcome::Give(s, item)
+    Ok((s, Some(item)))
 }
 
 fn use_name(s: Progress, purpose: NameUse, x: Span) -> Outcome
@@ -239,14 +240,14 @@ fn use_name(s: Progress, purpose: NameUse, x: Span) -> Outcome
 {
     match purpose {
         NameUse::Term => end_term(s, s.term.factor, x),
-        NameUse::Base => Outcome::Give(s, Item::Base(x.start)),
+        NameUse::Base => Ok((s, Some(Item::Base(x.start)))),
         NameUse::Position => add_position(s, Item::TonePosition(x.start), x),
         NameUse::Start => begin_call(s, Item::Start(x.start, x.start)),
         NameUse::Order => begin_call(s, Item::Order(x.start, x.start)),
-        NameUse::Trigger => Outcome::Give(s, Item::Trigger(x.start)),
+        NameUse::Trigger => Ok((s, Some(Item::Trigger(x.start)))),
         NameUse::CountedTrigger => begin_order(s, x),
         NameUse::Placeholder => add_bracketed(s, Item::Placeholder(x.start), x),
-        NameUse::Amount(form) => Outcome::Give(s, Item::AmountName(form, x.start)),
+        NameUse::Amount(form) => Ok((s, Some(Item::AmountName(form, x.start)))),
     }
 }
 
@@ -256,10 +257,10 @@ fn use_mark(s: Progress, purpose: MarkUse, x: Span) -> Outcome
     match purpose {
         MarkUse::MutedPosition => add_position(s, Item::MutedPosition, x),
         MarkUse::KeptPosition => add_position(s, Item::KeptPosition, x),
-        MarkUse::KeptAnchor => Outcome::Give(s, Item::AnchorKept),
-        MarkUse::KeptWidth => Outcome::Give(s, Item::WidthKept),
-        MarkUse::Period => Outcome::Give(s, Item::Period),
-        MarkUse::Onward => Outcome::Give(s, Item::Onward),
+        MarkUse::KeptAnchor => Ok((s, Some(Item::AnchorKept))),
+        MarkUse::KeptWidth => Ok((s, Some(Item::WidthKept))),
+        MarkUse::Period => Ok((s, Some(Item::Period))),
+        MarkUse::Onward => Ok((s, Some(Item::Onward))),
         MarkUse::Star => await_key(s, x),
     }
 }
@@ -341,15 +342,15 @@ fn use_number(s: Progress, purpose: NumberUse, value: u32, x: Span) -> Outcome
     ensures { result ≡ used s purpose value x }
 {
     match purpose {
-        NumberUse::RatioFirst => Outcome::Go(keep_first(s, value)),
-        NumberUse::RatioSecond => Outcome::Give(s, Item::Ratio(s.first.value, value)),
-        NumberUse::Degree => Outcome::Go(keep_first(s, value)),
-        NumberUse::Radicand => Outcome::Give(s, Item::Root(s.first.value, value)),
+        NumberUse::RatioFirst => Ok((keep_first(s, value), None)),
+        NumberUse::RatioSecond => Ok((s, Some(Item::Ratio(s.first.value, value)))),
+        NumberUse::Degree => Ok((keep_first(s, value), None)),
+        NumberUse::Radicand => Ok((s, Some(Item::Root(s.first.value, value)))),
         NumberUse::FirstFactor => end_term(s, value, x),
-        NumberUse::Factor => Outcome::Go(await_term(s, s.term.minus, value, s.term.before)),
-        NumberUse::Frequency => Outcome::Give(s, Item::Frequency(value)),
-        NumberUse::AnchorKey => Outcome::Give(s, Item::AnchorKey(value)),
-        NumberUse::Amount(form) => Outcome::Give(s, Item::Amount(form, value)),
+        NumberUse::Factor => Ok((await_term(s, s.term.minus, value, s.term.before), None)),
+        NumberUse::Frequency => Ok((s, Some(Item::Frequency(value)))),
+        NumberUse::AnchorKey => Ok((s, Some(Item::AnchorKey(value)))),
+        NumberUse::Amount(form) => Ok((s, Some(Item::Amount(form, value)))),
         NumberUse::Key => name_key(s, value, Item::Key(value), x),
         NumberUse::StarredKey => name_key(s, value, Item::StarredKey(value), x),
         NumberUse::Argument => add_bracketed(s, Item::Argument(value), x),
@@ -369,10 +370,10 @@ fn read_number(
     ensures { result ≡ numbered text.now s purpose start end x }
 {
     let Some(value) = judge(text, purpose, start as usize, end as usize) else {
-        return Outcome::Refuse {
-            number: status::NUMBER_OUT_OF_RANGE,
+        return Err(Refusal {
+            reason: Reason::NumberOutOfRange,
             place: start,
-        };
+        });
     };
     use_number(s, purpose, value, x)
 }
@@ -383,15 +384,15 @@ pub fn act(text: &[u8], s: Progress, action: Action, x: Span) -> Outcome
     ensures { result ≡ acted text.now s action x }
 {
     match action {
-        Action::Pass => Outcome::Go(s),
+        Action::Pass => Ok((s, None)),
         Action::Declare(kind) => declare(s, kind, x),
-        Action::Hold => Outcome::Go(hold_number(s, x)),
+        Action::Hold => Ok((hold_number(s, x), None)),
         Action::Held(purpose) => read_number(text, s, purpose, s.first.start, s.first.end, x),
         Action::Number(purpose) => read_number(text, s, purpose, x.start, x.end, x),
         Action::Sign(minus) => begin_term(s, minus, x),
         Action::Name(purpose) => use_name(s, purpose, x),
         Action::Mark(purpose) => use_mark(s, purpose, x),
-        Action::Letter => Outcome::Give(s, Item::Letter(read_letter(text, x))),
+        Action::Letter => Ok((s, Some(Item::Letter(read_letter(text, x))))),
         Action::CountOrder => count_order(s, x),
     }
 }

@@ -7,6 +7,8 @@ mod moves;
 pub mod reading;
 mod terminals;
 
+use status::Refusal;
+
 // What is counted: declarations by their kind, and orders.
 #[derive(Clone, Copy)]
 pub enum Kind {
@@ -192,10 +194,5 @@ pub struct Span {
     pub end: u32,
 }
 
-// What an action leads to: a refusal, or more progress, perhaps with an item.
-#[derive(Clone, Copy)]
-pub enum Outcome {
-    Refuse { number: u8, place: u32 },
-    Go(Progress),
-    Give(Progress, Item),
-}
+// What an action leads to: more progress, perhaps with an item, or a refusal.
+pub type Outcome = Result<(Progress, Option<Item>), Refusal>;

@@ -1,31 +1,24 @@
 // Reading a text: its symbols one by one, each a step of the syntax diagrams, into items.
 ghost use Rattle.std.specs.Prelude.{◌≡◌, cond, ◌≤◌, ◌<◌, ◌^◌, eqb, length};
 ghost use Rattle.std.proofs.Math.Seq.{slice};
-ghost use Rattle.status.specs.Status.{no_symbol, symbol_not_allowed};
+ghost use Rattle.status.specs.declared.Reason.TheVariants.{NoSymbol, SymbolNotAllowed};
 ghost use Rattle.grammar.specs.Syntax.{nothing};
 ghost use Rattle.grammar.specs.Terminals.{terminal_number, of_name, terminal_of, start_of, end_of, span_of};
-ghost use Rattle.grammar.specs.Reading.{begun, most_bytes, read_items, answered};
+ghost use Rattle.grammar.specs.Reading.{begun, most_bytes, read_items, Answered};
 ghost use Rattle.grammar.specs.Moves.{Moves};
 ghost use Rattle.grammar.specs.Items.{holding, most_items};
 
 use crate::{
-    Counts, FirstNumber, Item, NextTerm, Outcome, Progress, Span, actions, moves, terminals,
+    Counts, FirstNumber, Item, NextTerm, Progress, Span, actions, moves, terminals,
 };
 use limits::MOST_BYTES;
+use status::{Reason, Refusal};
 use symbols::{Symbol, spelling, words};
 
 // The node at which a text begins, and the one at which it is complete.
 const BEGIN: u8 = 0;
 
 const FINISH: u8 = 1;
-
-// How many items were read, and the refusal's number and place, or 0 and 0.
-#[derive(Clone, Copy)]
-pub struct Reading {
-    pub count: usize,
-    pub number: u8,
-    pub place: u32,
-}
 
 fn terminal_of_name(text: &[u8], start: usize, end: usize) -> u8
     ensures { result ≡ terminal_number (of_name (slice start end text.now)) }
@@ -71,24 +64,14 @@ fn span_of(symbol: Symbol) -> Span
     }
 }
 
-// The number of a symbol that may not follow, or of a place where none begins.
-fn refusal_of(terminal: u8) -> u8
-    ensures { result ≡ cond (eqb terminal (terminal_number nothing)) no_symbol symbol_not_allowed }
+// Why a symbol that may not follow is refused, or a place where none begins.
+fn reason_of(terminal: u8) -> Reason
+    ensures { result ≡ cond (eqb terminal (terminal_number nothing)) NoSymbol SymbolNotAllowed }
 {
     if terminal == terminals::NOTHING {
-        return status::NO_SYMBOL;
+        return Reason::NoSymbol;
     }
-    status::SYMBOL_NOT_ALLOWED
-}
-
-fn answer(count: usize, number: u8, place: u32) -> Reading
-    ensures { result ≡ record { count = count; number = number; place = place } }
-{
-    Reading {
-        count,
-        number,
-        place,
-    }
+    Reason::SymbolNotAllowed
 }
 
 fn begin() -> Progress
@@ -121,11 +104,12 @@ fn begin() -> Progress
 }
 
 // Reads a text of allowed length symbol by symbol; each item goes into the next place of the slice.
-fn read_symbols(text: &[u8], next: &[u8], acts: &[u8], items: &mut [Item]) -> Reading
+fn read_symbols(text: &[u8], next: &[u8], acts: &[u8], items: &mut [Item]) -> Result<usize, Refusal>
     requires text_len_bound { length text.now ≤ most_bytes }
     requires moves { Moves next.now acts.now }
     requires len { length items.old ≡ most_items }
-    ensures { (result ≡ answered (read_items text.now)) × (items.new ≡ holding (read_items text.now).items items.old) }
+    ensures answered { Answered (read_items text.now) result }
+    ensures items { items.new ≡ holding (read_items text.now).items items.old }
 {
     let mut s = begin();
     let mut node = BEGIN;
@@ -136,30 +120,34 @@ fn read_symbols(text: &[u8], next: &[u8], acts: &[u8], items: &mut [Item]) -> Re
         let terminal = terminal_of(text, symbol);
         let x = span_of(symbol);
         let Some((action, then)) = moves::move_at(next, acts, node, terminal) else {
-            return answer(count, refusal_of(terminal), x.start);
+            return Err(Refusal {
+                reason: reason_of(terminal),
+                place: x.start,
+            });
         };
-        at = x.end as usize;
+        let (more, item) = actions::act(text, s, action, x)?;
+        s = more;
         node = then;
-        match actions::act(text, s, action, x) {
-            Outcome::Refuse { number, place } => return answer(count, number, place),
-            Outcome::Go(more) => s = more,
-            Outcome::Give(more, item) => {
-                items[count] = item;
-                count += 1;
-                s = more;
-            }
+        at = x.end as usize;
+        if let Some(item) = item {
+            items[count] = item;
+            count += 1;
         }
     }
-    answer(count, status::DONE, 0)
+    Ok(count)
 }
 
 // The items of a text go into the first places of the slice.
-pub fn read_items(text: &[u8], items: &mut [Item]) -> Reading
+pub fn read_items(text: &[u8], items: &mut [Item]) -> Result<usize, Refusal>
     requires { length items.old ≡ most_items }
-    ensures { (result ≡ answered (read_items text.now)) × (items.new ≡ holding (read_items text.now).items items.old) }
+    ensures answered { Answered (read_items text.now) result }
+    ensures items { items.new ≡ holding (read_items text.now).items items.old }
 {
     if MOST_BYTES < text.len() {
-        return answer(0, status::TEXT_TOO_LONG, 0);
+        return Err(Refusal {
+            reason: Reason::TextTooLong,
+            place: 0,
+        });
     }
     let next = moves::NEXT;
     let acts = moves::ACTIONS;

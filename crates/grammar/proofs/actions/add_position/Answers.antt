@@ -5,7 +5,7 @@ use Rattle.grammar.proofs.actions.add_position.Goals as goal
 pub returns-then-positions-ge-MOST_POSITIONS : goal.returns-then-positions-ge-MOST_POSITIONS
 returns-then-positions-ge-MOST_POSITIONS c =
     simp (
-      ← c.refuse_item.ensures,
+      ← c.one_too_many.ensures,
       le-leb _ _ c.if-positions-ge-MOST_POSITIONS.true,
     )
 

@@ -5,7 +5,7 @@ use Rattle.grammar.proofs.actions.begin_term.Goals as goal
 pub returns-then-before-ge-MOST_TERMS : goal.returns-then-before-ge-MOST_TERMS
 returns-then-before-ge-MOST_TERMS c =
     simp (
-      ← c.refuse_item.ensures,
+      ← c.one_too_many.ensures,
       le-leb _ _ c.if-before-ge-MOST_TERMS.true,
     )
 

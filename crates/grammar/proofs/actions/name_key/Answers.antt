@@ -7,7 +7,7 @@ returns-then-has c = simp (← c.has.ensures, c.if-has.true)
 
 pub returns-then-positions-ge-MOST_HARMONY_KEYS : goal.returns-then-positions-ge-MOST_HARMONY_KEYS
 returns-then-positions-ge-MOST_HARMONY_KEYS c =
-    simp (← c.refuse_item.ensures, ← c.has.ensures, c.if-has.false, le-leb _ _ c.if-positions-ge-MOST_HARMONY_KEYS.true)
+    simp (← c.one_too_many.ensures, ← c.has.ensures, c.if-has.false, le-leb _ _ c.if-positions-ge-MOST_HARMONY_KEYS.true)
 
 pub returns : goal.returns
 returns c = simp (c.with.ensures, ← c.has.ensures, c.if-has.false, lt-leb _ _ c.if-positions-ge-MOST_HARMONY_KEYS.false)

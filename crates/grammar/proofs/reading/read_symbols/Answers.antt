@@ -3,7 +3,7 @@
 -- Assumes nothing.
 use mathlib.Core.Path.{refl, ◌∙◌, sym}
 use native.Mathlib.Omega.{arith}
-use Rattle.grammar.proofs.Turns.{walks_first, enough_room, fits, walk_unruled, walk_refused, walks_on, walks_with}
+use Rattle.grammar.proofs.Turns.{walks_first, enough_room, fits, walk_unruled, walk_refused, handed_on, walks_on, walks_with}
 use Rattle.grammar.proofs.reading.read_symbols.Goals as goal
 
 pub loop-node-init : goal.loop-node-init
@@ -17,41 +17,41 @@ shape_of-items-in_default c = c.loop-node.invariant.same_size
 
 pub returns-in_default : goal.returns-in_default
 returns-in_default c =
-    let a = walk_unruled c.loop-node.invariant c.loop-node-test.true c.find_symbol-symbol.ensures c.terminal_of-terminal.ensures c.span_of-x.ensures (sym c.in_default.is ∙ c.move_at.ensures) c.refusal_of.ensures in
-    (c.answer.ensures ∙ a.0, a.1)
+    let a = walk_unruled c.loop-node.invariant c.loop-node-test.true c.find_symbol-symbol.ensures c.terminal_of-terminal.ensures c.span_of-x.ensures (sym c.in_default.is ∙ c.move_at.ensures) c.reason_of.ensures in
+    record { answered = a.0; items = a.1 }
 
 pub act-requires : goal.act-requires
 act-requires c = (enough_room c.loop-node.invariant c.loop-node-test.true).0
 
-pub shape_of-items-in-Refuse : goal.shape_of-items-in-Refuse
-shape_of-items-in-Refuse c = c.loop-node.invariant.same_size
+pub shape_of-items-in_err-more : goal.shape_of-items-in_err-more
+shape_of-items-in_err-more c = c.loop-node.invariant.same_size
 
-pub returns-in-Refuse : goal.returns-in-Refuse
-returns-in-Refuse c =
-    let a = walk_refused c.loop-node.invariant c.loop-node-test.true c.find_symbol-symbol.ensures c.terminal_of-terminal.ensures c.span_of-x.ensures (sym c.in-Some.is ∙ c.move_at.ensures) c.act.ensures c.in-Refuse.is in
-    (c.answer-in-Refuse.ensures ∙ a.0, a.1)
+pub returns-in_err-more : goal.returns-in_err-more
+returns-in_err-more c =
+    let a = walk_refused c.loop-node.invariant c.loop-node-test.true c.find_symbol-symbol.ensures c.terminal_of-terminal.ensures c.span_of-x.ensures (sym c.in-Some.is ∙ c.move_at.ensures) c.act.ensures c.in_err-more.was in
+    record { answered = rw (handed_on _ c.from_residual.ensures.1) a.0; items = a.1 }
 
-pub loop-node-smaller-in-Go : goal.loop-node-smaller-in-Go
-loop-node-smaller-in-Go c =
-    (walks_on c.loop-node.invariant c.loop-node-test.true c.find_symbol-symbol.ensures c.terminal_of-terminal.ensures c.span_of-x.ensures (sym c.in-Some.is ∙ c.move_at.ensures) c.act.ensures c.in-Go.is).0
+pub loop-node-smaller : goal.loop-node-smaller
+loop-node-smaller c =
+    (walks_on c.loop-node.invariant c.loop-node-test.true c.find_symbol-symbol.ensures c.terminal_of-terminal.ensures c.span_of-x.ensures (sym c.in-Some.is ∙ c.move_at.ensures) c.act.ensures c.in_ok-more.was c.in_default-item.is).0
 
-pub loop-node-preserved-in-Go : goal.loop-node-preserved-in-Go
-loop-node-preserved-in-Go c =
-    (walks_on c.loop-node.invariant c.loop-node-test.true c.find_symbol-symbol.ensures c.terminal_of-terminal.ensures c.span_of-x.ensures (sym c.in-Some.is ∙ c.move_at.ensures) c.act.ensures c.in-Go.is).1
+pub loop-node-preserved : goal.loop-node-preserved
+loop-node-preserved c =
+    (walks_on c.loop-node.invariant c.loop-node-test.true c.find_symbol-symbol.ensures c.terminal_of-terminal.ensures c.span_of-x.ensures (sym c.in-Some.is ∙ c.move_at.ensures) c.act.ensures c.in_ok-more.was c.in_default-item.is).1
 
 pub overflow_add-count : goal.overflow_add-count
 overflow_add-count c = omega (arith, (enough_room c.loop-node.invariant c.loop-node-test.true).1)
 
-pub loop-node-smaller : goal.loop-node-smaller
-loop-node-smaller c =
-    (walks_with c.loop-node.invariant c.loop-node-test.true c.find_symbol-symbol.ensures c.terminal_of-terminal.ensures c.span_of-x.ensures (sym c.in-Some.is ∙ c.move_at.ensures) c.act.ensures c.in-Give.is refl).0
+pub loop-node-smaller-in-Some-item : goal.loop-node-smaller-in-Some-item
+loop-node-smaller-in-Some-item c =
+    (walks_with c.loop-node.invariant c.loop-node-test.true c.find_symbol-symbol.ensures c.terminal_of-terminal.ensures c.span_of-x.ensures (sym c.in-Some.is ∙ c.move_at.ensures) c.act.ensures c.in_ok-more.was c.in-Some-item.is refl).0
 
-pub loop-node-preserved : goal.loop-node-preserved
-loop-node-preserved c =
-    (walks_with c.loop-node.invariant c.loop-node-test.true c.find_symbol-symbol.ensures c.terminal_of-terminal.ensures c.span_of-x.ensures (sym c.in-Some.is ∙ c.move_at.ensures) c.act.ensures c.in-Give.is refl).1
+pub loop-node-preserved-in-Some-item : goal.loop-node-preserved-in-Some-item
+loop-node-preserved-in-Some-item c =
+    (walks_with c.loop-node.invariant c.loop-node-test.true c.find_symbol-symbol.ensures c.terminal_of-terminal.ensures c.span_of-x.ensures (sym c.in-Some.is ∙ c.move_at.ensures) c.act.ensures c.in_ok-more.was c.in-Some-item.is refl).1
 
 pub shape_of-items : goal.shape_of-items
 shape_of-items c = c.loop-node.invariant.same_size
 
 pub returns : goal.returns
-returns c = let a = c.loop-node.invariant.ended c.loop-node-test.false in (c.answer-2.ensures ∙ a.0, a.1)
+returns c = let a = c.loop-node.invariant.ended c.loop-node-test.false in record { answered = a.0; items = a.1 }

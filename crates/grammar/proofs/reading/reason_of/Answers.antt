@@ -1,7 +1,7 @@
 -- By the test of the terminal.
 -- Assumes nothing.
 use borrow.Author.Tests.{eq-eqb, ne_eqb}
-use Rattle.grammar.proofs.reading.refusal_of.Goals as goal
+use Rattle.grammar.proofs.reading.reason_of.Goals as goal
 
 pub returns-then-terminal-eq-NOTHING : goal.returns-then-terminal-eq-NOTHING
 returns-then-terminal-eq-NOTHING c =
