@@ -100,12 +100,8 @@ fn press_all(held: HeldKeys, house: u8) -> HeldKeys
     requires { (1 ≤ house) × (house ≤ 2) }
 {
     let mut keys = held;
-    let mut k: u8 = 0;
-    while k < KEYS as u8 {
-        let key = KeyNumber(k);
-        let changed = keys.press(house, key);
-        keys = changed.held;
-        k += 1;
+    for k in 0..KEYS as u8 {
+        keys = keys.press(house, KeyNumber(k)).unwrap_or(keys);
     }
     keys
 }

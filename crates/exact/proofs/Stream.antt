@@ -2,7 +2,7 @@
 use mathlib.Core.Path.{◌≡◌, refl, sym, ap, subst}
 use mathlib.Core.Bool.{Bool, true, false, cond}
 use mathlib.Core.List.{List, [], ◌∷◌, ◌++◌}
-use Rattle.std.specs.Prelude.{Option, Some, None}
+use Rattle.std.specs.Prelude.{Option, Some, None, Result, Ok, Err}
 use Prim.Native.Nat.{ℕ}
 use lib.Dec.{eqb}
 use lib.ListN.{length}
@@ -20,7 +20,7 @@ use Rattle.frames.specs.Frames.{Frame, bad, letter, key, dump, move, letter_row,
 use Rattle.status.specs.Status.{done, letter_unbound}
 use Rattle.protocol.specs.declared.Desk.{Desk}
 use Rattle.protocol.specs.Triggers.{Sought, itself, matching, action_at, struck}
-use Rattle.protocol.specs.Steps.{with_active, with_keys, Made, by_action, call_on, desk_from, made_from, Step, triggered, letter_step, pressed_in_turn, chord_on, analysed, key_moved, move_step}
+use Rattle.protocol.specs.Steps.{with_active, with_keys, Made, by_action, call_on, desk_from, made_from, Step, triggered, letter_step, pressed_in_turn, chord_on, if_moved, key_moved, move_step}
 use Rattle.protocol.specs.Answers.{Outcome, letter_outcome, move_outcome, letter_row_outcome, key_outcome, frame_outcome, answer_of}
 use Rattle.protocol.specs.Streams.{Lent, desk_after, made_in}
 use Rattle.protocol.proofs.Ways.{by_outcome}
@@ -111,11 +111,11 @@ module _ (t : Tables) (p : Program) (matches : AllMatch t p) where
   -- a key that goes down or up: the book knows no held keys, and follows the calls that were made
   move_kept : (way : Way) (house : ℕ) (d : Desk) (k : ℕ) (b : Tuning entries) → Kept (declared_in p) d.tuning b → Leaves b (move_step t way house d k)
   unfolding move_step fed_by book_from
-  move_kept way house d k b h = let c = key_moved way d.keys house k in go (eqb c.number done) c.number c.held
+  move_kept way house d k b h = go (key_moved way d.keys house k)
     where
-      go : (moved : Bool) (n : ℕ) (ks : HeldKeys) → Leaves b (cond moved (analysed t house (with_keys ks d)) (record { desk = d; number = n; made = [] }))
-      go true n ks = step_kept house (with_keys ks d) (matching (chord_on (with_keys ks d))) done b h
-      go false n ks = h
+      go : (m : Result HeldKeys ℕ) → Leaves b (if_moved t house d m)
+      go (Ok ks) = step_kept house (with_keys ks d) (matching (chord_on (with_keys ks d))) done b h
+      go (Err _) = h
 
   -- a row of letters: the book follows all calls of its presses, in their order
   presses_kept : (house : ℕ) (cs : List ℕ) (d : Desk) (b : Tuning entries) → Kept (declared_in p) d.tuning b

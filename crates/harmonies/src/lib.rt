@@ -10,7 +10,7 @@ ghost use Rattle.harmonies.specs.Harmonies.{chord_of, matches};
 ghost use Rattle.harmonies.specs.Inner.{DownFrom, Joined};
 
 use cents::KeyNumber;
-use keys::{HeldKeys, KEYS};
+use keys::HeldKeys;
 
 // The first key of the lower and of the upper half of a keyboard.
 const LOWER: KeyNumber = KeyNumber(0);
@@ -24,14 +24,13 @@ pub struct Harmony {
     pub named: u64,
 }
 
-// The r of a key, "x - a = q·w + r", from an anchor so many widths lower that no difference is negative.
+// The r of a key, "x - a = q·w + r".
 fn position_of(key: KeyNumber, anchor: KeyNumber, width: u8) -> u8
     requires { (key.0 < key_count) × (anchor.0 ≤ most_anchor) × (1 ≤ width) }
     ensures { (result ≡ position_in anchor.0 width key.0) × (result < width) }
 {
-    let w = width as usize;
-    let above = key.0 as usize + (w * KEYS - anchor.0 as usize);
-    (above % w) as u8
+    let above = key.distance(anchor).0;
+    above.rem_euclid(width as i32) as u8
 }
 
 // The position of the next key.

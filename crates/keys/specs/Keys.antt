@@ -1,9 +1,8 @@
 -- Document 02, request 5/13: "Frames of kind 05 and 06 say that a key goes down or up in that house; the desk keeps the held keys of each."
-use Rattle.std.specs.Prelude.{Bool, cond, ℕ, ◌+◌, ◌-◌, ◌*◌, ◌/◌, ◌%◌, ◌≤◌, ◌<◌, get_or, set, replicate}
-use Rattle.status.specs.Status.{done, key_held, key_not_held}
+use Rattle.std.specs.Prelude.{Bool, cond, ℕ, ◌+◌, ◌-◌, ◌*◌, ◌/◌, ◌%◌, ◌≤◌, ◌<◌, get_or, set, replicate, Result, Ok, Err}
+use Rattle.status.specs.Status.{key_held, key_not_held}
 use Rattle.sets.specs.Sets.{has, added, removed}
 use Rattle.keys.specs.declared.HeldKeys.{HeldKeys}
-use Rattle.keys.specs.declared.Changed.{Changed}
 
 -- the keys of a house: "a key 00 to 7F"
 abbrev pub key_count : ℕ
@@ -47,12 +46,12 @@ with_key h house key = let p = place house key in with_word h p (added (word_of 
 abbrev pub without_key : HeldKeys → ℕ → ℕ → HeldKeys
 without_key h house key = let p = place house key in with_word h p (removed (word_of h p) (p % word_size))
 
--- ---- a key goes down or up
+-- ---- a key goes down or up: the held keys then, or the number that it is refused with
 
 -- "17 for a key already held in that house"
-abbrev pub went_down : HeldKeys → ℕ → ℕ → Changed
-went_down h house key = cond (is_held h house key) (record { held = h; number = key_held }) (record { held = with_key h house key; number = done })
+abbrev pub went_down : HeldKeys → ℕ → ℕ → Result HeldKeys ℕ
+went_down h house key = cond (is_held h house key) (Err key_held) (Ok (with_key h house key))
 
 -- "18 for one not held"
-abbrev pub went_up : HeldKeys → ℕ → ℕ → Changed
-went_up h house key = cond (is_held h house key) (record { held = without_key h house key; number = done }) (record { held = h; number = key_not_held })
+abbrev pub went_up : HeldKeys → ℕ → ℕ → Result HeldKeys ℕ
+went_up h house key = cond (is_held h house key) (Ok (without_key h house key)) (Err key_not_held)

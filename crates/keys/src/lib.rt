@@ -1,8 +1,8 @@
 // The held keys of both houses, as a value: which are held, and a key that goes down or up.
 #![tactic(auto)]
 
-ghost use Rattle.std.specs.Prelude.{◌≡◌, ◌*◌, ◌≤◌, ◌<◌};
-ghost use Rattle.keys.specs.Keys.{Place, place, key_count, word_size, no_keys, is_held, went_down, went_up};
+ghost use Rattle.std.specs.Prelude.{◌≡◌, ◌*◌, ◌/◌, ◌%◌, ◌≤◌, ◌<◌};
+ghost use Rattle.keys.specs.Keys.{Place, place, word_size, no_keys, is_held, went_down, went_up};
 ghost use Rattle.keys.specs.Inner.{HeldFrom};
 
 use cents::KeyNumber;
@@ -21,19 +21,23 @@ pub struct HeldKeys {
     words: [u64; WORDS],
 }
 
-// The held keys after a key has gone down or up, and the number.
+// Where a house's key stands: its word, and its number in the set that the word is.
 #[derive(Clone, Copy)]
-pub struct Changed {
-    pub held: HeldKeys,
-    pub number: u8,
+struct Slot {
+    word: usize,
+    at: u8,
 }
 
-// Where a house's key stands among the keys of both.
-fn place_of(house: u8, key: KeyNumber) -> usize
+fn slot_of(house: u8, key: KeyNumber) -> Slot
     requires { Place house key.0 }
-    ensures { (result ≡ place house key.0) × (result < 2 * key_count) }
+    ensures word { result.word ≡ place house key.0 / word_size }
+    ensures at { result.at ≡ place house key.0 % word_size }
 {
-    (house as usize - 1) * KEYS + key.0 as usize
+    let place = (house as usize - 1) * KEYS + key.0 as usize;
+    Slot {
+        word: place / WORD,
+        at: (place % WORD) as u8,
+    }
 }
 
 impl HeldKeys {
@@ -47,8 +51,8 @@ impl HeldKeys {
         requires { Place house key.0 }
         ensures { result ≡ is_held self house key.0 }
     {
-        let p = place_of(house, key);
-        sets::has(self.words[p / WORD], (p % WORD) as u8)
+        let slot = slot_of(house, key);
+        sets::has(self.words[slot.word], slot.at)
     }
 
     // The keys of a house's lower or upper half that are held, counted from the half's first.
@@ -60,47 +64,29 @@ impl HeldKeys {
         self.words[i]
     }
 
-    // A key goes down.
-    pub fn press(mut self, house: u8, key: KeyNumber) -> Changed
+    // A key goes down: the held keys then, or the number that it is refused with.
+    pub fn press(mut self, house: u8, key: KeyNumber) -> Result<HeldKeys, u8>
         requires { Place house key.0 }
         ensures { result ≡ went_down self house key.0 }
     {
-        let p = place_of(house, key);
-        let i = p / WORD;
-        let at = (p % WORD) as u8;
-        let word = self.words[i];
-        if sets::has(word, at) {
-            return Changed {
-                held: self,
-                number: status::KEY_HELD,
-            };
+        if self.is_held(house, key) {
+            return Err(status::KEY_HELD);
         }
-        self.words[i] = sets::with(word, at);
-        Changed {
-            held: self,
-            number: status::DONE,
-        }
+        let slot = slot_of(house, key);
+        self.words[slot.word] = sets::with(self.words[slot.word], slot.at);
+        Ok(self)
     }
 
-    // A key goes up.
-    pub fn release(mut self, house: u8, key: KeyNumber) -> Changed
+    // A key goes up, likewise.
+    pub fn release(mut self, house: u8, key: KeyNumber) -> Result<HeldKeys, u8>
         requires { Place house key.0 }
         ensures { result ≡ went_up self house key.0 }
     {
-        let p = place_of(house, key);
-        let i = p / WORD;
-        let at = (p % WORD) as u8;
-        let word = self.words[i];
-        if !sets::has(word, at) {
-            return Changed {
-                held: self,
-                number: status::KEY_NOT_HELD,
-            };
+        if !self.is_held(house, key) {
+            return Err(status::KEY_NOT_HELD);
         }
-        self.words[i] = sets::without(word, at);
-        Changed {
-            held: self,
-            number: status::DONE,
-        }
+        let slot = slot_of(house, key);
+        self.words[slot.word] = sets::without(self.words[slot.word], slot.at);
+        Ok(self)
     }
 }

@@ -1,11 +1,10 @@
 -- What is not taken leaves the state: of a call, of a press, and of a frame. Assumes nothing.
 use mathlib.Core.Path.{◌≡◌, refl, sym, ap, ◌∙◌, subst}
 use mathlib.Core.Logic.{◌≢◌}
-use mathlib.Core.Bool.{Bool, true, false, cond}
+use mathlib.Core.Bool.{true}
 use mathlib.Core.List.{List, [], ◌∷◌, ◌++◌}
-use Rattle.std.specs.Prelude.{Option, Some, None}
+use Rattle.std.specs.Prelude.{Option, Some, None, Result, Ok, Err}
 use Prim.Native.Nat.{ℕ, zero, suc}
-use lib.Dec.{eqb}
 use lib.ListN.{length}
 use Rattle.status.specs.Status.{done, letter_unbound}
 use Rattle.tuning.specs.Tuning.{Action}
@@ -21,7 +20,7 @@ use Rattle.protocol.specs.declared.Desk.{Desk}
 use Rattle.protocol.specs.declared.Active.{Active}
 use Rattle.protocol.specs.declared.Active.TheVariants as active
 use Rattle.protocol.specs.Triggers.{Sought, itself, matching, action_at, calls_as, called, struck}
-use Rattle.protocol.specs.Steps.{with_active, with_keys, Made, by_action, call_on, desk_from, made_from, last_number, Step, triggered, letter_step, pressed_in_turn, chord_on, analysed, key_moved, move_step}
+use Rattle.protocol.specs.Steps.{with_active, with_keys, Made, by_action, call_on, desk_from, made_from, last_number, triggered, letter_step, pressed_in_turn, chord_on, if_moved, key_moved, move_step}
 use Rattle.protocol.specs.Answers.{Outcome, letter_outcome, move_outcome, letter_row_outcome, key_outcome, frame_outcome}
 use Rattle.protocol.specs.Kept.{CallKeeps, PressKeeps, NoneTaken, FrameKeeps}
 use Rattle.protocol.proofs.Struck.{named}
@@ -68,12 +67,11 @@ module _ (t : Tables) (d : Desk) (n : length d.tuning.tones ≡ places) (v : val
 move_kept : (t : Tables) (d : Desk) → length d.tuning.tones ≡ places → valid_state d.tuning ≡ true → (way : Way) (house k : ℕ)
     → (move_step t way house d k).number ≢ 0 → (move_step t way house d k).desk.tuning ≡ d.tuning
 unfolding move_step
-move_kept t d n v way house k = let c = key_moved way d.keys house k in go (eqb c.number done) c.number c.held
+move_kept t d n v way house k = go (key_moved way d.keys house k)
   where
-    go : (b : Bool) (m : ℕ) (h : HeldKeys)
-        → (let s : Step = cond b (analysed t house (with_keys h d)) (record { desk = d; number = m; made = [] }) in s.number ≢ 0 → s.desk.tuning ≡ d.tuning)
-    go true m h = step_kept t (with_keys h d) n v house done (matching (chord_on (with_keys h d)))
-    go false m h = λ e. refl
+    go : (m : Result HeldKeys ℕ) → (if_moved t house d m).number ≢ 0 → (if_moved t house d m).desk.tuning ≡ d.tuning
+    go (Ok h) = step_kept t (with_keys h d) n v house done (matching (chord_on (with_keys h d)))
+    go (Err _) = λ e. refl
 
 pub press_keeps : PressKeeps
 unfolding PressKeeps
@@ -103,12 +101,11 @@ module _ (t : Tables) where
 
   move_untaken : (way : Way) (house : ℕ) (d : Desk) → Whole d.tuning → (k : ℕ) → NoneTaken (move_step t way house d k).made → (move_step t way house d k).desk.tuning ≡ d.tuning
   unfolding move_step
-  move_untaken way house d w k = let c = key_moved way d.keys house k in go (eqb c.number done) c.number c.held
+  move_untaken way house d w k = go (key_moved way d.keys house k)
     where
-      go : (b : Bool) (m : ℕ) (h : HeldKeys)
-          → (let s : Step = cond b (analysed t house (with_keys h d)) (record { desk = d; number = m; made = [] }) in NoneTaken s.made → s.desk.tuning ≡ d.tuning)
-      go true m h = step_untaken house (with_keys h d) w (matching (chord_on (with_keys h d))) done
-      go false m h = λ e. refl
+      go : (m : Result HeldKeys ℕ) → NoneTaken (if_moved t house d m).made → (if_moved t house d m).desk.tuning ≡ d.tuning
+      go (Ok h) = step_untaken house (with_keys h d) w (matching (chord_on (with_keys h d))) done
+      go (Err _) = λ e. refl
 
   presses_untaken : (house : ℕ) (d : Desk) → Whole d.tuning → (cs : List ℕ) → NoneTaken (pressed_in_turn t house d cs).made
       → (pressed_in_turn t house d cs).desk.tuning ≡ d.tuning

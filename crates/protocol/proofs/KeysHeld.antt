@@ -2,7 +2,7 @@
 use mathlib.Core.Path.{◌≡◌, refl, sym, ap, ◌∙◌}
 use mathlib.Core.Bool.{Bool, true, false, cond, ◌&&◌}
 use mathlib.Core.List.{List, [], ◌∷◌}
-use Rattle.std.specs.Prelude.{Option, Some, None}
+use Rattle.std.specs.Prelude.{Option, Some, None, Result, Ok, Err, is_ok}
 use Prim.Native.Nat.{ℕ}
 use native.Mathlib.Omega.{arith}
 use borrow.Author.Tests.{eq-eqb, ne_eqb, eqb-true, eqb-false}
@@ -16,14 +16,13 @@ use Rattle.frames.specs.declared.Way.{Way}
 use Rattle.frames.specs.declared.Way.TheVariants.{Down, Up}
 use Rattle.frames.proofs.Ranges.{frame_inside, move_ranges}
 use Rattle.keys.specs.declared.HeldKeys.{HeldKeys}
-use Rattle.keys.specs.declared.Changed.{Changed}
 use Rattle.keys.specs.Keys.{Place, place, word_count, is_held, with_key, without_key}
 use Rattle.keys.proofs.Laws.{place_house, place_key, key_to, held_after}
 use Rattle.answers.specs.Answer.{smallest_buffer}
 use Rattle.tables.specs.Layout.{Tables}
 use Rattle.protocol.specs.declared.Desk.{Desk}
 use Rattle.protocol.specs.Triggers.{Sought, action_at, struck}
-use Rattle.protocol.specs.Steps.{with_active, with_keys, by_action, call_on, desk_from, Step, triggered, letter_step, pressed_in_turn, analysed, key_moved, move_step}
+use Rattle.protocol.specs.Steps.{with_active, with_keys, by_action, call_on, desk_from, triggered, letter_step, pressed_in_turn, if_moved, key_moved, move_step}
 use Rattle.protocol.specs.Answers.{letter_outcome, move_outcome, letter_row_outcome, key_outcome, frame_outcome, valid_desk, unchanged, answer_of}
 use Rattle.protocol.specs.Streams.{Lent, desk_after}
 use Rattle.protocol.specs.KeysHeld.{Moved, move_by, moves_of, is_down, held_by, held_along, KeysAreHistory}
@@ -50,21 +49,25 @@ presses_leave t house d (c ∷ cs) = presses_leave t house (letter_step t house 
 
 -- ---- a key frame
 
+-- the held keys then, or as they were
+abbrev kept : HeldKeys → Result HeldKeys ℕ → HeldKeys
+kept h (Ok x) = x
+kept h (Err n) = h
+
 -- the held keys after what moved
 abbrev after : HeldKeys → List Moved → HeldKeys
 after h [] = h
-after h (m ∷ ms) = after (key_moved m.way h m.house m.key).held ms
+after h (m ∷ ms) = after (kept h (key_moved m.way h m.house m.key)) ms
 
 module _ (t : Tables) (d : Desk) where
   move_after : (way : Way) (house k : ℕ) → (move_step t way house d k).desk.keys ≡ after d.keys (move_by d (move way house k))
   unfolding move_step
-  move_after way house k = let c = key_moved way d.keys house k in go (eqb c.number done) c.number
+  move_after way house k = go (key_moved way d.keys house k) refl
     where
-      go : (b : Bool) (n : ℕ)
-          → (let c = key_moved way d.keys house k in let s : Step = cond b (analysed t house (with_keys c.held d)) (record { desk = d; number = n; made = [] }) in
-          s.desk.keys ≡ after d.keys (cond b (record { way = way; house = house; key = k } ∷ []) []))
-      go true n = step_leaves_holds t house (with_keys (key_moved way d.keys house k).held d) _ done
-      go false n = refl
+      go : (r : Result HeldKeys ℕ) → key_moved way d.keys house k ≡ r
+          → (if_moved t house d r).desk.keys ≡ after d.keys (cond (is_ok r) (record { way = way; house = house; key = k } ∷ []) [])
+      go (Ok h) e = step_leaves_holds t house (with_keys h d) _ done ∙ sym (ap (kept d.keys) e)
+      go (Err n) e = refl
 
   frame_after : (f : Frame) → (frame_outcome t d f).desk.keys ≡ after d.keys (move_by d f)
   unfolding frame_outcome letter_outcome move_outcome letter_row_outcome key_outcome
@@ -107,17 +110,17 @@ same_place {house} {k} {house'} {k'} p q = go (eqb (place house' k') (place hous
 
 -- the words stay four, and a taken key frame changes its key alone
 module _ (h : HeldKeys) (n : length h.words ≡ word_count) (house k : ℕ) (p : Place house k) where
-  moved_held : (way : Way) → (key_moved way h house k).number ≡ done → (key_moved way h house k).held ≡ key_to h house k (is_down way)
-  moved_held Down = go (is_held h house k)
+  moved_held : (way : Way) (x : HeldKeys) → key_moved way h house k ≡ Ok x → x ≡ key_to h house k (is_down way)
+  moved_held Down x = go (is_held h house k)
     where
-      go : (b : Bool) → (let c : Changed = cond b (record { held = h; number = key_held }) (record { held = with_key h house k; number = done }) in c.number ≡ done → c.held ≡ with_key h house k)
-      go true e = absurd (omega arith)
-      go false e = refl
-  moved_held Up = go (is_held h house k)
+      go : (b : Bool) → ◌≡◌ {A = Result HeldKeys ℕ} (cond b (Err key_held) (Ok (with_key h house k))) (Ok x) → x ≡ with_key h house k
+      go true e = cc
+      go false e = cc
+  moved_held Up x = go (is_held h house k)
     where
-      go : (b : Bool) → (let c : Changed = cond b (record { held = without_key h house k; number = done }) (record { held = h; number = key_not_held }) in c.number ≡ done → c.held ≡ without_key h house k)
-      go true e = refl
-      go false e = absurd (omega arith)
+      go : (b : Bool) → ◌≡◌ {A = Result HeldKeys ℕ} (cond b (Ok (without_key h house k)) (Err key_not_held)) (Ok x) → x ≡ without_key h house k
+      go true e = cc
+      go false e = cc
 
   words_kept : (b : Bool) → length (key_to h house k b).words ≡ word_count
   words_kept true = length-set h.words _ _ ∙ n
@@ -133,14 +136,14 @@ module _ (h : HeldKeys) (n : length h.words ≡ word_count) where
   unfolding held_by
   none_moved = record { words = n; held = λ house k p. refl }
 
-  one_moved : (way : Way) (house k : ℕ) → Place house k → Right (cond (eqb (key_moved way h house k).number done) (record { way = way; house = house; key = k } ∷ []) [])
+  one_moved : (way : Way) (house k : ℕ) → Place house k → Right (cond (is_ok (key_moved way h house k)) (record { way = way; house = house; key = k } ∷ []) [])
   unfolding held_by
-  one_moved way house k p = go (eqb (key_moved way h house k).number done) refl
+  one_moved way house k p = go (key_moved way h house k) refl
     where
-      go : (b : Bool) → eqb (key_moved way h house k).number done ≡ b → Right (cond b (record { way = way; house = house; key = k } ∷ []) [])
-      go false e = none_moved
-      go true e =
-          let m = moved_held h n house k p way (eqb-true (key_moved way h house k).number done e) in
+      go : (r : Result HeldKeys ℕ) → key_moved way h house k ≡ r → Right (cond (is_ok r) (record { way = way; house = house; key = k } ∷ []) [])
+      go (Err _) e = none_moved
+      go (Ok x) e =
+          let m = ap (kept h) e ∙ moved_held h n house k p way x e in
           record {
             words = ap (λ (x : HeldKeys). length x.words) m ∙ words_kept h n house k p (is_down way);
             held = λ house' k' q.

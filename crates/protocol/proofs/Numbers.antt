@@ -2,9 +2,8 @@
 use mathlib.Core.Path.{◌≡◌, refl, sym, subst}
 use mathlib.Core.Bool.{Bool, true, false, cond}
 use mathlib.Core.List.{List, [], ◌∷◌, get_last_d}
-use Rattle.std.specs.Prelude.{Option, Some, None}
+use Rattle.std.specs.Prelude.{Option, Some, None, Result, Ok, Err, IfErr}
 use Prim.Native.Nat.{ℕ}
-use lib.Dec.{eqb}
 use lib.IntN.{ℤ}
 use Rattle.status.specs.Status.{done, division_by_zero, anchor_out_of_range, width_out_of_range, period_out_of_range, end_silent, tone_out_of_range, key_unplayable, key_held, key_not_held, key_silent, letter_unbound, bad_frame}
 use Rattle.tuning.specs.Tuning.{Tuning, Action, anchor_to, width_to, period_to, tones_to, system}
@@ -13,14 +12,13 @@ use Rattle.tuning.specs.Desk.{cents, is_playable, Check, first_failing, checks, 
 use Rattle.tuning.specs.State.{held}
 use Rattle.tables.specs.Layout.{Tables}
 use Rattle.keys.specs.declared.HeldKeys.{HeldKeys}
-use Rattle.keys.specs.declared.Changed.{Changed}
 use Rattle.keys.specs.Keys.{is_held, with_key, without_key}
 use Rattle.frames.specs.declared.Way.{Way}
 use Rattle.frames.specs.declared.Way.TheVariants.{Down, Up}
 use Rattle.frames.specs.Frames.{Frame, bad, letter, key, dump, move, letter_row}
 use Rattle.protocol.specs.declared.Desk.{Desk}
 use Rattle.protocol.specs.Triggers.{Sought, itself, matching, action_at, struck}
-use Rattle.protocol.specs.Steps.{with_active, with_keys, by_action, call_on, made_from, last_number, Step, triggered, letter_step, pressed_in_turn, chord_on, analysed, key_moved, move_step}
+use Rattle.protocol.specs.Steps.{with_active, with_keys, by_action, call_on, made_from, last_number, triggered, letter_step, pressed_in_turn, chord_on, if_moved, key_moved, move_step}
 use Rattle.protocol.specs.Answers.{letter_outcome, move_outcome, letter_row_outcome, sound_at, key_number, key_outcome, frame_outcome}
 use Rattle.protocol.proofs.InTurn.{last_of}
 
@@ -97,25 +95,21 @@ module _ (P : ℕ → Type 0) where
   -- ---- a press
 
   module _ (h : OfFrames P) where
-    either : (is : Bool) (x y : Changed) → P x.number → P y.number → P (cond is x y).number
+    either : (is : Bool) (x y : Result HeldKeys ℕ) → IfErr x P → IfErr y P → IfErr (cond is x y) P
     either true x y p q = p
     either false x y p q = q
 
-    moved_number : (way : Way) (ks : HeldKeys) (house k : ℕ) → P (key_moved way ks house k).number
-    moved_number Down ks house k =
-        either (is_held ks house k) (record { held = ks; number = key_held }) (record { held = with_key ks house k; number = done }) h.held h.call.taken
-    moved_number Up ks house k =
-        either (is_held ks house k) (record { held = without_key ks house k; number = done }) (record { held = ks; number = key_not_held }) h.call.taken h.unheld
+    moved_number : (way : Way) (ks : HeldKeys) (house k : ℕ) → IfErr (key_moved way ks house k) P
+    moved_number Down ks house k = either (is_held ks house k) (Err key_held) (Ok (with_key ks house k)) h.held tt
+    moved_number Up ks house k = either (is_held ks house k) (Ok (without_key ks house k)) (Err key_not_held) tt h.unheld
 
     pub move_number : (t : Tables) (way : Way) (house : ℕ) (d : Desk) (k : ℕ) → P (move_step t way house d k).number
     unfolding move_step
-    move_number t way house d k =
-        let c = key_moved way d.keys house k in go (eqb c.number done) c.number c.held (moved_number way d.keys house k)
+    move_number t way house d k = go (key_moved way d.keys house k) (moved_number way d.keys house k)
       where
-        go : (moved : Bool) (n : ℕ) (ks : HeldKeys) → P n
-            → (let s : Step = cond moved (analysed t house (with_keys ks d)) (record { desk = d; number = n; made = [] }) in P s.number)
-        go true n ks l = step_number h.call t house (with_keys ks d) (matching (chord_on (with_keys ks d))) h.call.taken
-        go false n ks l = l
+        go : (m : Result HeldKeys ℕ) → IfErr m P → P (if_moved t house d m).number
+        go (Ok ks) l = step_number h.call t house (with_keys ks d) (matching (chord_on (with_keys ks d))) h.call.taken
+        go (Err _) l = l
 
     -- of the last press, and where there is none
     presses_number : (t : Tables) (house : ℕ) (d : Desk) (cs : List ℕ) {n : ℕ} → P n → P (get_last_d (pressed_in_turn t house d cs).numbers n)

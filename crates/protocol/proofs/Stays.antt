@@ -1,14 +1,13 @@
 -- A right desk over valid tables stays right, whatever the stream: so 23 is never given after the start. Assumes nothing.
 use mathlib.Core.Path.{◌≡◌, refl, subst}
-use mathlib.Core.Bool.{Bool, true, false, cond, ◌&&◌}
+use mathlib.Core.Bool.{true, ◌&&◌}
 use mathlib.Core.List.{List, [], ◌∷◌}
-use Rattle.std.specs.Prelude.{Option, Some, None}
+use Rattle.std.specs.Prelude.{Option, Some, None, Result, Ok, Err}
 use Prim.Native.Nat.{ℕ, ◌<◌}
 use native.Mathlib.Decide.{dec_lt}
 use native.Mathlib.Omega.{arith}
 use borrow.Author.Tests.{lt-ltb}
 use lib.ListN.{length}
-use lib.Dec.{eqb}
 use Rattle.status.specs.Status.{done, letter_unbound}
 use Rattle.frames.specs.declared.Way.{Way}
 use Rattle.keys.specs.declared.HeldKeys.{HeldKeys}
@@ -29,7 +28,7 @@ use Rattle.answers.specs.Answer.{smallest_buffer}
 use Rattle.protocol.specs.declared.Active.{Active}
 use Rattle.protocol.specs.declared.Desk.{Desk}
 use Rattle.protocol.specs.Triggers.{Sought, itself, action_at, calls_as, called, struck, matching}
-use Rattle.protocol.specs.Steps.{with_active, with_keys, by_action, call_on, desk_from, Step, triggered, letter_step, pressed_in_turn, chord_on, analysed, key_moved, move_step}
+use Rattle.protocol.specs.Steps.{with_active, with_keys, by_action, call_on, desk_from, triggered, letter_step, pressed_in_turn, chord_on, if_moved, key_moved, move_step}
 use Rattle.protocol.specs.Answers.{start_desk, Outcome, letter_outcome, move_outcome, letter_row_outcome, key_outcome, frame_outcome, active_right, valid_desk, answer_of}
 use Rattle.protocol.specs.Inner.{tuned, step_of, Within}
 use Rattle.protocol.specs.Streams.{Lent, desk_after}
@@ -92,12 +91,11 @@ module _ (t : Tables) (v : valid_tables t ≡ true) where
 
   pub move_right_step : (d : Desk) → Right d → (way : Way) (house k : ℕ) → Right (move_step t way house d k).desk
   unfolding move_step
-  move_right_step d r way house k = let c = key_moved way d.keys house k in go (eqb c.number done) c.number c.held
+  move_right_step d r way house k = go (key_moved way d.keys house k)
     where
-      go : (b : Bool) (m : ℕ) (h : HeldKeys)
-          → (let s : Step = cond b (analysed t house (with_keys h d)) (record { desk = d; number = m; made = [] }) in Right s.desk)
-      go true m h = step_right (with_keys h d) (record { tuning = r.tuning; active = r.active }) house (matching (chord_on (with_keys h d))) done
-      go false m h = r
+      go : (m : Result HeldKeys ℕ) → Right (if_moved t house d m).desk
+      go (Ok h) = step_right (with_keys h d) (record { tuning = r.tuning; active = r.active }) house (matching (chord_on (with_keys h d))) done
+      go (Err n) = r
 
   pub presses_right : (d : Desk) → Right d → (house : ℕ) (cs : List ℕ) → Right (pressed_in_turn t house d cs).desk
   unfolding pressed_in_turn

@@ -1,7 +1,6 @@
 -- The held keys are history: after a stream a key is held if the last of its key frames that was taken was a press. Document 02, 5/13: "Frames of kind 05
 -- and 06 say that a key goes down or up in that house; the desk keeps the held keys of each."
-use Rattle.std.specs.Prelude.{◌≡◌, Bool, true, false, cond, ◌&&◌, List, [], ◌∷◌, ℕ, eqb, ltb, length}
-use Rattle.status.specs.Status.{done}
+use Rattle.std.specs.Prelude.{◌≡◌, Bool, true, false, cond, ◌&&◌, List, [], ◌∷◌, ℕ, eqb, ltb, length, is_ok}
 use Rattle.frames.specs.Frames.{Frame, bad, letter, key, dump, move, letter_row, frame_of}
 use Rattle.frames.specs.declared.Way.{Way}
 use Rattle.frames.specs.declared.Way.TheVariants.{Down, Up}
@@ -26,7 +25,7 @@ move_by d (letter house c) = []
 move_by d (key house k) = []
 move_by d (dump house) = []
 move_by d (letter_row house cs) = []
-move_by d (move way house k) = cond (eqb (key_moved way d.keys house k).number done) (record { way = way; house = house; key = k } ∷ []) []
+move_by d (move way house k) = cond (is_ok (key_moved way d.keys house k)) (record { way = way; house = house; key = k } ∷ []) []
 
 -- none where 19 or 23 is given
 abbrev pub moves_of : Tables → Desk → Lent → List Moved

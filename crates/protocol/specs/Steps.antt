@@ -1,12 +1,11 @@
 -- Calls, and what a trigger, a key or a row of letters does to the desk. Document 01, "Frames" and "Numbers returned"; document 02, 3/13 and 5/13.
-use Rattle.std.specs.Prelude.{cond, List, [], ◌∷◌, ◌++◌, ℕ, eqb, Option, Some, None}
+use Rattle.std.specs.Prelude.{List, [], ◌∷◌, ◌++◌, ℕ, Option, Some, None, Result, Ok, Err}
 use Rattle.status.specs.Status.{done, letter_unbound}
 use Rattle.tuning.specs.Tuning.{Action, width}
 use Rattle.tuning.specs.Desk.{cents}
 use Rattle.tuning.specs.State.{held, replied}
 use Rattle.tuning.specs.declared.State.{State}
 use Rattle.keys.specs.declared.HeldKeys.{HeldKeys}
-use Rattle.keys.specs.declared.Changed.{Changed}
 use Rattle.keys.specs.Keys.{went_down, went_up}
 use Rattle.harmonies.specs.Harmonies.{chord_of}
 use Rattle.tables.specs.Layout.{Tables}
@@ -107,14 +106,15 @@ chord_on d = let s = held d.tuning in record { positions = chord_of d.keys s.anc
 abbrev pub analysed : Tables → ℕ → Desk → Step
 analysed t house d = triggered t house d (matching (chord_on d)) done
 
--- "a key goes down or up in that house": the held keys then, and 0; or "17 for a key already held in that house, 18 for one not held"
-abbrev pub key_moved : Way → HeldKeys → ℕ → ℕ → Changed
+-- "a key goes down or up in that house": the held keys then; or "17 for a key already held in that house, 18 for one not held"
+abbrev pub key_moved : Way → HeldKeys → ℕ → ℕ → Result HeldKeys ℕ
 key_moved Down h house k = went_down h house k
 key_moved Up h house k = went_up h house k
 
 -- "each before any analysis"; "a call refused leaves the key as changed"
-abbrev pub if_moved : Tables → ℕ → Desk → Changed → Step
-if_moved t house d c = cond (eqb c.number done) (analysed t house (with_keys c.held d)) (record { desk = d; number = c.number; made = [] })
+abbrev pub if_moved : Tables → ℕ → Desk → Result HeldKeys ℕ → Step
+if_moved t house d (Ok h) = analysed t house (with_keys h d)
+if_moved t house d (Err n) = record { desk = d; number = n; made = [] }
 
 unfoldable pub move_step : Tables → Way → ℕ → Desk → ℕ → Step
 move_step t way house d k = if_moved t house d (key_moved way d.keys house k)

@@ -15,7 +15,7 @@ use crate::{Active, Callee, Chord, Desk, INDEX_SIZE, Search, triggers};
 use cents::KeyNumber;
 use frames::Way;
 use harmonies::Harmony;
-use keys::{Changed, HeldKeys};
+use keys::HeldKeys;
 use status::DONE;
 use tables::{
     CODES, Counts, HARMONY_BASE, HARMONY_FORM, LOGIC_FORM, Numbers, ORDER_WIDTH, ORDERS_AT, Row,
@@ -166,8 +166,8 @@ fn find_called(
     find_order(rows, orders, from as usize, to as usize, chord)
 }
 
-// A key goes down or up: the held keys then, and the number.
-fn move_key(held: HeldKeys, way: Way, house: u8, key: KeyNumber) -> Changed
+// A key goes down or up: the held keys then, or the number that it is refused with.
+fn move_key(held: HeldKeys, way: Way, house: u8, key: KeyNumber) -> Result<HeldKeys, u8>
     requires { Place house key.0 }
     ensures { result ≡ key_moved way held house key.0 }
 {
@@ -192,18 +192,17 @@ pub fn search_key(
     requires place { Place house key.0 }
     ensures { Finds (tables_in numbers.now codes.now) house desk (move_step (tables_in numbers.now codes.now) way house desk key.0) result }
 {
-    let before = desk.keys;
+    let keys = match move_key(desk.keys, way, house, key) {
+        Ok(keys) => keys,
+        Err(number) => {
+            return Search {
+                keys: desk.keys,
+                found: Called::Nothing,
+                unfound: number,
+            };
+        }
+    };
     let active = desk.active;
-    let moved = move_key(before, way, house, key);
-    let number = moved.number;
-    if number != DONE {
-        return Search {
-            keys: before,
-            found: Called::Nothing,
-            unfound: number,
-        };
-    }
-    let keys = moved.held;
     let chord = chord_of(desk.with_keys(keys));
     let found = find_called(numbers, codes, index, active, chord);
     Search {

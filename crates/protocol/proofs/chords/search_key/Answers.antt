@@ -1,17 +1,18 @@
 -- `protocol::chords::search_key` meets its contract: a key that could not move finds nothing, else its chord is looked for. Assumes nothing.
 use mathlib.Core.Path.{◌≡◌, sym, ap, ◌∙◌, subst}
-use borrow.Author.Tests.{eq-eqb, ne_eqb}
+use Prim.Native.Nat.{ℕ}
 use lib.ListN.{length}
 use Rattle.status.specs.Status.{done}
 use Rattle.tuning.specs.State.{valid_state}
 use Rattle.tuning.proofs.Lists.{length_mapped}
 use Rattle.tables.specs.Layout.{Tables, tables_in}
-use Rattle.keys.specs.declared.Changed.{Changed}
+use Rattle.std.specs.Prelude.{Result}
+use Rattle.keys.specs.declared.HeldKeys.{HeldKeys}
 use Rattle.protocol.specs.declared.Chord.{Chord}
 use Rattle.protocol.specs.declared.Desk.{Desk}
 use Rattle.protocol.specs.declared.Stepped.{Stepped}
 use Rattle.protocol.specs.Triggers.{matching, Struck, struck}
-use Rattle.protocol.specs.Steps.{desk_from, made_from, with_keys, triggered, chord_on, analysed, if_moved, move_step}
+use Rattle.protocol.specs.Steps.{desk_from, made_from, with_keys, triggered, chord_on, if_moved, move_step}
 use Rattle.protocol.specs.Inner.{Within, called_by, struck_in, struck_leaves, step_leaves}
 use Rattle.protocol.proofs.Pressable.{struck_within}
 use Rattle.protocol.proofs.Struck.{struck_named}
@@ -32,16 +33,12 @@ right : (a : goal.Start) → Right (lent a) (tables_right (lent a) a.args.desk a
 right a = valid_right (lent a) a.args.desk a.requires.desk_value (long a)
 
 -- what the step leaves, by what became of the keys
-abbrev left : goal.Start → Changed → Stepped
+abbrev left : goal.Start → Result HeldKeys ℕ → Stepped
 left a m = step_leaves (if_moved (lent a) a.args.house a.args.desk m)
 
-pub returns-then-number-ne-DONE : goal.returns-then-number-ne-DONE
+pub returns-in-Err : goal.returns-in-Err
 unfolding desk_from made_from move_step
-returns-then-number-ne-DONE c =
-    record {
-      within = tt;
-      leaves = sym (rw (ne_eqb c.move_key-moved.result.number done c.if-number-ne-DONE.true)) ∙ ap (left (goal.at.returns-then-number-ne-DONE c).Start) c.move_key-moved.ensures;
-    }
+returns-in-Err c = record { within = tt; leaves = ap (left (goal.at.returns-in-Err c).Start) c.in-Err.ensures }
 
 pub chord_of-chord-requires : goal.chord_of-chord-requires
 chord_of-chord-requires c =
@@ -56,12 +53,11 @@ unfolding triggered move_step
 returns c =
     let t = lent (goal.at.returns c).Start in
     let active = c.args.desk.active in
-    let d = with_keys c.move_key-moved.result.held c.args.desk in
+    let d = with_keys c.in-Ok.keys c.args.desk in
     let x = matching (chord_on d) in
     let here : struck_in t d c.find_called-found.result ≡ struck t active x =
     struck_named t active x (c.find_called-found.ensures ∙ ap (λ (y : Chord). called_by t active (matching y)) (c.chord_of-chord.ensures.0 ∙ ap chord_on c.with_keys.ensures)) in
-    let moved : left (goal.at.returns c).Start c.move_key-moved.result ≡ step_leaves (analysed t c.args.house d) = rw (eq-eqb c.move_key-moved.result.number done c.if-number-ne-DONE.false) in
     record {
       within = subst (λ (z : Struck). Within t z.calls) (sym here) (struck_within t (tables_right t c.args.desk c.requires.desk_value) active (right (goal.at.returns c).Start).active x);
-      leaves = ap (λ (z : Struck). struck_leaves t c.args.house d z done) here ∙ sym moved ∙ ap (left (goal.at.returns c).Start) c.move_key-moved.ensures;
+      leaves = ap (λ (z : Struck). struck_leaves t c.args.house d z done) here ∙ ap (left (goal.at.returns c).Start) c.in-Ok.ensures;
     }
