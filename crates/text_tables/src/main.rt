@@ -24,7 +24,7 @@
 //   18 0000000D: x is not named, at byte 13; the tables are zero again.
 #![tactic(auto)]
 
-ghost use Rattle.std.specs.Prelude.{◌≡◌, ◌≤◌, length, IfOk, IfSome};
+ghost use Rattle.std.specs.Prelude.{◌≤◌, length, IfOk, IfSome};
 
 use mutabor::read_text;
 use std::io;
@@ -80,15 +80,19 @@ fn put_orders(out: &mut impl Write, orders: &[u16], count: u32) -> io::Result<()
 }
 
 // What the tables hold.
-fn put_tables(out: &mut impl Write, numbers: &[i32], codes: &[u16]) -> io::Result<()>
-    requires { (length numbers.now ≡ 16_160) × (length codes.now ≡ 10_628) }
-{
+fn put_tables(
+    out: &mut impl Write,
+    numbers: &[i32; NUMBERS],
+    codes: &[u16; CODES],
+) -> io::Result<()> {
     let used = Counts::read(&codes[..SOUNDING_AT]);
-    for count in [used.rows, used.tones, used.changes, used.orders] {
-        out.write_all(&count.to_be_bytes())?;
-    }
+    out.write_all(&used.rows.to_be_bytes())?;
+    out.write_all(&used.tones.to_be_bytes())?;
+    out.write_all(&used.changes.to_be_bytes())?;
+    out.write_all(&used.orders.to_be_bytes())?;
+    let sounding = &codes[SOUNDING_AT..KINDS_AT];
+    let kinds = &codes[KINDS_AT..ORDERS_AT];
     put_rows(out, &numbers[..TONES_AT], used.rows)?;
-    let (sounding, kinds) = (&codes[SOUNDING_AT..KINDS_AT], &codes[KINDS_AT..ORDERS_AT]);
     put_pairs(out, sounding, &numbers[TONES_AT..CHANGES_AT], used.tones)?;
     put_pairs(out, kinds, &numbers[CHANGES_AT..], used.changes)?;
     put_orders(out, &codes[ORDERS_AT..], used.orders)
