@@ -5,8 +5,9 @@ pub mod clear;
 pub mod decode;
 pub mod encode;
 
-ghost use Rattle.std.specs.Prelude.{◌≡◌, length};
-ghost use Rattle.tables.specs.Layout.{tables_in, full_size, counts_size, counts_of};
+ghost use Rattle.std.specs.Prelude.{◌≡◌, ◌↔◌, true, length, IsSome, IfSome};
+ghost use Rattle.tables.specs.Layout.{tables_in, triggers_in, calls_in, full_size, used, counts_size, counts_of};
+ghost use Rattle.tables.specs.Values.{Slices};
 
 use cents::{Interval, KeyNumber, Pitch};
 use limits::{MOST_ORDERS, MOST_POSITIONS, MOST_RETUNINGS, MOST_ROWS, MOST_SYSTEMS};
@@ -173,4 +174,74 @@ pub fn has_full_size(numbers: &[i32], codes: &[u16]) -> bool
     ensures { result ≡ full_size (tables_in numbers.now codes.now) }
 {
     (numbers.len() == NUMBERS) & (codes.len() == CODES)
+}
+
+// Tables of full size, as the two slices that hold them.
+#[derive(Clone, Copy)]
+pub struct Tables<'a> {
+    pub numbers: &'a [i32],
+    pub codes: &'a [u16],
+    pub ghost full: { Slices numbers.now codes.now },
+}
+
+#[tactic(auto, unfolding(crate::specs::Layout::tables_in))]
+impl<'a> Tables<'a> {
+    ghost use Rattle.tables.specs.Lent.{tables_of};
+
+    // The tables of two slices, where both are of full size.
+    pub fn new(numbers: &'a [i32], codes: &'a [u16]) -> Option<Tables<'a>>
+        ensures full { IsSome result ↔ (full_size (tables_in numbers.now codes.now) ≡ true) }
+        ensures same { IfSome result (λ t. tables_of t ≡ tables_in numbers.now codes.now) }
+    {
+        if !has_full_size(numbers, codes) {
+            return None;
+        }
+        Some(Tables { numbers, codes })
+    }
+
+    // The numbers of the rows, one row after the other.
+    pub fn rows(self) -> &'a [i32]
+        ensures { result.now ≡ (tables_of self.entry).rows }
+    {
+        &self.numbers[..TONES_AT]
+    }
+
+    pub fn tones(self) -> &'a [i32]
+        ensures { result.now ≡ (tables_of self.entry).tones }
+    {
+        &self.numbers[TONES_AT..CHANGES_AT]
+    }
+
+    pub fn changes(self) -> &'a [i32]
+        ensures { result.now ≡ (tables_of self.entry).changes }
+    {
+        &self.numbers[CHANGES_AT..]
+    }
+
+    // How many rows, tones, changes and orders are used.
+    pub fn counts(self) -> Counts
+        ensures { result ≡ used (tables_of self.entry) }
+    {
+        Counts::read(&self.codes[..SOUNDING_AT])
+    }
+
+    pub fn sounding(self) -> &'a [u16]
+        ensures { result.now ≡ (tables_of self.entry).sounding }
+    {
+        &self.codes[SOUNDING_AT..KINDS_AT]
+    }
+
+    pub fn kinds(self) -> &'a [u16]
+        ensures { result.now ≡ (tables_of self.entry).kinds }
+    {
+        &self.codes[KINDS_AT..ORDERS_AT]
+    }
+
+    // The codes of the orders, one order after the other.
+    pub fn orders(self) -> &'a [u16]
+        ensures triggers { triggers_in result.now ≡ (tables_of self.entry).triggers }
+        ensures calls { calls_in result.now ≡ (tables_of self.entry).calls }
+    {
+        &self.codes[ORDERS_AT..]
+    }
 }
