@@ -6,7 +6,8 @@ use native.Mathlib.Numerals.{add-one}
 use native.Mathlib.Omega.{arith}
 use lib.IntN.{ℤ, pos}
 use lib.ListN.{length, length-append, length-drop, length-replicate, replicate, replicate-append-replicate, get_or, take, drop, set}
-use lib.Seq.{sets, sets-eq, set_at, set_out, take_at, drop_at, drop-drop, drop-cons, drop-length, append_snoc, slice, slice_empty, length-slice, length-take-le, take-suc, drop-append-le}
+use lib.Seq.{sets, sets-eq, set_at, set_out, take_at, drop_at, drop-drop, drop-cons, drop-length, take-length, append_snoc, slice, slice_empty, length-slice, length-take-le, take-suc, drop-append-le}
+use Rattle.std.proofs.lemmas.List.{drop-take}
 use Rattle.tables.specs.Layout.{full, joined, joined_from}
 
 -- ---- a list whose first i elements are set to one value: a loop that clears it
@@ -98,6 +99,10 @@ module _ {A : Type 0} (f : ℕ → ℤ → A) where
 
 -- ---- what stands from one place to another of two lists
 
+-- as `&slice[from..to]` has it
+pub cut : {A : Type 0} (from to : ℕ) (l : List A) → from ≤ to → take (to - from) (drop from l) ≡ slice from to l
+cut from to l h = let e : from + (to - from) ≡ to = omega arith in sym (drop-take from (to - from) l) ∙ ap (λ (n : ℕ). drop from (take n l)) e
+
 slice_next : {A : Type 0} (from i : ℕ) (l : List A) (d : A) → from ≤ i → i < length l → slice from (i + 1) l ≡ slice from i l ++ get_or l i d ∷ []
 slice_next from i l d h k =
     rw (add-one i, take-suc l i d k, drop-append-le from (take i l) (get_or l i d ∷ []) (rw (length-take-le i l (omega arith)) h))
@@ -117,10 +122,22 @@ module _ {A : Type 0} (f : ℕ → ℤ → A) (ks : List ℕ) (zs : List ℤ) (f
       rw (slice_next from i ks 0 h k, slice_next from i zs (pos 0) h m)
       (joined_append f (slice from i ks) (slice from i zs) (get_or ks i 0) (get_or zs i (pos 0)) (length-slice from i ks (omega arith) ∙ sym (length-slice from i zs (omega arith))))
 
-  -- a loop that fills an array with them
-  pub filled_next : (nought : A) (size i : ℕ) → from ≤ i → i < from + size → i < length ks → i < length zs
-      → set (full nought size (joined_from f ks zs from i)) (i - from) (f (get_or ks i 0) (get_or zs i (pos 0))) ≡ full nought size (joined_from f ks zs from (i + 1))
-  filled_next nought size i h b k m =
+-- a loop that fills an array with two lists joined
+module _ {A : Type 0} (f : ℕ → ℤ → A) (nought : A) (size : ℕ) (ks : List ℕ) (zs : List ℤ) where
+  -- the array, its first i places filled
+  abbrev pub filled : ℕ → List A
+  filled i = full nought size (joined f (take i ks) (take i zs))
+
+  pub filled_none : replicate size nought ≡ filled 0
+  unfolding joined
+  filled_none = let e : size - 0 ≡ size = omega arith in rw e
+
+  pub filled_next : (i : ℕ) → i < size → i < length ks → i < length zs → set (filled i) i (f (get_or ks i 0) (get_or zs i (pos 0))) ≡ filled (i + 1)
+  filled_next i b k m =
+      let l = joined f (take i ks) (take i zs) in
       let x = f (get_or ks i 0) (get_or zs i (pos 0)) in
-      full_next nought size (joined_from f ks zs from i) (x ∷ []) (i - from) (part_length i (omega arith) (omega arith)) (omega arith)
-      ∙ ap (full nought size) (sym (part_next i h k m))
+      let n : length l ≡ i = part_length f ks zs 0 i (omega arith) (omega arith) ∙ omega arith in
+      full_next nought size l (x ∷ []) i n (omega arith) ∙ ap (full nought size) (sym (part_next f ks zs 0 i (omega arith) k m))
+
+  pub filled_all : (n : ℕ) → n ≡ length ks → n ≡ length zs → filled n ≡ full nought size (joined f ks zs)
+  filled_all n d e = rw (d, take-length ks, sym d ∙ e, take-length zs)

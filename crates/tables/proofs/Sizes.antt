@@ -2,12 +2,12 @@
 use mathlib.Core.Path.{◌≡◌, refl, sym}
 use mathlib.Core.Bool.{Bool, true, false, ◌&&◌}
 use mathlib.Core.List.{List}
-use Prim.Native.Nat.{ℕ, ◌+◌, ◌-◌, ◌*◌, ◌≤◌}
+use Prim.Native.Nat.{ℕ, ◌+◌, ◌*◌, ◌≤◌}
 use native.Mathlib.Omega.{arith}
 use borrow.Author.Tests.{eqb-true, eq-eqb}
 use lib.Dec.{eqb}
 use lib.IntN.{ℤ}
-use lib.ListN.{length, take, drop, length-drop}
+use lib.ListN.{length, drop, length-drop}
 use lib.Seq.{length-take-le, take_all}
 use Rattle.tuning.proofs.Lists.{both}
 use Rattle.tables.specs.Layout.{Tables, section, tables_in, full_size, row_width, most_rows, most_tones, most_changes, most_orders, counts_size, tones_at, changes_at, all_numbers, sounding_at, kinds_at, orders_at, all_codes}
@@ -61,10 +61,6 @@ sizes_is t s =
 
 pub section_size : {A : Type 0} (at k : ℕ) (l : List A) → at + k ≤ length l → length (section at k l) ≡ k
 section_size at k l h = length-take-le k (drop at l) (omega (arith, length-drop at l))
-
--- all from a place on, as `&slice[at..]` has it
-pub to_the_end : {A : Type 0} (at : ℕ) (l : List A) → take (length l - at) (drop at l) ≡ drop at l
-to_the_end at l = take_all (length l - at) (drop at l) (omega (arith, length-drop at l))
 
 -- the last section, handed on with its end
 pub section_last : {A : Type 0} (at k : ℕ) (l : List A) → length l ≡ at + k → section at k l ≡ drop at l

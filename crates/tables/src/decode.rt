@@ -1,8 +1,8 @@
 // Numbers of the tables as a row, a tone, a change, a tone system's state and a retuning's positions. What stands past a table's end is read as zero.
-ghost use Rattle.std.specs.Prelude.{◌≡◌, ◌+◌, ◌*◌, pos, get_or};
+ghost use Rattle.std.specs.Prelude.{◌≡◌, ◌+◌, ◌*◌, ◌≤◌, pos, length, get_or};
 ghost use Rattle.integers.specs.Parts.{up};
-ghost use Rattle.tuning.specs.State.{coded};
-ghost use Rattle.tables.specs.Layout.{half_set, amount_of, period_of, row_of, read_at, tone_of, change_of, joined_from};
+ghost use Rattle.tuning.specs.State.{coded, places};
+ghost use Rattle.tables.specs.Layout.{half_set, amount_of, period_of, row_of, read_at, tone_of, change_of, joined, joined_from};
 ghost use Rattle.tables.specs.Values.{system, listed, FieldsFit, Part};
 
 use crate::{
@@ -20,29 +20,14 @@ use tuning::{
 pub fn natural(z: i32) -> u32
     ensures { result ≡ up z }
 {
-    if z < 0 {
-        return 0;
-    }
-    z as u32
+    u32::try_from(z).unwrap_or(0)
 }
 
 // The number at a place, or 0 past the end.
-pub fn number_at(table: &[i32], at: usize) -> i32
+fn number_at(table: &[i32], at: usize) -> i32
     ensures { result ≡ get_or table.now at (pos 0) }
 {
-    if table.len() <= at {
-        return 0;
-    }
-    table[at]
-}
-
-fn code_at(table: &[u16], at: usize) -> u16
-    ensures { result ≡ get_or table.now at 0 }
-{
-    if table.len() <= at {
-        return 0;
-    }
-    table[at]
+    table.get(at).copied().unwrap_or(0)
 }
 
 // The numbers of row i.
@@ -50,13 +35,7 @@ pub fn numbers_at(rows: &[i32], i: usize) -> Numbers
     ensures { result ≡ read_at rows.now i }
 {
     if rows.len() <= i {
-        return Numbers {
-            form: UNUSED_FORM,
-            first: 0,
-            second: 0,
-            from: 0,
-            to: 0,
-        };
+        return Numbers::new(UNUSED_FORM, 0, 0);
     }
     let at = ROW_WIDTH * i;
     Numbers {
@@ -108,23 +87,27 @@ fn row_of(n: Numbers) -> Row
     requires { FieldsFit n }
     ensures { result ≡ row_of n }
 {
-    let form = n.form;
-    let from = n.from;
-    let to = n.to;
-    let a = natural(n.first);
-    let b = natural(n.second);
+    let Numbers {
+        form,
+        first,
+        second,
+        from,
+        to,
+    } = n;
+    let a = natural(first);
+    let b = natural(second);
     match form {
-        INTERVAL_FORM => Row::Interval(Interval(n.first)),
-        TONE_FORM => Row::Tone(Pitch(n.first)),
+        INTERVAL_FORM => Row::Interval(Interval(first)),
+        TONE_FORM => Row::Tone(Pitch(first)),
         SYSTEM_FORM => Row::System {
             anchor: KeyNumber(a as u8),
-            period: Interval(n.second),
+            period: Interval(second),
             from,
             to,
         },
         ANCHOR_FORM => retuning_row(Retuning::Anchor(amount_of(a, b as u16)), from, to),
         WIDTH_FORM => retuning_row(Retuning::Width(amount_of(a, b as u16)), from, to),
-        PERIOD_FORM => retuning_row(Retuning::Period(period_of(a, Interval(n.second))), from, to),
+        PERIOD_FORM => retuning_row(Retuning::Period(period_of(a, Interval(second))), from, to),
         TONES_FORM => retuning_row(Retuning::Tones, from, to),
         LOGIC_FORM => Row::Logic {
             trigger: a as u16,
@@ -149,24 +132,54 @@ pub fn row_at(rows: &[i32], i: usize) -> Row
     row_of(numbers_at(rows, i))
 }
 
-// Tone i of the tone systems.
-pub fn tone_at(sounding: &[u16], tones: &[i32], i: usize) -> Tone
-    ensures { result ≡ tone_of (get_or sounding.now i 0) (get_or tones.now i (pos 0)) }
+fn tone_of(code: u16, z: i32) -> Tone
+    ensures { result ≡ tone_of code z }
 {
-    match code_at(sounding, i) {
+    match code {
         MUTED_CODE => Tone::Muted,
-        _ => Tone::At(Pitch(number_at(tones, i))),
+        _ => Tone::At(Pitch(z)),
     }
 }
 
-// Change i of the tones retunings.
-pub fn change_at(kinds: &[u16], changes: &[i32], i: usize) -> ToneChange
-    ensures { result ≡ change_of (get_or kinds.now i 0) (get_or changes.now i (pos 0)) }
+fn change_of(code: u16, z: i32) -> ToneChange
+    ensures { result ≡ change_of code z }
 {
-    match code_at(kinds, i) {
+    match code {
         MUTE_CODE => ToneChange::Mute,
-        MOVE_CODE => ToneChange::Move(Interval(number_at(changes, i))),
-        _ => ToneChange::Set(Pitch(number_at(changes, i))),
+        MOVE_CODE => ToneChange::Move(Interval(z)),
+        _ => ToneChange::Set(Pitch(z)),
+    }
+}
+
+// The state of a tone system with these tones.
+pub fn system_of(anchor: KeyNumber, period: Interval, sounding: &[u16], tones: &[i32]) -> State
+    requires { (length sounding.now ≡ length tones.now) × (length tones.now ≤ places) }
+    ensures { result ≡ coded (system anchor.0 (joined tone_of sounding.now tones.now) period.0) }
+{
+    let mut positions = [Tone::Muted; PLACES];
+    for (i, code) in sounding.iter().enumerate() {
+        positions[i] = tone_of(*code, tones[i]);
+    }
+    State {
+        anchor,
+        width: tones.len() as u8,
+        tones: positions,
+        period,
+    }
+}
+
+// The positions of a tones retuning with these changes.
+pub fn changes_of(kinds: &[u16], changes: &[i32]) -> ToneChanges
+    requires { (length kinds.now ≡ length changes.now) × (length changes.now ≤ places) }
+    ensures { result ≡ listed (joined change_of kinds.now changes.now) }
+{
+    let mut positions = [ToneChange::Mute; PLACES];
+    for (i, code) in kinds.iter().enumerate() {
+        positions[i] = change_of(*code, changes[i]);
+    }
+    ToneChanges {
+        count: changes.len() as u8,
+        positions,
     }
 }
 
@@ -182,18 +195,7 @@ pub fn system_at(
     requires { Part sounding.now tones.now from to }
     ensures { result ≡ coded (system anchor.0 (joined_from tone_of sounding.now tones.now from to) period.0) }
 {
-    let mut s = State {
-        anchor,
-        width: (to - from) as u8,
-        tones: [Tone::Muted; PLACES],
-        period,
-    };
-    let mut i = from;
-    while i < to {
-        s.tones[i - from] = tone_at(sounding, tones, i);
-        i += 1;
-    }
-    s
+    system_of(anchor, period, &sounding[from..to], &tones[from..to])
 }
 
 // The positions of a tones retuning whose changes are those from `from` to `to`.
@@ -201,14 +203,5 @@ pub fn changes_from(kinds: &[u16], changes: &[i32], from: usize, to: usize) -> T
     requires { Part kinds.now changes.now from to }
     ensures { result ≡ listed (joined_from change_of kinds.now changes.now from to) }
 {
-    let mut list = ToneChanges {
-        count: (to - from) as u8,
-        positions: [ToneChange::Mute; PLACES],
-    };
-    let mut i = from;
-    while i < to {
-        list.positions[i - from] = change_at(kinds, changes, i);
-        i += 1;
-    }
-    list
+    changes_of(&kinds[from..to], &changes[from..to])
 }

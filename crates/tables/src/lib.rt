@@ -6,12 +6,12 @@ pub mod decode;
 pub mod encode;
 
 ghost use Rattle.std.specs.Prelude.{◌≡◌, ◌↔◌, true, length, IsSome, IfSome};
-ghost use Rattle.tables.specs.Layout.{tables_in, triggers_in, calls_in, full_size, used, counts_size, counts_of};
+ghost use Rattle.tables.specs.Layout.{tables_in, triggers_in, calls_in, full_size, used, counts_size, counts_of, numbers};
 ghost use Rattle.tables.specs.Values.{Slices};
 
 use cents::{Interval, KeyNumber, Pitch};
 use limits::{MOST_ORDERS, MOST_POSITIONS, MOST_RETUNINGS, MOST_ROWS, MOST_SYSTEMS};
-use tuning::Retuning;
+use tuning::{Retuning, State, ToneChanges};
 
 // Full sizes: how many rows, tones, changes and orders there is room for, and how many numbers a row and how many codes an order has.
 pub const ROWS: usize = MOST_ROWS;
@@ -112,6 +112,21 @@ pub struct Numbers {
     pub to: u32,
 }
 
+impl Numbers {
+    // The numbers of a row to which nothing belongs.
+    fn new(form: u32, first: i32, second: i32) -> Numbers
+        ensures { result ≡ numbers form first second 0 0 }
+    {
+        Numbers {
+            form,
+            first,
+            second,
+            from: 0,
+            to: 0,
+        }
+    }
+}
+
 // A row, taken apart. `from` and `to` bound the tones, changes or orders that belong to it.
 #[derive(Clone, Copy)]
 pub enum Row {
@@ -186,7 +201,10 @@ pub struct Tables<'a> {
 
 #[tactic(auto, unfolding(crate::specs::Layout::tables_in))]
 impl<'a> Tables<'a> {
+    ghost use Rattle.tuning.specs.State.{coded};
     ghost use Rattle.tables.specs.Lent.{tables_of};
+    ghost use Rattle.tables.specs.Layout.{read_at, row_at, tones_from, changes_from};
+    ghost use Rattle.tables.specs.Values.{system, listed, FieldsFit, Part};
 
     // The tables of two slices, where both are of full size.
     pub fn new(numbers: &'a [i32], codes: &'a [u16]) -> Option<Tables<'a>>
@@ -243,5 +261,29 @@ impl<'a> Tables<'a> {
         ensures calls { calls_in result.now ≡ (tables_of self.entry).calls }
     {
         &self.codes[ORDERS_AT..]
+    }
+
+    // The row of declaration i.
+    pub fn row(self, i: usize) -> Row
+        requires { FieldsFit (read_at (tables_of self).rows i) }
+        ensures { result ≡ row_at (tables_of self.entry) i }
+    {
+        decode::row_at(self.rows(), i)
+    }
+
+    // The state of a tone system whose tones are those from `from` to `to`.
+    pub fn system(self, anchor: KeyNumber, period: Interval, from: usize, to: usize) -> State
+        requires { Part (tables_of self).sounding (tables_of self).tones from to }
+        ensures { result ≡ coded (system anchor.0 (tones_from (tables_of self.entry) from to) period.0) }
+    {
+        decode::system_at(self.sounding(), self.tones(), anchor, period, from, to)
+    }
+
+    // The positions of a tones retuning whose changes are those from `from` to `to`.
+    pub fn changes_from(self, from: usize, to: usize) -> ToneChanges
+        requires { Part (tables_of self).kinds (tables_of self).changes from to }
+        ensures { result ≡ listed (changes_from (tables_of self.entry) from to) }
+    {
+        decode::changes_from(self.kinds(), self.changes(), from, to)
     }
 }

@@ -21,7 +21,7 @@ read_natural : {r : ℕ} {z x : ℤ} → mag z < 2 ^ 31 → z ≡ x → r ≡ up
 read_natural h e k = k ∙ ap up (read h e)
 
 pub returns-then-rows-i : goal.returns-then-rows-i
-returns-then-rows-i c = sym (past_end c.args.rows.now c.args.i c.if-rows-i.true)
+returns-then-rows-i c = c.new.ensures ∙ sym (past_end c.args.rows.now c.args.i c.if-rows-i.true)
 
 pub returns : goal.returns
 returns c =
