@@ -1,58 +1,14 @@
--- Lists: set to one value, filled up to a full size, and two joined to one. Assumes nothing.
+-- Lists filled up to a full size, and two lists joined to one. Assumes nothing.
 use mathlib.Core.Path.{◌≡◌, refl, sym, ap, ◌∙◌}
-use mathlib.Core.List.{List, [], ◌∷◌, ◌++◌, map, append-nil}
+use mathlib.Core.List.{List, [], ◌∷◌, ◌++◌, map}
 use Prim.Native.Nat.{ℕ, suc, ◌+◌, ◌-◌, ◌≤◌, ◌<◌}
 use native.Mathlib.Numerals.{add-one}
 use native.Mathlib.Omega.{arith}
 use lib.IntN.{ℤ, pos}
-use lib.ListN.{length, length-append, length-drop, length-replicate, replicate, replicate-append-replicate, get_or, take, drop, set}
-use lib.Seq.{sets, sets-eq, set_at, set_out, take_at, drop_at, drop-drop, drop-cons, drop-length, take-length, append_snoc, slice, slice_empty, length-slice, length-take-le, take-suc, drop-append-le}
+use lib.ListN.{length, length-append, length-replicate, replicate, replicate-append-replicate, get_or, take, drop, set}
+use lib.Seq.{sets, sets-eq, take_at, drop_at, drop-drop, take-length, slice, length-slice, length-take-le, take-suc, drop-append-le}
 use Rattle.std.proofs.lemmas.List.{drop-take}
 use Rattle.tables.specs.Layout.{full, joined, joined_from}
-
--- ---- a list whose first i elements are set to one value: a loop that clears it
-
-module _ {A : Type 0} (nought : A) (l : List A) where
-  unfoldable pub cleared : ℕ → List A
-  cleared i = replicate i nought ++ drop i l
-
-  pub cleared_none : l ≡ cleared 0
-  unfolding cleared
-  cleared_none = refl
-
-  pub cleared_length : (i : ℕ) → i ≤ length l → length (cleared i) ≡ length l
-  unfolding cleared
-  cleared_length i h = simp (length-append, length-replicate, length-drop) (omega arith)
-
-  pub cleared_next : (i : ℕ) → i < length l → set (cleared i) i nought ≡ cleared (i + 1)
-  unfolding cleared
-  cleared_next i h =
-      rw (drop-cons l i nought h, set_at (replicate i nought) (get_or l i nought) (drop (suc i) l) nought i (length-replicate i nought), ← append_snoc (replicate i nought) nought (drop (suc i) l))
-      (rw (replicate-append-replicate i 1 nought, add-one i))
-
-  pub cleared_all : (i : ℕ) → i ≡ length l → cleared i ≡ replicate (length l) nought
-  unfolding cleared
-  cleared_all i e = rw (e, drop-length l) (append-nil (replicate (length l) nought))
-
--- what the loop that clears a list keeps
-pub record Clearing {A : Type 0} (nought : A) (l₀ l : List A) (i : ℕ) : Type 0 where
-  pub upto : i ≤ length l₀
-  pub first : l ≡ cleared nought l₀ i
-
-module _ {A : Type 0} (nought : A) (l₀ l : List A) (i : ℕ) (k : Clearing nought l₀ l i) where
-  pub clearing_length : length l ≡ length l₀
-  clearing_length = ap length k.first ∙ cleared_length nought l₀ i k.upto
-
-  pub clearing_next : i < length l → Clearing nought l₀ (set l i nought) (i + 1)
-  clearing_next h =
-      let n = clearing_length in
-      record { upto = omega arith; first = ap (λ (t : List A). set t i nought) k.first ∙ cleared_next nought l₀ i (omega arith) }
-
-  pub clearing_ends : length l ≤ i → l ≡ replicate (length l₀) nought
-  clearing_ends h = let n = clearing_length in k.first ∙ cleared_all nought l₀ i (omega (arith, k.upto))
-
-pub clearing_starts : {A : Type 0} (nought : A) (l : List A) → Clearing nought l l 0
-clearing_starts nought l = record { upto = omega arith; first = cleared_none nought l }
 
 -- ---- a list filled up to a full size
 
@@ -70,11 +26,6 @@ module _ {A : Type 0} (nought : A) (size : ℕ) where
       rw (m, ← replicate-append-replicate (length v) rest nought) (drop_at (replicate (length v) nought) (replicate rest nought) (length v) (length-replicate (length v) nought)) in
       sets-eq v (l ++ z) n (omega (arith, full_length l (omega arith)))
       ∙ rw (take_at l z n e, ← drop-drop (length v) n (l ++ z), drop_at l z n e, x)
-
--- elements stored past the end
-pub sets_out : {A : Type 0} (vs l : List A) (i : ℕ) → length l ≤ i → sets l i vs ≡ l
-sets_out [] l i h = refl
-sets_out (v ∷ vs) l i h = rw (set_out l i v h) (sets_out vs l (suc i) (omega arith))
 
 -- ---- two lists joined to one
 
@@ -108,10 +59,6 @@ slice_next from i l d h k =
     rw (add-one i, take-suc l i d k, drop-append-le from (take i l) (get_or l i d ∷ []) (rw (length-take-le i l (omega arith)) h))
 
 module _ {A : Type 0} (f : ℕ → ℤ → A) (ks : List ℕ) (zs : List ℤ) (from : ℕ) where
-  pub part_none : joined_from f ks zs from from ≡ []
-  unfolding joined
-  part_none = rw (slice_empty from ks)
-
   pub part_length : (to : ℕ) → to ≤ length ks → to ≤ length zs → length (joined_from f ks zs from to) ≡ to - from
   part_length to h k =
       joined_length f (slice from to ks) (slice from to zs) (length-slice from to ks h ∙ sym (length-slice from to zs k)) ∙ length-slice from to ks h

@@ -1,10 +1,10 @@
 -- Tables that are filled one after the other: what a store adds, and what is read back. Assumes nothing.
 use mathlib.Core.Path.{◌≡◌, refl, sym, ap, ◌∙◌}
-use mathlib.Core.List.{List, [], ◌∷◌, ◌++◌, map, map-append}
+use mathlib.Core.List.{List, [], ◌∷◌, ◌++◌, map}
 use Prim.Native.Nat.{ℕ, zero, suc, ◌+◌, ◌*◌, ◌-◌, ◌≤◌, ◌<◌}
 use native.Mathlib.Omega.{arith}
 use lib.IntN.{ℤ, pos}
-use lib.ListN.{length, length-map, get_or-append, get_or, take, drop, set, replicate}
+use lib.ListN.{length, length-map, get_or-append, get_or, take, drop, replicate}
 use lib.Seq.{sets, slice, take-append-le}
 use Rattle.tuning.specs.declared.Tone.{Tone as SoundingTone}
 use Rattle.tuning.specs.declared.ToneChange.{ToneChange}
@@ -19,13 +19,6 @@ use Rattle.tables.proofs.Rows.{row_back, tone_back, change_back}
 
 pub full_none : {A : Type 0} (nought : A) (size : ℕ) → replicate size nought ≡ full nought size []
 full_none nought size = let e : size - 0 ≡ size = omega arith in rw e
-
--- ---- one more tone, change or order
-
-pub next_stored : {A B : Type 0} (f : A → B) (nought : B) (size : ℕ) (l : List A) (x : A) (n : ℕ) → length l ≡ n → n < size
-    → set (full nought size (map f l)) n (f x) ≡ full nought size (map f (l ++ x ∷ []))
-next_stored f nought size l x n e h =
-    full_next nought size (map f l) (f x ∷ []) n (length-map l f ∙ e) (omega arith) ∙ ap (full nought size) (sym (map-append f l (x ∷ [])))
 
 -- ---- one more row
 

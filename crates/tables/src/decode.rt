@@ -83,6 +83,7 @@ pub fn set_of(low: u32, high: u32) -> u64
 }
 
 // A row by its form.
+#[tactic(auto, unfolding(crate::specs::Layout::row_of))]
 fn row_of(n: Numbers) -> Row
     requires { FieldsFit n }
     ensures { result ≡ row_of n }

@@ -1,7 +1,6 @@
 // The tables that a text is read into: a row for each declaration and for each call whose numbers are written in, and what the rows refer to.
 #![tactic(auto)]
 
-pub mod clear;
 pub mod decode;
 pub mod encode;
 
@@ -44,6 +43,8 @@ pub const ORDERS_AT: usize = KINDS_AT + CHANGES;
 pub const CODES: usize = ORDERS_AT + ORDER_WIDTH * ORDERS;
 
 // The forms of rows.
+// Kept as it is: lent tables may have any number as a form, and the test of validity asks for ranges of forms; an enum would want a match from the number to
+// it before each of those matches.
 pub const UNUSED_FORM: u32 = 0;
 
 pub const INTERVAL_FORM: u32 = 1;
@@ -124,6 +125,13 @@ impl Numbers {
             from: 0,
             to: 0,
         }
+    }
+
+    // With what stands from one place to another as what belongs to the row.
+    fn with_part(self, from: u32, to: u32) -> Numbers
+        ensures { result ≡ numbers self.form self.first self.second from to }
+    {
+        Numbers { from, to, ..self }
     }
 }
 

@@ -13,4 +13,4 @@ returns-then-orders-i c =
     (sym (set_out (triggers_in l) c.args.i c.args.trigger (omega arith)), sym (set_out (calls_in l) c.args.i c.args.called (omega arith)))
 
 pub returns : goal.returns
-returns c = order_stored c.args.orders.now c.args.i c.args.trigger c.args.called c.put_code.ensures c.put_code-2.ensures
+returns c = order_stored c.args.orders.now c.args.i c.args.trigger c.args.called c.put.ensures c.put-2.ensures
