@@ -1,87 +1,74 @@
 -- The tests of lists as the loops make them: one turn further, and at the end. Assumes nothing.
 use mathlib.Core.Path.{◌≡◌, refl, sym, ap, ◌∙◌}
 use mathlib.Core.Bool.{Bool, true, false, not, ◌&&◌, ◌||◌, and-true, and-false, and_assoc, true≢false, false≢true}
-use mathlib.Core.List.{List, [], ◌∷◌, ◌++◌}
+use mathlib.Core.List.{List, [], ◌∷◌}
 use mathlib.Core.Logic.{◌≢◌}
 use Prim.Native.Nat.{ℕ, zero, suc, ◌+◌, ◌-◌, ◌≤◌, ◌<◌}
 use native.Mathlib.Nat.{add-zero}
 use native.Mathlib.Numerals.{add-one}
 use native.Mathlib.Omega.{arith}
-use borrow.Author.Tests.{leb-true, leb-false, ltb-true, ltb-false, le-leb, lt-leb, ne_eqb}
+use borrow.Author.Tests.{leb-true, le-leb, lt-leb, ne_eqb}
 use lib.Dec.{leb, eqb}
-use lib.IntN.{ℤ, pos, negsuc, nat_abs, ◌-ℤ◌}
-use lib.Signed.{le_z, lt_z}
-use lib.ListN.{length, get_or, take, drop, take-append-drop}
-use lib.Seq.{slice, slice-cons, slice_empty, take-length, length-take-le, drop-append-le}
+use lib.IntN.{ℤ, pos, negsuc, nat_abs}
+use lib.Signed.{le_z}
+use lib.ListN.{length, get_or, drop}
+use lib.Seq.{drop-cons, drop-length}
+use borrow.Author.Rules.{rules}
+use mir.Syntax.{w32}
+use mir.Val.{SFits, of_z}
+use Rattle.std.specs.List.{list_all}
+use Rattle.std.specs.Ordering.{int_eq}
+use Rattle.std.specs.Cmp.{signed_Decides}
 use Rattle.integers.specs.Parts.{up}
-use Rattle.integers.proofs.Signed.{signed, abs, diff}
 use Rattle.tuning.specs.Desk.{between, is_tone}
-use Rattle.tuning.proofs.Lists.{every, both}
+use Rattle.tuning.proofs.Lists.{both}
 use Rattle.tables.specs.declared.Counts.{Counts}
 use Rattle.tables.specs.declared.Numbers.{Numbers}
-use Rattle.tables.specs.Layout.{numbers, read_at, interval_form, tone_form, system_form, anchor_form, width_form, period_form, tones_form, logic_form, harmony_form, pattern_form, harmony_base}
+use Rattle.tables.specs.Layout.{numbers, read_at, interval_form, tone_form, system_form, anchor_form, width_form, period_form, tones_form, logic_form, harmony_form, pattern_form}
 use Rattle.validity.specs.declared.Kinds.{Kinds}
 use Rattle.validity.specs.declared.Ends.{Ends}
 use Rattle.validity.specs.Valid.{no_part, kinds, kinds_right, ends_right, all_zero, all_nought}
-use Rattle.validity.specs.Inner.{is_zero, is_letter_code, is_trigger_code, is_form, fast_row, has_naturals, kinds_with, others, kinds_among, ends_with, fast_rows, fast_orders, fast_each}
+use Rattle.validity.specs.Inner.{is_zero, is_trigger_code, is_form, fast_row, has_naturals, kinds_with, others, kinds_among, ends_with, fast_rows, fast_orders, fast_each}
 
 -- ---- zeros, as a test of every element
 
-abbrev pub is_nought : ℕ → Bool
-is_nought k = eqb k 0
+pub differs : (b : Bool) → (b ≡ true → ⊥) → b ≡ false
+differs true h = absurd (h refl)
+differs false h = refl
 
-pub zero_each : (l : List ℤ) → all_zero l ≡ every is_zero l
-unfolding all_zero every
+zero_is : (z : ℤ) → int_eq z (pos 0) ≡ is_zero z
+zero_is (pos zero) = refl
+zero_is (pos (suc n)) =
+    rw (lt-leb (suc n) 0 (omega arith))
+    (differs (int_eq (pos (suc n)) (pos 0)) (λ h. let e : pos (suc n) ≡ pos 0 = (signed_Decides (pos (suc n)) (pos 0)).0 h in cc) ∙ sym (and-false (leb 0 (suc n))))
+zero_is (negsuc n) = refl
+
+-- as the code tests it
+pub zero_tested : (z : ℤ) → SFits w32 z → eqb (of_z w32 z) 0 ≡ is_zero z
+zero_tested z f = search rules
+
+pub zero_each : (l : List ℤ) → all_zero l ≡ list_all (λ z. int_eq z (pos 0)) l
+unfolding all_zero
 zero_each [] = refl
-zero_each (z ∷ l) = ap (λ (b : Bool). is_zero z && b) (zero_each l)
+zero_each (z ∷ l) = rw (zero_is z, zero_each l)
 
-pub nought_each : (l : List ℕ) → all_nought l ≡ every is_nought l
-unfolding all_nought every
+pub nought_each : (l : List ℕ) → all_nought l ≡ list_all (λ k. eqb k 0) l
+unfolding all_nought
 nought_each [] = refl
-nought_each (k ∷ l) = ap (λ (b : Bool). is_nought k && b) (nought_each l)
-
--- a run is tested a block of so many at a time, and each block by a loop
-abbrev pub block_size : ℕ
-block_size = 256
-
--- `all` is the test of every element
-module _ {A : Type 0} (p : A → Bool) (all : List A → Bool) (each : (l : List A) → all l ≡ every p l) (l : List A) where
-  pub block_turn : (f i t : ℕ) (ok : Bool) (d : A) → f + i < t → t ≤ length l → ok && p (get_or l (f + i) d) && all (slice (f + (i + 1)) t l) ≡ ok && all (slice (f + i) t l)
-  unfolding every
-  block_turn f i t ok d h k =
-      let e : f + (i + 1) ≡ suc (f + i) = omega arith in
-      rw (e, each (slice (suc (f + i)) t l), each (slice (f + i) t l), slice-cons (f + i) t l d h k) (and_assoc ok _ _)
-
-  pub block_end : (i t : ℕ) (ok : Bool) → i ≡ t → ok && all (slice i t l) ≡ ok
-  unfolding every
-  block_end i t ok e = rw (e, slice_empty t l, each []) (and-true ok)
-
-  joined : (xs ys : List A) → every p (xs ++ ys) ≡ every p xs && every p ys
-  unfolding every
-  joined [] ys = refl
-  joined (x ∷ xs) ys = rw (joined xs ys) (sym (and_assoc (p x) _ _))
-
-  pub run_split : (i j : ℕ) {b : Bool} → all (slice i j l) ≡ b → i ≤ j → j ≤ length l → all (drop i l) ≡ b && all (drop j l)
-  run_split i j e h k =
-      let n : i ≤ length (take j l) = rw (length-take-le j l k) h in
-      let parts : drop i l ≡ slice i j l ++ drop j l = ap (drop i) (sym (take-append-drop j l)) ∙ drop-append-le i (take j l) (drop j l) n in
-      rw (parts, each (slice i j l ++ drop j l), sym e, each (slice i j l), each (drop j l)) (joined (slice i j l) (drop j l))
-
-  pub run_end_step : (i j : ℕ) {b : Bool} → b ≡ all (slice i j l) → j ≡ length l → b ≡ all (drop i l)
-  run_end_step i j f e = f ∙ rw (e, take-length l)
+nought_each (k ∷ l) = ap (λ (b : Bool). eqb k 0 && b) (nought_each l)
 
 -- ---- kinds and numbers
 
-module _ (last : ℕ) (ok : ℤ → Bool) (ks : List ℕ) (zs : List ℤ) (n : ℕ) where
-  pub each_turn : (i : ℕ) (b : Bool) → i < n → n ≤ length ks → n ≤ length zs
-      → b && (leb (get_or ks i 0) last && ok (get_or zs i (pos 0)) && (not (eqb (get_or ks i 0) 0) || is_zero (get_or zs i (pos 0)))) && fast_each last ok (slice (i + 1) n ks) (slice (i + 1) n zs)
-      ≡ b && fast_each last ok (slice i n ks) (slice i n zs)
+module _ (last : ℕ) (ok : ℤ → Bool) (ks : List ℕ) (zs : List ℤ) where
+  pub each_turn : (i : ℕ) (b : Bool) → i < length ks → i < length zs
+      → b && (leb (get_or ks i 0) last && ok (get_or zs i (pos 0)) && (not (eqb (get_or ks i 0) 0) || is_zero (get_or zs i (pos 0)))) && fast_each last ok (drop (i + 1) ks) (drop (i + 1) zs)
+      ≡ b && fast_each last ok (drop i ks) (drop i zs)
   unfolding fast_each
-  each_turn i b h k m = rw (add-one i, slice-cons i n ks 0 h k, slice-cons i n zs (pos 0) h m) (and_assoc b _ _)
+  each_turn i b h k = rw (add-one i, drop-cons ks i 0 h, drop-cons zs i (pos 0) k) (and_assoc b _ _)
 
-  pub each_end : (i : ℕ) (b : Bool) → i ≡ n → b && fast_each last ok (slice i n ks) (slice i n zs) ≡ b
+  pub each_end : (i : ℕ) (b : Bool) → i ≡ length ks → b && fast_each last ok (drop i ks) (drop i zs) ≡ b
   unfolding fast_each
-  each_end i b e = rw (e, slice_empty n ks) (and-true b)
+  each_end i b e = rw (e, drop-length ks) (and-true b)
 
 -- ---- rows
 
@@ -103,11 +90,6 @@ zero_bounds x m n = rw (zero_natural m, zero_natural n) (regroup x (le_z (pos 0)
 pub natural_is : (z : ℤ) → le_z (pos 0) z ≡ true → nat_abs z ≡ up z
 natural_is (pos n) h = refl
 natural_is (negsuc n) h = absurd (false≢true h)
-
--- a form from `low` on, as the code tests it: no negative number is one
-pub form_between : (low high : ℕ) (z : ℤ) → 1 ≤ low → between (pos low) (pos high) z ≡ leb low (up z) && leb (up z) high
-form_between low high (pos n) h = refl
-form_between low high (negsuc n) h = rw (lt-leb low 0 h)
 
 -- the forms of intervals and tones
 value_forms : (P : ℤ → Type 0) → P (pos interval_form) → P (pos tone_form) → (f : ℤ) → between (pos interval_form) (pos tone_form) f ≡ true → P f
@@ -186,45 +168,20 @@ module _ (rows : List ℤ) (count : ℕ) (e : Ends) where
       let some : n.form ≢ 0 = λ z. false≢true (form_right n 0 z ∙ h) in
       (omega arith, omega arith)
 
--- counts by kind, of a form that is none, a retuning's, or none that there is
-module _ (k : Kinds) (f : ℕ) where
-  pub kinds_below : f < anchor_form → f ≢ interval_form → f ≢ tone_form → f ≢ system_form → k ≡ kinds_with k f
-  unfolding kinds_with
-  kinds_below h x y z = let e : f ≡ 0 = omega arith in rw e
-
-  abbrev retuning : Kinds
-  retuning = kinds k.intervals k.tones k.systems (suc k.retunings) k.logics k.harmonies
-
-  pub kinds_pattern : f ≡ pattern_form → retuning ≡ kinds_with k f
-  unfolding kinds_with
-  kinds_pattern e = rw e
-
-  pub kinds_retuning : anchor_form ≤ f → f ≤ tones_form → retuning ≡ kinds_with k f
-  unfolding kinds_with
-  kinds_retuning g h =
-      simp (
-        ne_eqb f interval_form (omega arith),
-        ne_eqb f tone_form (omega arith),
-        ne_eqb f system_form (omega arith),
-        ne_eqb f logic_form (omega arith),
-        ne_eqb f harmony_form (omega arith),
-        le-leb anchor_form f g,
-        le-leb f tones_form h,
-      )
-
-  pub kinds_above : pattern_form < f → k ≡ kinds_with k f
-  unfolding kinds_with
-  kinds_above h =
-      simp (
-        ne_eqb f interval_form (omega arith),
-        ne_eqb f tone_form (omega arith),
-        ne_eqb f system_form (omega arith),
-        ne_eqb f logic_form (omega arith),
-        ne_eqb f harmony_form (omega arith),
-        le-leb anchor_form f (omega arith),
-        lt-leb f tones_form (omega arith),
-        ne_eqb f pattern_form (omega arith),
-      )
+-- a form that there is not is counted as no kind
+pub kinds_above : (k : Kinds) (f : ℕ) → pattern_form < f → k ≡ kinds_with k f
+unfolding kinds_with
+kinds_above k f h =
+    simp (
+      ne_eqb f interval_form (omega arith),
+      ne_eqb f tone_form (omega arith),
+      ne_eqb f system_form (omega arith),
+      ne_eqb f logic_form (omega arith),
+      ne_eqb f harmony_form (omega arith),
+      le-leb anchor_form f (omega arith),
+      lt-leb f tones_form (omega arith),
+      ne_eqb f pattern_form (omega arith),
+    )
 
 -- the kinds x of one row more than i, of which k are no intervals
 pub record Turned (i : ℕ) (x k : Kinds) : Type 0 where
@@ -281,35 +238,6 @@ module _ (rows : List ℤ) (c : Counts) (k : Kinds) (e : Ends) (i n : ℕ) where
   pub rows_end : n ≤ i → fast_rows rows c k e i (n - i) ≡ kinds_right k && ends_right c e
   unfolding fast_rows
   rows_end h = let s : n - i ≡ 0 = omega arith in rw s
-
--- ---- starts: none, or the declaration before the number
-
-pub start_none : (s : ℤ) (x : Bool) → le_z s (pos 0) ≡ true → le_z (pos 0) s ≡ is_zero s || (le_z (pos 1) s && x)
-start_none (pos n) x h = let e : n ≡ 0 = omega (arith, leb-true n 0 h) in rw e
-start_none (negsuc n) x h = refl
-
-pub start_some : (s : ℤ) (x : Bool) → le_z s (pos 0) ≡ false → x ≡ is_zero s || (le_z (pos 1) s && x)
-start_some (pos n) x h = let k = leb-false n 0 h in rw (h, le-leb 1 n k, and-false (leb 0 n))
-start_some (negsuc n) x h = absurd (true≢false h)
-
-pub start_less : (s : ℤ) → le_z s (pos 0) ≡ false → nat_abs (s -ℤ pos 1) ≡ up s - 1
-start_less s h = omega (signed, diff s (pos 1), abs (s -ℤ pos 1), abs s)
-
--- ---- triggers: a letter, or the harmony so far above the first
-
-pub trigger_letter : (z : ℤ) (x : Bool) → is_letter_code z ≡ true → true ≡ is_letter_code z || (le_z (pos harmony_base) z && x)
-trigger_letter z x h = rw h
-
-pub trigger_none : (z : ℤ) (x : Bool) → is_letter_code z ≡ false → lt_z z (pos harmony_base) ≡ true → false ≡ is_letter_code z || (le_z (pos harmony_base) z && x)
-trigger_none (pos n) x l h = rw (l, lt-leb harmony_base n (ltb-true n harmony_base h))
-trigger_none (negsuc n) x l h = refl
-
-pub trigger_some : (z : ℤ) (x : Bool) → is_letter_code z ≡ false → lt_z z (pos harmony_base) ≡ false → x ≡ is_letter_code z || (le_z (pos harmony_base) z && x)
-trigger_some (pos n) x l h = rw (l, le-leb harmony_base n (ltb-false n harmony_base h))
-trigger_some (negsuc n) x l h = absurd (true≢false h)
-
-pub trigger_less : (z : ℤ) → lt_z z (pos harmony_base) ≡ false → nat_abs (z -ℤ pos harmony_base) ≡ up z - harmony_base
-trigger_less z h = omega (signed, diff z (pos harmony_base), abs (z -ℤ pos harmony_base), abs z)
 
 -- ---- orders
 

@@ -8,10 +8,8 @@ use lib.IntN.{ℤ, pos}
 use lib.ListN.{get_or, drop}
 use Rattle.tuning.specs.Desk.{is_tone}
 use Rattle.tables.specs.declared.Counts.{Counts}
-use Rattle.tables.specs.Layout.{section, tables_in, column, triggers_in, calls_in, row_width, order_width, most_tones, most_changes, most_orders, counts_size, counts_of, tones_at, changes_at, sounding_at, kinds_at, orders_at, system_form, logic_form, sounds_code, set_code}
-use Rattle.tables.specs.Values.{Slices}
+use Rattle.tables.specs.Layout.{Tables, used, full_size, column, triggers_in, calls_in, row_width, order_width, system_form, logic_form, sounds_code, set_code}
 use Rattle.tables.proofs.Columns.{trigger_at, call_at, triggers_drop, calls_drop}
-use Rattle.tables.proofs.Sizes.{section_last, slices_full}
 use Rattle.validity.specs.Valid.{counts_right, kinds, ends, all_zero, all_nought, is_sum, valid_tables}
 use Rattle.validity.specs.Inner.{is_trigger_code, is_form, fast_rows, fast_orders, fast_list}
 use Rattle.validity.proofs.Same.{swapped}
@@ -43,27 +41,18 @@ apart : (a b c : Bool) → a && (b && c) ≡ a && b && c
 apart true b c = refl
 apart false b c = refl
 
-module _ {numbers : List ℤ} {codes : List ℕ} (s : Slices numbers codes) {u : Counts} (e : u ≡ counts_of (section 0 counts_size codes)) where
-  pub few : counts_right u ≡ false → false ≡ valid_tables (tables_in numbers codes)
-  unfolding tables_in
-  few h = crowded (tables_in numbers codes) u e h
+module _ (t : Tables) {u : Counts} (e : u ≡ used t) (full : full_size t ≡ true) where
+  pub few : counts_right u ≡ false → false ≡ valid_tables t
+  few h = crowded t u e h
 
-  pub valid_slices : counts_right u ≡ true → {a b c d f g : Bool} → a ≡ fast_rows (section 0 tones_at numbers) u (kinds 0 0 0 0 0 0) (ends 0 0 0) 0 u.rows
-      → b ≡ all_zero (drop (row_width * u.rows) (section 0 tones_at numbers))
-      → c ≡ fast_list sounds_code is_tone u.tones (section sounding_at most_tones codes) (section tones_at most_tones numbers)
-      → d ≡ fast_list set_code is_sum u.changes (section kinds_at most_changes codes) (section changes_at most_changes numbers)
-      → f ≡ fast_orders (section 0 tones_at numbers) u.rows (triggers_in (section orders_at (order_width * most_orders) codes)) (calls_in (section orders_at (order_width * most_orders) codes)) 0 u.orders
-      → g ≡ all_nought (drop (order_width * u.orders) (section orders_at (order_width * most_orders) codes))
-      → a && b && c && d && f && g ≡ valid_tables (tables_in numbers codes)
-  unfolding tables_in
-  valid_slices h {a} {b} {c} {d} {f} ea eb ec ed ef eg =
-      let t = tables_in numbers codes in
-      let os = section_last orders_at (order_width * most_orders) codes s.all_codes_case in
-      let zs = section_last changes_at most_changes numbers s.all_numbers_case in
-      let ed' : d ≡ fast_list set_code is_sum u.changes t.kinds t.changes = ed ∙ ap (λ (l : List ℤ). fast_list set_code is_sum u.changes t.kinds l) zs in
-      let ef' : f ≡ fast_orders t.rows u.rows t.triggers t.calls 0 u.orders =
-      ef ∙ ap (λ (l : List ℕ). fast_orders t.rows u.rows (triggers_in l) (calls_in l) 0 u.orders) os in
-      let eg' = eg ∙ ap (λ (l : List ℕ). all_nought (drop (order_width * u.orders) l)) os ∙ nought_orders u.orders (drop orders_at codes) in
+  pub valid_parts : counts_right u ≡ true → (orders : List ℕ) → triggers_in orders ≡ t.triggers → calls_in orders ≡ t.calls → {a b c d f g : Bool}
+      → a ≡ fast_rows t.rows u (kinds 0 0 0 0 0 0) (ends 0 0 0) 0 u.rows → b ≡ all_zero (drop (row_width * u.rows) t.rows)
+      → c ≡ fast_list sounds_code is_tone u.tones t.sounding t.tones → d ≡ fast_list set_code is_sum u.changes t.kinds t.changes
+      → f ≡ fast_orders t.rows u.rows t.triggers t.calls 0 u.orders → g ≡ all_nought (drop (order_width * u.orders) orders)
+      → a && b && c && d && f && g ≡ valid_tables t
+  valid_parts h orders triggers calls {a} {b} {c} {d} {f} ea eb ec ed ef eg =
+      let eg' = eg ∙ nought_orders u.orders orders ∙ ap (λ (l : List ℕ). all_nought (drop u.orders l) && all_nought (drop u.orders (calls_in orders))) triggers
+      ∙ ap (λ (l : List ℕ). all_nought (drop u.orders t.triggers) && all_nought (drop u.orders l)) calls in
       ap (λ (x : Bool). a && b && c && d && f && x) eg'
       ∙ apart (a && b && c && d && f) (all_nought (drop u.orders t.triggers)) (all_nought (drop u.orders t.calls))
-      ∙ rw (ea, eb, ec, ed', ef') (valid_contents t u (slices_full numbers codes s) e h)
+      ∙ rw (ea, eb, ec, ed, ef) (valid_contents t u full e h)

@@ -1,12 +1,11 @@
 -- `validity::valid_tables` meets its contract. Assumes nothing.
-use mathlib.Core.Path.{sym, ◌∙◌}
-use Rattle.tables.specs.Layout.{tables_in}
-use Rattle.tables.proofs.Sizes.{slices_of}
+use Rattle.std.proofs.Common.{◌≡◌, true, false}
+use Rattle.tables.specs.Layout.{tables_in, full_size}
+use Rattle.validity.proofs.Runs.{differs}
 use Rattle.validity.proofs.Sizes.{unsized}
 use Rattle.validity.proofs.valid_tables.Goals as goal
 
-pub returns-then-not-has_full_size : goal.returns-then-not-has_full_size
-returns-then-not-has_full_size c = unsized (tables_in c.args.numbers.now c.args.codes.now) (sym c.has_full_size.ensures ∙ c.if-not-has_full_size.true)
-
-pub are_valid-requires : goal.are_valid-requires
-are_valid-requires c = slices_of c.args.numbers.now c.args.codes.now (sym c.has_full_size.ensures ∙ c.if-not-has_full_size.false)
+pub returns-in_default : goal.returns-in_default
+returns-in_default c =
+    let t = tables_in c.args.numbers.now c.args.codes.now in
+    unsized t (differs (full_size t) (λ h. let e : false ≡ true = c.in_default.ensures.full.1 h in cc))
