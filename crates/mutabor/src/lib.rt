@@ -164,15 +164,13 @@ fn take_symbols(text: &[u8], numbers: &mut [i32], codes: &mut [u16]) -> TextRead
     ensures { Leaves (by_verdict blank (read_text text.now)) result (tables_in numbers.new codes.new) }
 {
     let mut items = [0u32; ITEM_SLOTS];
-    let read = read_items(text, &mut items);
-    if read.number != DONE {
-        return TextReading {
-            number: read.number,
-            place: read.place,
-        };
+    match read_items(text, &mut items) {
+        Ok(count) => take_items(text, &mut items, count, numbers, codes),
+        Err(refusal) => TextReading {
+            number: refusal.reason.number(),
+            place: refusal.place,
+        },
     }
-    let n = read.count;
-    take_items(text, &mut items, n, numbers, codes)
 }
 
 // Reads a text into the tables. Where it is refused, or a table is not of full size, every table is zero.

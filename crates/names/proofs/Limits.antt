@@ -3,7 +3,8 @@
 use Prim.Native.Nat.{ℕ, zero, suc, ◌+◌, ◌≤◌, ◌<◌}
 use mathlib.Core.Bool.{Bool, true, false, cond}
 use mathlib.Core.List.{List, [], ◌∷◌, ◌++◌}
-use Rattle.std.specs.Prelude.{Option, Some, None}
+use Rattle.status.specs.declared.Reason.TheVariants.{SymbolNotAllowed, ItemTooMany}
+use Rattle.std.specs.Prelude.{Option, Some, None, Ok, Err}
 use mathlib.Core.Path.{◌≡◌, refl}
 use native.Mathlib.Omega.{arith}
 use borrow.Author.Tests.{leb-true, leb-false}
@@ -30,11 +31,9 @@ use Rattle.grammar.specs.declared.Item.TheVariants as item
 use Rattle.grammar.specs.declared.Counts.{Counts}
 use Rattle.grammar.specs.declared.Progress.{Progress}
 use Rattle.grammar.specs.declared.Span.{Span}
-use Rattle.grammar.specs.declared.Outcome.{Outcome}
-use Rattle.grammar.specs.declared.Outcome.TheVariants.{Go, Give, Refuse}
 use Rattle.grammar.specs.Syntax.{Terminal, Node, Rule, rules}
 use Rattle.grammar.specs.Terminals.{picked, terminal_of, start_of, span_of}
-use Rattle.grammar.specs.Reading.{Read, limit, so_far, one_more, most_terms, most_positions, next_term, with_counts, with_positions, with_keys, with_key, with_bracketed, in_brackets, no_term, unless_full, key_counted, key_named, order_counted, counted, term_item, termed, positioned, used, judged, if_allowed, numbered, acted, Standing, Moved, then_at, by_rule, stepped, begun, with, refused_at, read_from, most_bytes, read_items}
+use Rattle.grammar.specs.Reading.{Outcome, refusal, Read, limit, so_far, one_more, most_terms, most_positions, next_term, with_counts, with_positions, with_keys, with_key, with_bracketed, in_brackets, no_term, unless_full, key_counted, key_named, order_counted, counted, term_item, termed, positioned, used, judged, if_allowed, numbered, acted, Standing, Moved, then_at, by_rule, stepped, begun, with, refused_at, read_from, most_bytes, read_items}
 use Rattle.grammar.specs.Reading as reading
 use Rattle.grammar.proofs.Table.{each}
 use Rattle.grammar.proofs.Diagrams.{at_each, picked_of}
@@ -93,14 +92,14 @@ order_apart =
 -- ---- what each action counts at the symbol x
 
 abbrev Counts' : Counts → ℕ → Outcome → Type 0
-Counts' c p (Refuse n q) = Unit {0}
-Counts' c p (Go t) = Counting c t.counts p []
-Counts' c p (Give t i) = Counting c t.counts p (named_by (part i) [])
+Counts' c p (Err e) = Unit {0}
+Counts' c p (Ok (t, None)) = Counting c t.counts p []
+Counts' c p (Ok (t, Some i)) = Counting c t.counts p (named_by (part i) [])
 
 full_counts : (c : Counts) (p most n : ℕ) (x : Span) (o : Outcome) → (n < most → Counts' c p o) → Counts' c p (unless_full most n x o)
 full_counts c p most n x o h = go (leb most n) refl
   where
-    go : (b : Bool) → leb most n ≡ b → Counts' c p (cond b (Refuse item_too_many x.start) o)
+    go : (b : Bool) → leb most n ≡ b → Counts' c p (cond b (Err (refusal ItemTooMany x.start)) o)
     go true e = tt
     go false e = h (leb-false most n e)
 
@@ -111,7 +110,7 @@ module _ (s : Progress) (x : Span) where
   counted_counts : (k : Kind) → T (is_name k) → Fine (counted s k (item.Declared k x.start) x)
   counted_counts k t =
       full_counts s.counts x.start (limit k) (so_far k s.counts) x
-      (Give (with_counts (one_more k s.counts) (with_bracketed 0 (with_keys 0 (with_positions 0 (no_term s))))) (item.Declared k x.start))
+      (Ok (with_counts (one_more k s.counts) (with_bracketed 0 (with_keys 0 (with_positions 0 (no_term s)))), Some (item.Declared k x.start)))
       (one_more_holds k s.counts x.start t)
 
   term_counts : (f : ℕ) → Fine (termed s f x)
@@ -124,16 +123,16 @@ module _ (s : Progress) (x : Span) where
   key_counts : (v : ℕ) (i : Item) → named_by (part i) [] ≡ [] → Fine (key_named s v i x)
   key_counts v i e = go (has s.keys v)
     where
-      go : (b : Bool) → Fine (cond b (Refuse symbol_not_allowed x.start) (key_counted s x (Give (with_key v s) i)))
+      go : (b : Bool) → Fine (cond b (Err (refusal SymbolNotAllowed x.start)) (key_counted s x (Ok (with_key v s, Some i))))
       go true = tt
-      go false = full_counts s.counts x.start most_harmony_keys s.positions x (Give (with_key v s) i) (λ _. rw e same)
+      go false = full_counts s.counts x.start most_harmony_keys s.positions x (Ok (with_key v s, Some i)) (λ _. rw e same)
 
   order_counts : (o : Outcome) → Fine o → Fine (order_counted s x o)
   order_counts o h = full_counts s.counts x.start (limit AnOrder) (so_far AnOrder s.counts) x o (λ _. h)
 
   bracketed_counts : (i : Item) → named_by (part i) [] ≡ [] → Fine (in_brackets s i x)
   bracketed_counts i e =
-      full_counts s.counts x.start most_placeholders s.bracketed x (Give (with_bracketed (s.bracketed + 1) s) i) (λ _. rw e same)
+      full_counts s.counts x.start most_placeholders s.bracketed x (Ok (with_bracketed (s.bracketed + 1) s, Some i)) (λ _. rw e same)
 
   used_counts : (u : NumberUse) (v : ℕ) → Fine (used s u v x)
   used_counts RatioFirst v = same
@@ -158,7 +157,7 @@ module _ (s : Progress) (x : Span) where
 
   positioned_counts : (i : Item) → named_by (part i) [] ≡ [] → Fine (positioned s i x)
   positioned_counts i e =
-      full_counts s.counts x.start most_positions s.positions x (Give (with_positions (s.positions + 1) (no_term s)) i) (λ _. rw e same)
+      full_counts s.counts x.start most_positions s.positions x (Ok (with_positions (s.positions + 1) (no_term s), Some i)) (λ _. rw e same)
 
 -- an action that declares nothing but names
 is_fit : Action → Bool
@@ -181,7 +180,7 @@ acted_counts text s Hold x t = same
 acted_counts text s (Held u) x t = numbered_counts s x text u s.first.start s.first.end
 acted_counts text s (Number u) x t = numbered_counts s x text u x.start x.end
 acted_counts text s (Sign m) x t =
-    full_counts s.counts x.start most_terms s.term.before x (Go (next_term m 1 s.term.before s)) (λ _. same)
+    full_counts s.counts x.start most_terms s.term.before x (Ok (next_term m 1 s.term.before s, None)) (λ _. same)
 acted_counts text s (Name Term) x t = term_counts s x s.term.factor
 acted_counts text s (Name Base) x t = same
 acted_counts text s (Name Position) x t = positioned_counts s x _ refl
@@ -197,7 +196,7 @@ acted_counts text s (Mark KeptAnchor) x t = same
 acted_counts text s (Mark KeptWidth) x t = same
 acted_counts text s (Mark Period) x t = same
 acted_counts text s (Mark Onward) x t = same
-acted_counts text s (Mark Star) x t = full_counts s.counts x.start most_harmony_keys s.positions x (Go s) (λ _. same)
+acted_counts text s (Mark Star) x t = full_counts s.counts x.start most_harmony_keys s.positions x (Ok (s, None)) (λ _. same)
 acted_counts text s Letter x t = same
 acted_counts text s CountOrder x t = order_counts s x _ order_apart
 
@@ -224,9 +223,9 @@ unfolding stepped
 step_counts text s y = go (picked (rules s.node) (terminal_of text y)) refl
   where
     next : (n : Node) (o : Outcome) → Counts' s.kept.counts (start_of y) o → StepCounts s.kept.counts (start_of y) (then_at n o)
-    next n (Refuse m p) h = tt
-    next n (Go t) h = h
-    next n (Give t i) h = h
+    next n (Err e) h = tt
+    next n (Ok (t, None)) h = h
+    next n (Ok (t, Some i)) h = h
 
     go : (o : Option Rule) → picked (rules s.node) (terminal_of text y) ≡ o → StepCounts s.kept.counts (start_of y) (by_rule text s.kept y o)
     go None e = tt

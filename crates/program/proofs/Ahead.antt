@@ -5,6 +5,8 @@ use mathlib.Core.List.{List, [], ◌∷◌, ◌++◌}
 use Prim.Native.Nat.{ℕ, zero, suc, ◌+◌, ◌-◌, ◌≤◌}
 use native.Mathlib.Nat.{le_of_suc-le-suc}
 use native.Mathlib.Omega.{arith}
+use Rattle.std.specs.Prelude.{Option, Some, None, Ok, Err}
+use Rattle.status.specs.declared.Refusal.{Refusal}
 use Rattle.limits.specs.Limits.{most_harmony_keys, most_placeholders}
 use Rattle.status.specs.Status.{done}
 use Rattle.symbols.specs.declared.Symbol.{Symbol}
@@ -14,11 +16,9 @@ use Rattle.grammar.specs.declared.Action.{Action}
 use Rattle.grammar.specs.declared.Item.{Item}
 use Rattle.grammar.specs.declared.Item.TheVariants as item
 use Rattle.grammar.specs.declared.Progress.{Progress}
-use Rattle.grammar.specs.declared.Outcome.{Outcome}
-use Rattle.grammar.specs.declared.Outcome.TheVariants.{Go, Give, Refuse}
 use Rattle.grammar.specs.Syntax.{Terminal}
 use Rattle.grammar.specs.Terminals.{terminal_of, span_of}
-use Rattle.grammar.specs.Reading.{most_terms, most_positions, acted}
+use Rattle.grammar.specs.Reading.{Outcome, most_terms, most_positions, acted}
 use Rattle.program.specs.Allowed.{Decimal, Degree}
 use Rattle.program.proofs.Formed.{TermItems, no_term_holds, add_term, subtract_term, PlaceItems, no_place, muted_place, tone_place, PositionItems, no_position, muted_position, kept_position, tone_position, NameItems, no_name_case, a_name, NumberItems, no_number_case, a_number, StartItems, OrderItems, KeyItems, NotEmpty, Body, Formed, declaration}
 use Rattle.program.proofs.Walk.{Keeps, refuses, goes, gives}
@@ -171,12 +171,12 @@ Fit s = FitFactor s.term.factor
 
 -- what an outcome leads to, from stage P and progress s to stage Q
 pub data Leads (P Q : Stage) (s : Progress) : Outcome → Type 0 where
-  refused : {k p : ℕ} → (k ≡ done → ⊥) → Leads P Q s (Refuse k p)
-  passed : {t : Progress} → (Fit s → Fit t) → ((is : List Item) → Comes Q t is → Comes P s is) → Leads P Q s (Go t)
+  refused : (e : Refusal) → Leads P Q s (Err e)
+  passed : {t : Progress} → (Fit s → Fit t) → ((is : List Item) → Comes Q t is → Comes P s is) → Leads P Q s (Ok (t, None))
   given : {t : Progress} {i : Item} → (Fit s → Fit t) → ((is : List Item) → Fit s → Comes Q t is → Comes P s (i ∷ is))
-      → Leads P Q s (Give t i)
+      → Leads P Q s (Ok (t, Some i))
   declares : {t : Progress} {k : Kind} {p : ℕ} → Fit t → Comes P s [] → ((is : List Item) → Comes Q t is → Body k is)
-      → Leads P Q s (Give t (item.Declared k p))
+      → Leads P Q s (Ok (t, Some (item.Declared k p)))
 
 -- an action at a symbol leads from stage P to stage Q
 pub record Move (t : Terminal) (P : Stage) (a : Action) (Q : Stage) : Type 0 where
@@ -185,7 +185,7 @@ pub record Move (t : Terminal) (P : Stage) (a : Action) (Q : Stage) : Type 0 whe
 -- such a step keeps what is ahead
 pub keeps_ahead : {P Q : Stage} {s : Progress} {o : Outcome} → Leads P Q s o
     → Keeps (λ t is. Fit t → Ahead Q t is) (λ is. Fit s → Ahead P s is) o
-keeps_ahead (refused not_done) = refuses not_done
+keeps_ahead (refused e) = refuses e
 keeps_ahead {P} {Q} {s} (passed {t = t} fit c) = goes t (λ is later f. on (later (fit f)))
   where
     on : {is : List Item} → Ahead Q t is → Ahead P s is

@@ -3,7 +3,9 @@
 use mathlib.Core.Path.{◌≡◌, refl, sym, ◌∙◌, ap}
 use mathlib.Core.Bool.{Bool, true, false, cond, ◌&&◌}
 use mathlib.Core.List.{List}
-use Rattle.std.specs.Prelude.{Some}
+use Rattle.status.specs.declared.Reason.TheVariants.{SymbolNotAllowed}
+use Rattle.status.specs.declared.Refusal.{Refusal}
+use Rattle.std.specs.Prelude.{Some, None, Ok, Err}
 use Prim.Native.Nat.{ℕ, suc, ◌+◌, ◌-◌, ◌≤◌, ◌<◌}
 use native.Mathlib.Omega.{arith}
 use borrow.Author.Tests.{eqb-true}
@@ -24,12 +26,10 @@ use Rattle.grammar.specs.declared.Item.TheVariants as item
 use Rattle.grammar.specs.declared.Counts.{Counts}
 use Rattle.grammar.specs.declared.Progress.{Progress}
 use Rattle.grammar.specs.declared.Span.{Span}
-use Rattle.grammar.specs.declared.Outcome.{Outcome}
-use Rattle.grammar.specs.declared.Outcome.TheVariants.{Go, Give, Refuse}
 use Rattle.grammar.specs.Syntax.{Terminal, Node, OrderLetter, OrderName, Rule, rules}
 use Rattle.grammar.specs.Terminals.{picked, terminal_of, span_of}
 use Rattle.grammar.specs.Moves.{node_number, kind_number, class_size, action_at}
-use Rattle.grammar.specs.Reading.{limit, so_far, one_more, most_terms, most_positions, next_term, with_positions, with_key, no_term, unless_full, key_counted, key_named, term_item, termed, positioned, used, numbered, acted, read_items}
+use Rattle.grammar.specs.Reading.{Outcome, refusal, limit, so_far, one_more, most_terms, most_positions, next_term, with_positions, with_key, no_term, unless_full, key_counted, key_named, term_item, termed, positioned, used, numbered, acted, read_items}
 use Rattle.grammar.proofs.Table.{each}
 use Rattle.grammar.proofs.Diagrams.{at_each, picked_of}
 use Rattle.grammar.proofs.ActionNumbers.{action_back}
@@ -108,17 +108,17 @@ weight CountOrder = 0
 
 -- an outcome by what it counts and gives
 data Counting (s : Progress) : Action → Outcome → Type 0 where
-  refusing : {a : Action} {k p : ℕ} → (k ≡ done → ⊥) → Counting s a (Refuse k p)
-  passing : {a : Action} {t : Progress} → weight a ≡ 1 → t.counts ≡ s.counts → Counting s a (Go t)
+  refusing : {a : Action} (e : Refusal) → Counting s a (Err e)
+  passing : {a : Action} {t : Progress} → weight a ≡ 1 → t.counts ≡ s.counts → Counting s a (Ok (t, None))
   -- an item that is neither a declared name nor an order
   giving : {a : Action} {t : Progress} {i : Item} → weight a ≡ 1 → t.counts ≡ s.counts
-      → named_by (part i) ≡ (λ ds. ds) → order_part (part i) ≡ (λ n. n) → Counting s a (Give t i)
+      → named_by (part i) ≡ (λ ds. ds) → order_part (part i) ≡ (λ n. n) → Counting s a (Ok (t, Some i))
   naming : {k : Kind} {p : ℕ} {t : Progress} → so_far k s.counts < limit k → t.counts ≡ one_more k s.counts
-      → Counting s (Declare k) (Give t (item.Declared k p))
-  ordering : {t : Progress} → so_far AnOrder s.counts < limit AnOrder → t.counts ≡ one_more AnOrder s.counts → Counting s CountOrder (Go t)
+      → Counting s (Declare k) (Ok (t, Some (item.Declared k p)))
+  ordering : {t : Progress} → so_far AnOrder s.counts < limit AnOrder → t.counts ≡ one_more AnOrder s.counts → Counting s CountOrder (Ok (t, None))
   triggering : {q : ℕ} {t : Progress} → so_far AnOrder s.counts < limit AnOrder → t.counts ≡ one_more AnOrder s.counts
-      → Counting s (Name CountedTrigger) (Give t (item.Trigger q))
-  calling : {q k : ℕ} {t : Progress} → t.counts ≡ s.counts → Counting s (Name Order) (Give t (item.Order q k))
+      → Counting s (Name CountedTrigger) (Ok (t, Some (item.Trigger q)))
+  calling : {q k : ℕ} {t : Progress} → t.counts ≡ s.counts → Counting s (Name Order) (Ok (t, Some (item.Order q k)))
 
 module _ (s : Progress) (x : Span) where
   -- an action of weight 1
@@ -126,16 +126,16 @@ module _ (s : Progress) (x : Span) where
     term_counting : (f : ℕ) → Counting s a (termed s f x)
     term_counting f = go s.term.minus
       where
-        go : (m : Bool) → Counting s a (Give (next_term false 1 (s.term.before + 1) s) (term_item m f x.start))
+        go : (m : Bool) → Counting s a (Ok (next_term false 1 (s.term.before + 1) s, Some (term_item m f x.start)))
         go true = giving w refl refl refl
         go false = giving w refl refl refl
 
-    key_counting : (v : ℕ) (i : Item) → Counting s a (Give (with_key v s) i) → Counting s a (key_named s v i x)
+    key_counting : (v : ℕ) (i : Item) → Counting s a (Ok (with_key v s, Some i)) → Counting s a (key_named s v i x)
     key_counting v i h = go (has s.keys v)
       where
-        go : (b : Bool) → Counting s a (cond b (Refuse symbol_not_allowed x.start) (key_counted s x (Give (with_key v s) i)))
-        go true = refusing (λ (q : symbol_not_allowed ≡ done). omega arith)
-        go false = unless_full_step (Counting s a) (λ k p. refusing) most_harmony_keys s.positions x (Give (with_key v s) i) (λ _. h)
+        go : (b : Bool) → Counting s a (cond b (Err (refusal SymbolNotAllowed x.start)) (key_counted s x (Ok (with_key v s, Some i))))
+        go true = refusing (refusal SymbolNotAllowed x.start)
+        go false = unless_full_step (Counting s a) refusing most_harmony_keys s.positions x (Ok (with_key v s, Some i)) (λ _. h)
 
     used_counting : (u : NumberUse) (v : ℕ) → Counting s a (used s u v x)
     used_counting RatioFirst v = passing w refl
@@ -149,15 +149,15 @@ module _ (s : Progress) (x : Span) where
     used_counting (Amount f) v = giving w refl refl refl
     used_counting Key v = key_counting v (item.Key v) (giving w refl refl refl)
     used_counting StarredKey v = key_counting v (item.StarredKey v) (giving w refl refl refl)
-    used_counting Argument v = unless_full_step (Counting s a) (λ k p. refusing) most_placeholders s.bracketed x _ (λ _. giving w refl refl refl)
+    used_counting Argument v = unless_full_step (Counting s a) refusing most_placeholders s.bracketed x _ (λ _. giving w refl refl refl)
 
     numbered_counting : (text : List ℕ) (u : NumberUse) (start end : ℕ) → Counting s a (numbered text s u start end x)
-    numbered_counting text u start end = if_allowed_step (Counting s a) (λ k p. refusing) text s u start end x (λ v _. used_counting u v)
+    numbered_counting text u start end = if_allowed_step (Counting s a) refusing text s u start end x (λ v _. used_counting u v)
 
   full : (a : Action) (most n : ℕ) (o : Outcome) → (n < most → Counting s a o) → Counting s a (unless_full most n x o)
-  full a most n o h = unless_full_step (Counting s a) (λ k p. refusing) most n x o h
+  full a most n o h = unless_full_step (Counting s a) refusing most n x o h
 
-  positioned_counting : (a : Action) (i : Item) → Counting s a (Give (with_positions (s.positions + 1) (no_term s)) i) → Counting s a (positioned s i x)
+  positioned_counting : (a : Action) (i : Item) → Counting s a (Ok (with_positions (s.positions + 1) (no_term s), Some i)) → Counting s a (positioned s i x)
   positioned_counting a i h = full a most_positions s.positions _ (λ _. h)
 
   acted_counting : (text : List ℕ) (a : Action) → Counting s a (acted text s a x)
@@ -214,7 +214,7 @@ NamesLeft k s is = names_of k (declared is) ≤ left k s.counts
 
 names_kept : (k : Kind) (s : Progress) {a : Action} {o : Outcome} → Counting s a o → Keeps (NamesLeft k) (NamesLeft k s) o
 unfolding declared names_of
-names_kept k s (refusing not_done) = refuses not_done
+names_kept k s (refusing e) = refuses e
 names_kept k s (passing {t = t} w e) = goes t (λ is l. omega (arith, ap (left k) e))
 names_kept k s (giving {t = t} {i = i} w e f g) =
     gives t i (λ is l. omega (arith, ap (left k) e, ap (λ (add : List Named → List Named). names_of k (add (declared is))) f))
@@ -255,7 +255,7 @@ OrdersLeft q s is = order_items is ≤ left AnOrder s.counts + owed q
 orders_kept : (q r : Node) (s : Progress) {a : Action} {o : Outcome} → owed r + weight a ≤ owed q + 1 → Counting s a o
     → Keeps (OrdersLeft r) (OrdersLeft q s) o
 unfolding order_items
-orders_kept q r s b (refusing not_done) = refuses not_done
+orders_kept q r s b (refusing e) = refuses e
 orders_kept q r s b (passing {t = t} w e) = goes t (λ is l. omega (arith, ap (left AnOrder) e))
 orders_kept q r s b (giving {t = t} {i = i} w e f g) =
     gives t i (λ is l. omega (arith, ap (left AnOrder) e, ap (λ (add : ℕ → ℕ). add (order_items is)) g))

@@ -7,6 +7,8 @@ use Prim.Native.Nat.{ℕ, zero, suc, ◌+◌, ◌-◌, ◌≤◌, ◌<◌}
 use native.Mathlib.Nat.{le_of_suc-le-suc}
 use native.Mathlib.Omega.{arith}
 use lib.Dec.{eqb}
+use Rattle.std.specs.Prelude.{Some, None, Ok, Err}
+use Rattle.status.specs.declared.Reason.TheVariants.{SymbolNotAllowed}
 use Rattle.limits.specs.Limits.{most_harmony_keys}
 use Rattle.status.specs.Status.{done, symbol_not_allowed}
 use Rattle.sets.specs.Sets.{has, added}
@@ -19,10 +21,9 @@ use Rattle.grammar.specs.declared.Item.{Item}
 use Rattle.grammar.specs.declared.Item.TheVariants as item
 use Rattle.grammar.specs.declared.Progress.{Progress}
 use Rattle.grammar.specs.declared.Span.{Span}
-use Rattle.grammar.specs.declared.Outcome.TheVariants.{Give, Refuse}
 use Rattle.grammar.specs.Syntax.{Terminal}
 use Rattle.grammar.specs.Terminals.{span_of}
-use Rattle.grammar.specs.Reading.{with_key, key_counted, key_named, acted}
+use Rattle.grammar.specs.Reading.{refusal, with_key, key_counted, key_named, acted}
 use Rattle.program.proofs.Formed.{KeyItems, no_key, plain_key, starred_key_case, something, a_harmony}
 use Rattle.program.proofs.Ahead.{body, key, keys, SomeKeys, keys_left, Leads, refused, passed, given, Move}
 use Rattle.program.proofs.Steps.{full, passing, numbering, Ending}
@@ -72,8 +73,8 @@ named : (s : Progress) (x : Span) (v : ℕ) (i : Item)
     → Leads key keys s (key_named s v i x)
 named s x v i h = go (has s.keys v) refl
   where
-    go : (b : Bool) → has s.keys v ≡ b → Leads key keys s (cond b (Refuse symbol_not_allowed x.start) (key_counted s x (Give (with_key v s) i)))
-    go true e = refused (λ (q : symbol_not_allowed ≡ done). omega arith)
+    go : (b : Bool) → has s.keys v ≡ b → Leads key keys s (cond b (Err (refusal SymbolNotAllowed x.start)) (key_counted s x (Ok (with_key v s, Some i))))
+    go true e = refused (refusal SymbolNotAllowed x.start)
     go false e = full s most_harmony_keys s.positions x _ (λ l. given (λ f. f) (λ is f ks. h is e l ks))
 
 module _ {t : Terminal} where

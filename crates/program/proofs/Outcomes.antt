@@ -8,22 +8,21 @@ use native.Mathlib.Omega.{arith}
 use borrow.Author.Tests.{leb-false}
 use lib.Dec.{leb}
 use lib.Seq.{slice}
-use Rattle.std.specs.Prelude.{Option, Some, None}
-use Rattle.status.specs.Status.{done, number_out_of_range, item_too_many}
+use Rattle.status.specs.declared.Reason.TheVariants.{NumberOutOfRange, ItemTooMany}
+use Rattle.status.specs.declared.Refusal.{Refusal}
+use Rattle.std.specs.Prelude.{Option, Some, None, Err}
 use Rattle.grammar.specs.declared.NumberUse.{NumberUse}
 use Rattle.grammar.specs.declared.Progress.{Progress}
 use Rattle.grammar.specs.declared.Span.{Span}
-use Rattle.grammar.specs.declared.Outcome.{Outcome}
-use Rattle.grammar.specs.declared.Outcome.TheVariants.{Refuse}
-use Rattle.grammar.specs.Reading.{unless_full, allowed, judged, used, if_allowed, numbered}
+use Rattle.grammar.specs.Reading.{Outcome, refusal, unless_full, allowed, judged, used, if_allowed, numbered}
 use Rattle.program.proofs.Ranges.{InRange, Judged, value, judged_fits}
 
-module _ (F : Outcome → Type 0) (refused : (k p : ℕ) → (k ≡ done → ⊥) → F (Refuse k p)) where
+module _ (F : Outcome → Type 0) (refused : (e : Refusal) → F (Err e)) where
   pub unless_full_step : (most n : ℕ) (x : Span) (o : Outcome) → (n < most → F o) → F (unless_full most n x o)
   unless_full_step most n x o h = go (leb most n) refl
     where
-      go : (b : Bool) → leb most n ≡ b → F (cond b (Refuse item_too_many x.start) o)
-      go true e = refused item_too_many x.start (λ (q : item_too_many ≡ done). omega arith)
+      go : (b : Bool) → leb most n ≡ b → F (cond b (Err (refusal ItemTooMany x.start)) o)
+      go true e = refused (refusal ItemTooMany x.start)
       go false e = h (leb-false most n e)
 
   pub if_allowed_step : (text : List ℕ) (s : Progress) (u : NumberUse) (start end : ℕ) (x : Span)
@@ -31,5 +30,5 @@ module _ (F : Outcome → Type 0) (refused : (k p : ℕ) → (k ≡ done → ⊥
   if_allowed_step text s u start end x h = go (judged u (slice start end text)) (judged_fits u (slice start end text))
     where
       go : (v : Option ℕ) → Judged (InRange (allowed u)) v → F (if_allowed s u start x v)
-      go None r = refused number_out_of_range start (λ (q : number_out_of_range ≡ done). omega arith)
+      go None r = refused (refusal NumberOutOfRange start)
       go (Some v) (value w) = h v w

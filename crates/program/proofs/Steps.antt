@@ -3,6 +3,7 @@
 use mathlib.Core.List.{List, [], ◌∷◌}
 use Prim.Native.Nat.{ℕ, suc, ◌+◌, ◌-◌, ◌≤◌, ◌<◌}
 use native.Mathlib.Omega.{arith}
+use Rattle.std.specs.Prelude.{Some, None, Ok, Err}
 use Rattle.limits.specs.Limits.{most_amount, most_placeholders}
 use Rattle.grammar.specs.declared.Kind.{Kind}
 use Rattle.grammar.specs.declared.Kind.TheVariants.{Interval, Tone, Retuning}
@@ -17,11 +18,9 @@ use Rattle.grammar.specs.declared.Item.{Item}
 use Rattle.grammar.specs.declared.Item.TheVariants as item
 use Rattle.grammar.specs.declared.Progress.{Progress}
 use Rattle.grammar.specs.declared.Span.{Span}
-use Rattle.grammar.specs.declared.Outcome.{Outcome}
-use Rattle.grammar.specs.declared.Outcome.TheVariants.{Give}
 use Rattle.grammar.specs.Syntax.{Terminal}
 use Rattle.grammar.specs.Terminals.{span_of}
-use Rattle.grammar.specs.Reading.{allowed_amount, allowed, limit, so_far, unless_full, used, acted}
+use Rattle.grammar.specs.Reading.{Outcome, allowed_amount, allowed, limit, so_far, unless_full, used, acted}
 use Rattle.program.proofs.Formed.{Body, a_ratio, a_root, a_frequency, anchor_kept_case, width_kept_case, an_amount, an_amount_name, after_names, no_name_case, a_name}
 use Rattle.program.proofs.Ranges.{InRange, degree}
 use Rattle.program.proofs.Outcomes.{unless_full_step, if_allowed_step}
@@ -31,7 +30,7 @@ use Rattle.program.proofs.Ahead.{Stage, nothing, body, second_part, radicand, na
 
 pub full : {P Q : Stage} (s : Progress) (most k : ℕ) (x : Span) (o : Outcome) → (k < most → Leads P Q s o)
     → Leads P Q s (unless_full most k x o)
-full {P} {Q} s = unless_full_step (Leads P Q s) (λ k p. refused)
+full {P} {Q} s = unless_full_step (Leads P Q s) refused
 
 -- the factor 1
 pub fit_one : FitFactor 1
@@ -72,7 +71,7 @@ module _ {t : Terminal} {P Q : Stage} {u : NumberUse}
   numbering = record {
     leads = λ text s y e.
         let x = span_of y in
-        if_allowed_step (Leads P Q s) (λ k p. refused) text s u x.start x.end x (h s x);
+        if_allowed_step (Leads P Q s) refused text s u x.start x.end x (h s x);
   }
 
   pub holding : Move t P (Held u) Q
@@ -80,12 +79,12 @@ module _ {t : Terminal} {P Q : Stage} {u : NumberUse}
   holding = record {
     leads = λ text s y e.
         let x = span_of y in
-        if_allowed_step (Leads P Q s) (λ k p. refused) text s u s.first.start s.first.end x (h s x);
+        if_allowed_step (Leads P Q s) refused text s u s.first.start s.first.end x (h s x);
   }
 
 -- ---- declarations of one item
 
-only : {k : Kind} {s : Progress} {i : Item} → Body k (i ∷ []) → Leads (body k) nothing s (Give s i)
+only : {k : Kind} {s : Progress} {i : Item} → Body k (i ∷ []) → Leads (body k) nothing s (Ok (s, Some i))
 only {k} {i = i} h = given (λ f. f) (λ is f c. nothing_more (λ (l : List Item). Body k (i ∷ l)) h c)
 
 -- n is at most 9,999, after `/` too

@@ -3,7 +3,9 @@
 use mathlib.Core.Path.{◌≡◌, refl, sym, ◌∙◌, subst, subst₂}
 use mathlib.Core.Bool.{Bool, true, false, cond}
 use mathlib.Core.List.{List, [], ◌∷◌}
-use Rattle.std.specs.Prelude.{Option, Some, None}
+use Rattle.status.specs.declared.Refusal.{Refusal}
+use Rattle.status.proofs.ReasonNumbers.{never_done}
+use Rattle.std.specs.Prelude.{Option, Some, None, Ok, Err}
 use Rattle.std.proofs.lemmas.Option.{none-some}
 use Prim.Native.Nat.{ℕ, zero, suc, ◌+◌, ◌≤◌, ◌<◌}
 use native.Mathlib.Omega.{arith}
@@ -17,19 +19,17 @@ use Rattle.symbols.proofs.Progress.{after_within, going_on, symbols_next}
 use Rattle.grammar.specs.declared.Action.{Action}
 use Rattle.grammar.specs.declared.Item.{Item}
 use Rattle.grammar.specs.declared.Progress.{Progress}
-use Rattle.grammar.specs.declared.Outcome.{Outcome}
-use Rattle.grammar.specs.declared.Outcome.TheVariants.{Go, Give, Refuse}
 use Rattle.grammar.specs.Syntax.{Node, Begin, Finish, Rule, rules}
 use Rattle.grammar.specs.Terminals.{picked, is_nothing, terminal_of, start_of, span_of}
-use Rattle.grammar.specs.Reading.{Read, acted, Standing, standing, Moved, then_at, by_rule, stepped, begun, with, refused_at, read_from, most_bytes, read_items}
+use Rattle.grammar.specs.Reading.{Outcome, Read, acted, Standing, standing, Moved, then_at, by_rule, stepped, begun, with, refused_at, read_from, most_bytes, read_items}
 use Rattle.grammar.specs.Reading as reading
 use Rattle.grammar.proofs.Diagrams.{none_at_nothing, finish_at_end}
 
 -- what an outcome keeps: where X holds of what is still to come after it, B holds of what is to come from here on
 pub data Keeps (X : Progress → List Item → Type 0) (B : List Item → Type 0) : Outcome → Type 0 where
-  refuses : {k p : ℕ} → (k ≡ done → ⊥) → Keeps X B (Refuse k p)
-  goes : (t : Progress) → ((is : List Item) → X t is → B is) → Keeps X B (Go t)
-  gives : (t : Progress) (i : Item) → ((is : List Item) → X t is → B (i ∷ is)) → Keeps X B (Give t i)
+  refuses : (e : Refusal) → Keeps X B (Err e)
+  goes : (t : Progress) → ((is : List Item) → X t is → B is) → Keeps X B (Ok (t, None))
+  gives : (t : Progress) (i : Item) → ((is : List Item) → X t is → B (i ∷ is)) → Keeps X B (Ok (t, Some i))
 
 -- what is read after a step
 abbrev turned : List ℕ → Moved → List Symbol → Read
@@ -57,9 +57,9 @@ module _ (text : List ℕ) (A : Node → Progress → List Item → Type 0) wher
   module _ (finished : (s : Progress) → A Finish s []) (kept : Kept) where
     turn : (n : Node) (B : List Item → Type 0) (o : Outcome) (ys : List Symbol) → Keeps (A n) B o
         → ((t : Standing) → Whole (From t) (read_from text t ys)) → Whole B (turned text (then_at n o) ys)
-    turn n B (Refuse k p) ys (refuses not_done) later e = absurd (not_done e)
-    turn n B (Go t) ys (goes _ f) later e = f _ (later (standing n t) e)
-    turn n B (Give t i) ys (gives _ _ f) later e = f _ (later (standing n t) e)
+    turn n B (Err _) ys (refuses k) later e = absurd (never_done k.reason e)
+    turn n B (Ok (t, None)) ys (goes _ f) later e = f _ (later (standing n t) e)
+    turn n B (Ok (t, Some i)) ys (gives _ _ f) later e = f _ (later (standing n t) e)
 
     -- a step by a rule, or none
     by_rule_step : (s : Standing) (y : Symbol) (ys : List Symbol)
@@ -96,7 +96,7 @@ module _ (text : List ℕ) (A : Node → Progress → List Item → Type 0) wher
         → Whole (From s) (turned text (then_at n (acted text s.kept a (span_of (symbol.End p)))) []))
         (sym g.0) (sym g.1) (λ f e. finishing f) (kept s.node s.kept (symbol.End p) r q))
       where
-        finishing : Keeps (A Finish) (From s) (Go s.kept) → From s []
+        finishing : Keeps (A Finish) (From s) (Ok (s.kept, None)) → From s []
         finishing (goes _ f) = f [] (finished s.kept)
 
     from_place : (m at : ℕ) → length text < m + at → at ≤ length text → (s : Standing) → Whole (From s) (read_from text s (symbols_from text at))

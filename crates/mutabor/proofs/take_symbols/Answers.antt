@@ -3,11 +3,14 @@ use mathlib.Core.Path.{refl}
 use Rattle.mutabor.proofs.ItemsRead.{all_read, same_items, held_now, not_read, names_meant}
 use Rattle.mutabor.proofs.take_symbols.Goals as goal
 
-pub returns-then-read-ne-DONE : goal.returns-then-read-ne-DONE
-returns-then-read-ne-DONE c = not_read _ _ c.read_items-read.ensures c.if-read-ne-DONE.true refl refl c.requires
-
 pub take_items-requires : goal.take_items-requires
-take_items-requires c = (refl, (held_now _ _ c.read_items-read.ensures c.read_items-read.auto.items, ((same_items _ _ c.read_items-read.ensures, all_read _ _ c.read_items-read.ensures c.if-read-ne-DONE.false), c.requires)))
+take_items-requires c =
+    let w = c.in-Ok.ensures.answered in
+    let h = c.in-Ok.ensures.items in
+    (refl, (held_now _ _ w h c.read_items.auto.items, ((same_items _ _ w h, all_read _ _ w h), c.requires)))
 
-pub returns : goal.returns
-returns c = names_meant _ _ c.read_items-read.ensures c.if-read-ne-DONE.false c.take_items.ensures
+pub returns-in-Ok : goal.returns-in-Ok
+returns-in-Ok c = names_meant _ _ c.in-Ok.ensures.answered c.in-Ok.ensures.items c.take_items.ensures
+
+pub returns-in-Err : goal.returns-in-Err
+returns-in-Err c = not_read _ _ c.in-Err.ensures.answered c.number.ensures refl c.requires
