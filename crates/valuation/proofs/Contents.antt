@@ -1,13 +1,11 @@
 -- What the items of a declaration have for its value is what the declaration has.
 -- Assumes nothing.
-use Prim.Native.Nat.{ℕ, ◌*◌, ◌≤◌, ◌<◌}
+use Prim.Native.Nat.{ℕ, ◌≤◌}
 use mathlib.Core.Path.{◌≡◌, refl, sym, ◌∙◌, ap, subst}
-use mathlib.Core.Bool.{Bool, true, false, cond}
-use mathlib.Core.List.{List, [], ◌∷◌, ◌++◌, map}
+use mathlib.Core.Bool.{true, cond}
+use mathlib.Core.List.{List, [], ◌∷◌, ◌++◌}
 use native.Mathlib.Omega.{arith}
-use lib.IntN.{ℤ}
-use lib.ListN.{length, set}
-use lib.Seq.{sets}
+use lib.ListN.{length}
 use Rattle.grammar.specs.declared.Form.TheVariants.{AnchorTo, AnchorUp, AnchorDown, WidthTo, WidthUp, WidthDown, WidthTimes, WidthOver}
 use Rattle.grammar.specs.declared.Item.{Item}
 use Rattle.names.specs.Parts as parts
@@ -17,7 +15,7 @@ use Rattle.values.specs.declared.Range.{Range}
 use Rattle.values.specs.Values.{Own, Origin}
 use Rattle.values.specs.Rows.{terms_per_row}
 use Rattle.limits.specs.Limits.{most_rows}
-use Rattle.std.specs.Prelude.{Some, None, option_to_list}
+use Rattle.std.specs.Prelude.{Option, Some, None, option_to_list}
 use Rattle.program.specs.Program.{Declaration, ratio, root, sequence, frequency, from, system}
 use Rattle.program.specs.Program.{anchor, width, fresh_period, onward_period, tones, pattern, logic, harmony}
 use Rattle.program.specs.Program.{Program, term_then, terms_of, period_by, period_of, by_part, form_of}
@@ -64,18 +62,18 @@ terms_cons i is = terms_by (part i) (terms_of is)
 
 module _ (p : Program) (few : length p ≤ most_rows) where
   -- declaration c, of which x tells the form and ts are the terms among its items
-  record Valued (c : Declaration) (x : Content) (ts : List values.Term) : Type 0 where
+  record Valued (c : Declaration) (x : Option Content) (ts : List values.Term) : Type 0 where
     own : own_of c ≡ own_by x ts
     measurable : Fits p c → Measurable x
 
-  plain : {c : Declaration} {ts : List values.Term} → own_of c ≡ own_by content.Nothing ts → Valued c content.Nothing ts
+  plain : {c : Declaration} {ts : List values.Term} → own_of c ≡ own_by None ts → Valued c None ts
   plain e = record { own = e; measurable = λ _. tt }
 
-  period_plain : (is : List Item) {ts : List values.Term} → Valued (period_of is) content.Nothing ts
+  period_plain : (is : List Item) {ts : List values.Term} → Valued (period_of is) None ts
   period_plain [] = plain refl
   period_plain (i ∷ is) {ts} = go (part i)
     where
-      go : (q : Part) → Valued (period_by q (i ∷ is) is) content.Nothing ts
+      go : (q : Part) → Valued (period_by q (i ∷ is) is) None ts
       go (declares k n) = plain refl
       go (gives g a b) = plain refl
       go (uses u a b) = plain refl
@@ -92,7 +90,7 @@ module _ (p : Program) (few : length p ≤ most_rows) where
   valued_by i is (gives parts.ratio a b) e = record { own = refl; measurable = λ f. f }
   valued_by i is (gives parts.root a b) e = record { own = refl; measurable = λ f. f }
   valued_by i is (gives parts.frequency a b) e = record { own = refl; measurable = λ f. f }
-  valued_by i is (gives parts.anchor_key a b) e = record { own = ap (λ ts. own_by content.Period ts) (sym e); measurable = λ _. tt }
+  valued_by i is (gives parts.anchor_key a b) e = record { own = ap (λ ts. own_by (Some content.Period) ts) (sym e); measurable = λ _. tt }
   valued_by i is (gives (parts.amount AnchorTo) a b) e = plain refl
   valued_by i is (gives (parts.amount AnchorUp) a b) e = plain refl
   valued_by i is (gives (parts.amount AnchorDown) a b) e = plain refl
@@ -110,7 +108,7 @@ module _ (p : Program) (few : length p ≤ most_rows) where
   valued_by i is (uses parts.add f n) e = record { own = refl; measurable = λ _. tt }
   valued_by i is (uses parts.subtract f n) e = record { own = refl; measurable = λ _. tt }
   valued_by i is (uses parts.base f n) e =
-      record { own = ap (λ ts. own_by (content.Tone n) ts) (sym e); measurable = λ w. let b = w.0.within in omega arith }
+      record { own = ap (λ ts. own_by (Some (content.Tone n)) ts) (sym e); measurable = λ w. let b = w.0.within in omega arith }
   valued_by i is (uses parts.position f n) e = plain refl
   valued_by i is (uses parts.start f n) e = plain refl
   valued_by i is (uses parts.order f n) e = plain refl
@@ -163,7 +161,7 @@ gatherable p h is w =
 
 -- ---- a row, from the items
 
-module _ (is : List Item) {x : Content} (e : x ≡ content_at is) where
+module _ (is : List Item) {x : Option Content} (e : x ≡ content_at is) where
   own_here : own_of (form_of is) ≡ own_by x (terms_of is)
   own_here = declared_own is ∙ ap (λ y. own_by y (terms_of is)) (sym e)
 

@@ -1,14 +1,14 @@
 -- Laws of the loop that puts the terms among items into a row.
 -- Assumes nothing.
-use Prim.Native.Nat.{ℕ, zero, suc, ◌+◌, ◌-◌, ◌≤◌, ◌<◌}
+use Prim.Native.Nat.{ℕ, zero, suc, ◌+◌, ◌≤◌, ◌<◌}
 use mathlib.Core.Path.{◌≡◌, refl, sym, ◌∙◌, ap, subst}
 use mathlib.Core.List.{List, [], ◌∷◌, ◌++◌, append_assoc, append-nil}
 use native.Mathlib.Numerals.{add-one}
 use native.Mathlib.Omega.{arith}
-use lib.ListN.{length, get_or, set, replicate, length-set}
-use lib.Seq.{get_or-set_other}
+use lib.ListN.{length, get_or, set, drop, replicate, length-set, drop_of_length-le}
+use lib.Seq.{drop-cons, get_or-set_other}
 use Rattle.std.specs.Prelude.{Option, Some, None, IfSome, option_to_list}
-use Rattle.grammar.specs.Items.{item_at}
+use Rattle.grammar.specs.declared.Item.{Item}
 use Rattle.names.specs.Parts.{part}
 use Rattle.values.specs.Values as values
 use Rattle.values.specs.Rows.{terms_per_row, row_terms}
@@ -16,8 +16,6 @@ use Rattle.limits.specs.Limits.{most_rows}
 use Rattle.program.specs.Program.{terms_of}
 use Rattle.program.specs.Allowed.{Each}
 use Rattle.valuation.specs.Inner.{content_of, term_in, Small, Holdable}
-use Rattle.names.specs.Inner.{items_between}
-use Rattle.names.proofs.Between.{between_here, between_none}
 use Rattle.valuation.proofs.Contents.{terms_cons}
 
 both_small : (x : Option values.Term) (ys : List values.Term) → Each (Small most_rows) (option_to_list x ++ ys) → IfSome x (Small most_rows) × Each (Small most_rows) ys
@@ -54,33 +52,33 @@ no_places zero k = refl
 no_places (suc n) zero = refl
 no_places (suc n) (suc k) = no_places n k
 
-module _ (items : List ℕ) (from to : ℕ) where
+module _ (items : List Item) where
   -- the terms that are left before the i-th item
   abbrev left : ℕ → List values.Term
-  left i = terms_of (items_between items i to)
+  left i = terms_of (drop i items)
 
   pub record Gathering (terms : List (Option values.Term)) (next i : ℕ) : Type 0 where
-    pub whole : row_terms terms ++ left i ≡ left from
+    pub whole : row_terms terms ++ left i ≡ left 0
     pub free : Free terms next
     pub full : length terms ≡ terms_per_row
     pub room : next + length (left i) ≤ terms_per_row
     pub small : Each (Small most_rows) (left i)
 
-  pub gathering_none : Holdable (left from) → Gathering (replicate terms_per_row None) 0 from
+  pub gathering_none : Holdable (left 0) → Gathering (replicate terms_per_row None) 0 0
   gathering_none w = record { whole = refl; free = λ k h. no_places terms_per_row k; full = refl; room = omega (arith, w.few); small = w.small }
 
   module _ {terms : List (Option values.Term)} {next i : ℕ} (g : Gathering terms next i) where
-    pub gathering_all : to ≤ i → row_terms terms ≡ left from
+    pub gathering_all : length items ≤ i → row_terms terms ≡ left 0
     unfolding terms_of
-    gathering_all h = sym (append-nil (row_terms terms)) ∙ ap (λ is. row_terms terms ++ terms_of is) (sym (between_none items i to h)) ∙ g.whole
+    gathering_all h = sym (append-nil (row_terms terms)) ∙ ap (λ is. row_terms terms ++ terms_of is) (sym (drop_of_length-le items h)) ∙ g.whole
 
     -- at an item
-    module _ (h : i < to) where
+    module _ (h : i < length items) (none : Item) where
       abbrev here : Option values.Term
-      here = term_in (content_of (part (item_at items i)))
+      here = term_in (content_of (part (get_or items i none)))
 
       split : left i ≡ option_to_list here ++ left (i + 1)
-      split = ap terms_of (between_here items i to h) ∙ terms_cons (item_at items i) (items_between items (i + 1) to)
+      split = rw add-one (ap terms_of (drop-cons items i none h) ∙ terms_cons (get_or items i none) (drop (suc i) items))
 
       smalls : IfSome here (Small most_rows) × Each (Small most_rows) (left (i + 1))
       smalls = both_small here (left (i + 1)) (subst (λ ts. Each (Small most_rows) ts) split g.small)

@@ -1,19 +1,17 @@
 // The values of a text's declarations: what each value starts from and its terms are gathered from the items, then resolved.
 #![tactic(auto)]
 
-ghost use Rattle.std.specs.Prelude.{◌≡◌, List, suc, ◌<◌, length, get_or, take, IfSome};
+ghost use Rattle.std.specs.Prelude.{◌≡◌, ◌+◌, ◌<◌, length, get_or, IfSome};
 ghost use Rattle.names.specs.Parts.{part};
-ghost use Rattle.names.specs.Inner.{items_in};
 ghost use Rattle.limits.specs.Limits.{most_rows};
 ghost use Rattle.values.specs.Rows.{meant, row_terms, row_own, Resolved};
 ghost use Rattle.program.specs.Program.{terms_of, form_of, unnamed, declaration_of, program_of};
-ghost use Rattle.program.specs.Meaning.{own_of, own};
+ghost use Rattle.program.specs.Meaning.{declaration_at, own_of, own};
 ghost use Rattle.valuation.specs.Inner.{Ready, content_of, content_at, range_by, origin_by, has_terms, term_in, Measurable, Small, Holdable, Gatherable, Gathered};
-ghost use Rattle.names.specs.Inner.{items_between};
 
 use cents::Interval;
 use cents::measure::{measure_frequency, measure_ratio, measure_root};
-use grammar::{Item, items};
+use grammar::Item;
 use values::{Fault, Origin, ROWS, Range, Row, TERMS_PER_ROW, Term};
 
 // What an item has for the value of its declaration.
@@ -25,7 +23,6 @@ enum Content {
     Period,
     Tone(u32),
     Term(bool, u32, u32),
-    Nothing,
 }
 
 // A row before its declaration is put in.
@@ -35,66 +32,60 @@ const BLANK: Row = Row {
     terms: [None; TERMS_PER_ROW],
 };
 
-fn content_of(item: Item) -> Content
+fn content_of(item: Item) -> Option<Content>
     ensures { result ≡ content_of (part item) }
 {
     match item {
-        Item::Ratio(p, q) => Content::Ratio(p, q),
-        Item::Root(a, b) => Content::Root(a, b),
-        Item::Frequency(f) => Content::Frequency(f),
-        Item::AnchorKey(_) => Content::Period,
-        Item::Base(of) => Content::Tone(of),
-        Item::Add(factor, of) => Content::Term(false, factor, of),
-        Item::Subtract(factor, of) => Content::Term(true, factor, of),
-        _ => Content::Nothing,
+        Item::Ratio(p, q) => Some(Content::Ratio(p, q)),
+        Item::Root(a, b) => Some(Content::Root(a, b)),
+        Item::Frequency(f) => Some(Content::Frequency(f)),
+        Item::AnchorKey(_) => Some(Content::Period),
+        Item::Base(of) => Some(Content::Tone(of)),
+        Item::Add(factor, of) => Some(Content::Term(false, factor, of)),
+        Item::Subtract(factor, of) => Some(Content::Term(true, factor, of)),
+        _ => None,
     }
 }
 
-// The content of the first of the items from `from` to `to`.
-fn content_at(items: &[u32], from: usize, to: usize) -> Content
-    ensures { result ≡ content_at (items_between items.now from to) }
+// The content of the first of the items.
+fn content_at(items: &[Item]) -> Option<Content>
+    ensures { result ≡ content_at items.now }
 {
-    if to <= from {
-        return Content::Nothing;
-    }
-    content_of(items::item_at(items, from))
+    items.first().and_then(|item| content_of(*item))
 }
 
 // What the value of a declaration that begins with this content starts from.
-fn origin_of(content: Content) -> Origin
+fn origin_of(content: Option<Content>) -> Origin
     requires { Measurable content }
     ensures { meant result ≡ origin_by content }
 {
     match content {
-        Content::Ratio(p, q) => Origin::Interval(measure_ratio(p, q)),
-        Content::Root(a, b) => Origin::Interval(measure_root(a, b)),
-        Content::Frequency(f) => Origin::Pitch(measure_frequency(f)),
-        Content::Tone(of) => Origin::Base(of as usize),
+        Some(Content::Ratio(p, q)) => Origin::Interval(measure_ratio(p, q)),
+        Some(Content::Root(a, b)) => Origin::Interval(measure_root(a, b)),
+        Some(Content::Frequency(f)) => Origin::Pitch(measure_frequency(f)),
+        Some(Content::Tone(of)) => Origin::Base(of as usize),
         _ => Origin::Interval(Interval(0)),
     }
 }
 
 // Only a tone system's value, its period, has a range of its own.
-fn range_of(content: Content) -> Range
+fn range_of(content: Option<Content>) -> Range
     ensures { result ≡ range_by content }
 {
-    if let Content::Period = content {
-        Range::Period
-    } else {
-        Range::Tone
+    match content {
+        Some(Content::Period) => Range::Period,
+        _ => Range::Tone,
     }
 }
 
 // Whether the terms among the items are those of the value.
-fn has_terms(content: Content) -> bool
+fn has_terms(content: Option<Content>) -> bool
     ensures { result ≡ has_terms content }
 {
-    match content {
-        Content::Period => true,
-        Content::Tone(_) => true,
-        Content::Term(_, _, _) => true,
-        _ => false,
-    }
+    matches!(
+        content,
+        Some(Content::Period | Content::Tone(_) | Content::Term(_, _, _))
+    )
 }
 
 // The term that an item is, if it is one.
@@ -102,7 +93,7 @@ fn term_of(item: Item) -> Option<Term>
     requires { IfSome (term_in (content_of (part item))) (Small most_rows) }
     ensures { result ≡ term_in (content_of (part item)) }
 {
-    let Content::Term(minus, factor, of) = content_of(item) else {
+    let Some(Content::Term(minus, factor, of)) = content_of(item) else {
         return None;
     };
     Some(Term {
@@ -112,15 +103,15 @@ fn term_of(item: Item) -> Option<Term>
     })
 }
 
-// The terms among the items from `from` to `to`, one after the other in the places of a row.
-fn gather_terms(items: &[u32], from: usize, to: usize) -> [Option<Term>; TERMS_PER_ROW]
-    requires { Holdable (terms_of (items_between items.now from to)) }
-    ensures { row_terms result ≡ terms_of (items_between items.now from to) }
+// The terms among the items, one after the other in the places of a row.
+fn gather_terms(items: &[Item]) -> [Option<Term>; TERMS_PER_ROW]
+    requires { Holdable (terms_of items.now) }
+    ensures { row_terms result ≡ terms_of items.now }
 {
     let mut terms = [None; TERMS_PER_ROW];
     let mut next = 0;
-    for i in from..to {
-        let Some(term) = term_of(items::item_at(items, i)) else {
+    for item in items {
+        let Some(term) = term_of(*item) else {
             continue;
         };
         terms[next] = Some(term);
@@ -129,26 +120,25 @@ fn gather_terms(items: &[u32], from: usize, to: usize) -> [Option<Term>; TERMS_P
     terms
 }
 
-// Where the parts of a declaration begin whose items stand from `from` to `to`: after the names of its placeholders.
-pub fn skip_names(items: &[u32], from: usize, to: usize) -> usize
-    ensures { items_between items.now result to ≡ unnamed (items_between items.now from to) }
+// The parts of a declaration: its items after the names of its placeholders.
+pub fn skip_names(items: &[Item]) -> &[Item]
+    ensures { result.now ≡ unnamed items.now }
 {
-    for i in from..to {
-        let Item::Placeholder(_) = items::item_at(items, i) else {
-            return i;
-        };
-    }
-    to
+    let names = items
+        .iter()
+        .take_while(|item| matches!(item, Item::Placeholder(_)))
+        .count();
+    &items[names..]
 }
 
-// The row of the declaration whose parts stand from `from` to `to`.
-fn gather_parts(items: &[u32], from: usize, to: usize) -> Row
-    requires { Gatherable (items_between items.now from to) }
-    ensures { row_own result ≡ own_of (form_of (items_between items.now from to)) }
+// The row of the declaration that has these parts.
+fn gather_parts(items: &[Item]) -> Row
+    requires { Gatherable items.now }
+    ensures { row_own result ≡ own_of (form_of items.now) }
 {
-    let content = content_at(items, from, to);
+    let content = content_at(items);
     let terms = if has_terms(content) {
-        gather_terms(items, from, to)
+        gather_terms(items)
     } else {
         [None; TERMS_PER_ROW]
     };
@@ -159,61 +149,48 @@ fn gather_parts(items: &[u32], from: usize, to: usize) -> Row
     }
 }
 
-// The row of the declaration whose items stand from `from` to `to`.
-fn gather_declaration(items: &[u32], from: usize, to: usize) -> Row
-    requires { Gatherable (unnamed (items_between items.now from to)) }
-    ensures { row_own result ≡ own_of (declaration_of (items_between items.now from to)) }
+// Where the items of declaration `d` end, of so many items.
+fn end_of(starts: &[u32], count: usize, d: usize) -> usize
+    requires { d < length starts.now }
+    ensures { result ≡ get_or starts.now (d + 1) count }
 {
-    let parts = skip_names(items, from, to);
-    gather_parts(items, parts, to)
+    match starts.get(d + 1) {
+        Some(next) => *next as usize,
+        None => count,
+    }
 }
 
-// Where the items of declaration `d` end.
-pub fn end_of(starts: &[u32], n: usize, count: usize, d: usize) -> usize
-    requires { d < n }
-    ensures { result ≡ get_or (take n starts.now) (suc d) count }
+// The items of declaration `d`, after its name.
+pub fn body_at<'a>(items: &'a [Item], starts: &[u32], d: usize) -> &'a [Item]
+    requires ready { Ready items.now starts.now }
+    requires d_in_bounds { d < length starts.now }
+    ensures { declaration_of result.now ≡ declaration_at (program_of items.now) d }
 {
-    let next = d + 1;
-    if n <= next {
-        return count;
-    }
-    if starts.len() <= next {
-        return count;
-    }
-    starts[next] as usize
+    let from = starts[d] as usize + 1;
+    let to = end_of(starts, items.len(), d);
+    &items[from..to]
 }
 
 // Puts each declaration into its row.
-fn gather_all(items: &[u32], count: usize, starts: &[u32], rows: &mut [Row])
-    ghost is: { List Item }
-    requires value { items_in count items.now ≡ is }
-    requires ready { Ready is items.now count starts.now (length rows.old) }
-    ensures { Gathered (program_of is) rows.new }
+fn gather_all(items: &[Item], starts: &[u32], rows: &mut [Row])
+    requires ready { Ready items.now starts.now }
+    requires rows_len { length rows.old ≡ length starts.now }
+    ensures { Gathered (program_of items.now) rows.new }
 {
-    let n = rows.len();
-    for d in 0..n {
-        let from = starts[d] as usize + 1;
-        let to = end_of(starts, n, count, d);
-        rows[d] = gather_declaration(items, from, to);
+    for d in 0..starts.len() {
+        let parts = skip_names(body_at(items, starts, d));
+        rows[d] = gather_parts(parts);
     }
 }
 
 // What becomes of the declarations; where all is well, `values` has their values.
-pub fn value_declarations(
-    items: &[u32],
-    count: usize,
-    starts: &[u32],
-    n: usize,
-    values: &mut [i64],
-) -> Result<(), Fault>
-    ghost is: { List Item }
-    requires value { items_in count items.now ≡ is }
-    requires ready { Ready is items.now count starts.now n }
+pub fn value_declarations(items: &[Item], starts: &[u32], values: &mut [i64]) -> Result<(), Fault>
+    requires ready { Ready items.now starts.now }
     requires values_len { length values.old ≡ most_rows }
-    ensures { Resolved (own (program_of is)) n result values.new }
+    ensures { Resolved (own (program_of items.now)) (length starts.now) result values.new }
 {
     let mut rows = [BLANK; ROWS];
-    let rows = &mut rows[..n];
-    gather_all(items, count, starts, rows);
+    let rows = &mut rows[..starts.len()];
+    gather_all(items, starts, rows);
     values::resolve(rows, values)
 }

@@ -5,4 +5,4 @@ use Rattle.valuation.proofs.Tables.{Filled}
 use Rattle.valuation.proofs.gather_all.Given as goal
 
 abbrev pub invariant-loop-d : goal.invariant-loop-d
-invariant-loop-d g l = Filled (program_of g.is) l.d l.rows
+invariant-loop-d l = Filled (program_of l.items) l.d l.rows

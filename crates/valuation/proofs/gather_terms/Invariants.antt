@@ -3,5 +3,5 @@
 use Rattle.valuation.proofs.Terms.{Gathering}
 use Rattle.valuation.proofs.gather_terms.Given as goal
 
-abbrev pub invariant-loop-i : goal.invariant-loop-i
-invariant-loop-i l = Gathering l.items l.from l.to l.terms l.next l.i
+abbrev pub invariant-loop-item : goal.invariant-loop-item
+invariant-loop-item l = Gathering l.items l.terms l.next l.item-index

@@ -1,19 +1,24 @@
--- The invariant: so far there are names alone, so what is left after them is what is left from the present item on. The measure is the items that are left.
+-- The chain counts the names that the items begin with.
 -- Assumes nothing.
-use mathlib.Core.Path.{refl, ◌∙◌}
-use Rattle.valuation.proofs.Names.{name_passed, parts_begin_else, no_parts}
+use Prim.Native.Nat.{◌-◌}
+use mathlib.Core.Path.{◌≡◌, ◌∙◌, ap}
+use native.Mathlib.Nat.{le_refl}
+use lib.ListN.{length, drop, length-drop}
+use lib.Seq.{take_all}
+use Rattle.std.specs.List.{prefix_len}
+use Rattle.std.proofs.Common.{rules, tests}
+use Rattle.std.proofs.lemmas.Iterator.{YieldsList-from_slice}
+use Rattle.std.proofs.lemmas.Iterator.Consumers.{count_from_yields_List}
+use Rattle.std.proofs.lemmas.Iterator.Search.{YieldsList-from_take_while}
+use Rattle.std.proofs.lemmas.List.Folds.{length-prefix_len}
+use Rattle.valuation.proofs.Names.{is_name, names_dropped}
 use Rattle.valuation.proofs.skip_names.Goals as goal
 
-pub loop-i-init : goal.loop-i-init
-loop-i-init c = refl
-
-pub returns-in_default : goal.returns-in_default
-returns-in_default c = parts_begin_else _ _ _ c.item_at.ensures c.loop-i-test.true c.in_default.not-Placeholder ∙ c.loop-i.invariant
-
-pub loop-i-preserved : goal.loop-i-preserved
-loop-i-preserved c =
-    name_passed _ _ _ c.item_at.ensures c.loop-i-test.true c.in-Placeholder.is
-    ∙ c.loop-i.invariant
-
 pub returns : goal.returns
-returns c = no_parts _ _ _ c.loop-i-test.false ∙ c.loop-i.invariant
+returns c =
+    let items = c.args.items.now in
+    let n : c.count-names.result ≡ prefix_len is_name items =
+    count_from_yields_List c.take_while.result _ c.count-names.ensures.ran (YieldsList-from_take_while _ is_name (YieldsList-from_slice items (cc)) c.take_while.ensures.closure c.take_while.ensures.done (λ x b q k. search (rules, tests)))
+    ∙ length-prefix_len is_name items in
+    take_all (length items - c.count-names.result) (drop c.count-names.result items) (rw length-drop (le_refl (length items - c.count-names.result)))
+    ∙ ap (λ k. drop k items) n ∙ names_dropped items
