@@ -23,7 +23,6 @@ use limits::MOST_DECLARATIONS;
 use names::resolve_names;
 use placeholders::settle;
 use status::{DEPENDS_ON_ITSELF, DONE, TEXT_TOO_LONG, VALUE_OUT_OF_RANGE};
-use tables::clear::{clear_codes, clear_numbers};
 use tables::{ROWS, has_full_size};
 use valuation::value_declarations;
 use values::Outcome;
@@ -45,8 +44,8 @@ pub struct TextReading {
 fn clear_tables(numbers: &mut [i32], codes: &mut [u16])
     ensures { Cleared (tables_in numbers.old codes.old) (tables_in numbers.new codes.new) }
 {
-    clear_numbers(numbers);
-    clear_codes(codes);
+    numbers.fill(0);
+    codes.fill(0);
 }
 
 // The place of the name of declaration `d`.

@@ -12,7 +12,7 @@ returns c = let ns = c.args.numbers.now in
     let cs = c.args.codes.now in
     record {
       zeros =
-          ap (λ (l : List ℤ). tables_in l c.clear_codes.new.table) c.clear_numbers.ensures
-          ∙ ap (tables_in (replicate (length ns) (pos 0))) c.clear_codes.ensures
+          ap (λ (l : List ℤ). tables_in l c.fill-2.new.self) c.fill.ensures
+          ∙ ap (tables_in (replicate (length ns) (pos 0))) c.fill-2.ensures
           ∙ cleared ns cs;
     }
