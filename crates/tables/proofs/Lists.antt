@@ -82,9 +82,8 @@ module _ {A : Type 0} (f : ℕ → ℤ → A) (nought : A) (size : ℕ) (ks : Li
   pub filled_next : (i : ℕ) → i < size → i < length ks → i < length zs → set (filled i) i (f (get_or ks i 0) (get_or zs i (pos 0))) ≡ filled (i + 1)
   filled_next i b k m =
       let l = joined f (take i ks) (take i zs) in
-      let x = f (get_or ks i 0) (get_or zs i (pos 0)) in
       let n : length l ≡ i = part_length f ks zs 0 i (omega arith) (omega arith) ∙ omega arith in
-      full_next nought size l (x ∷ []) i n (omega arith) ∙ ap (full nought size) (sym (part_next f ks zs 0 i (omega arith) k m))
+      full_next nought size l (f (get_or ks i 0) (get_or zs i (pos 0)) ∷ []) i n (omega arith) ∙ ap (full nought size) (sym (part_next f ks zs 0 i (omega arith) k m))
 
   pub filled_all : (n : ℕ) → n ≡ length ks → n ≡ length zs → filled n ≡ full nought size (joined f ks zs)
   filled_all n d e = rw (d, take-length ks, sym d ∙ e, take-length zs)

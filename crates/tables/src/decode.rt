@@ -1,8 +1,8 @@
 // Numbers of the tables as a row, a tone, a change, a tone system's state and a retuning's positions. What stands past a table's end is read as zero.
-ghost use Rattle.std.specs.Prelude.{◌≡◌, ◌+◌, ◌*◌, ◌≤◌, pos, length, get_or};
+ghost use Rattle.std.specs.Prelude.{◌≡◌, ◌+◌, ◌*◌, ◌≤◌, ℕ, ℤ, pos, length, get_or};
 ghost use Rattle.integers.specs.Parts.{up};
 ghost use Rattle.tuning.specs.State.{coded, places};
-ghost use Rattle.tables.specs.Layout.{half_set, amount_of, period_of, row_of, read_at, tone_of, change_of, joined, joined_from};
+ghost use Rattle.tables.specs.Layout.{half_set, amount_of, period_of, row_of, read_at, tone_of, change_of, joined, joined_from, full};
 ghost use Rattle.tables.specs.Values.{system, listed, FieldsFit, Part};
 
 use crate::{
@@ -152,19 +152,33 @@ fn change_of(code: u16, z: i32) -> ToneChange
     }
 }
 
+// What kinds and numbers stand for, at the start of an array; its other places are unused.
+fn places_of<T: Copy, F: Fn(u16, i32) -> T>(
+    kinds: &[u16],
+    numbers: &[i32],
+    unused: T,
+    read: F,
+) -> [T; PLACES]
+    requires lengths { (length kinds.now ≡ length numbers.now) × (length kinds.now ≤ places) }
+    requires callable { F.IsAlwaysCallable read }
+    ensures { (f : ℕ → ℤ → T) → ((k : ℕ) (z : ℤ) (x : T) → F.post read k z x → x ≡ f k z) → result ≡ full unused places (joined f kinds.now numbers.now) }
+{
+    let mut all = [unused; PLACES];
+    for (i, kind) in kinds.iter().enumerate() {
+        all[i] = read(*kind, numbers[i]);
+    }
+    all
+}
+
 // The state of a tone system with these tones.
 pub fn system_of(anchor: KeyNumber, period: Interval, sounding: &[u16], tones: &[i32]) -> State
     requires { (length sounding.now ≡ length tones.now) × (length tones.now ≤ places) }
     ensures { result ≡ coded (system anchor.0 (joined tone_of sounding.now tones.now) period.0) }
 {
-    let mut positions = [Tone::Muted; PLACES];
-    for (i, code) in sounding.iter().enumerate() {
-        positions[i] = tone_of(*code, tones[i]);
-    }
     State {
         anchor,
         width: tones.len() as u8,
-        tones: positions,
+        tones: places_of(sounding, tones, Tone::Muted, tone_of),
         period,
     }
 }
@@ -174,13 +188,9 @@ pub fn changes_of(kinds: &[u16], changes: &[i32]) -> ToneChanges
     requires { (length kinds.now ≡ length changes.now) × (length changes.now ≤ places) }
     ensures { result ≡ listed (joined change_of kinds.now changes.now) }
 {
-    let mut positions = [ToneChange::Mute; PLACES];
-    for (i, code) in kinds.iter().enumerate() {
-        positions[i] = change_of(*code, changes[i]);
-    }
     ToneChanges {
         count: changes.len() as u8,
-        positions,
+        positions: places_of(kinds, changes, ToneChange::Mute, change_of),
     }
 }
 
