@@ -31,6 +31,19 @@ same_node n m e = sym (node_back n) ∙ ap node_at e ∙ node_back m
 pub same_terminal_holds : (t u : Terminal) → same_terminal t u ≡ true → t ≡ u
 same_terminal_holds t u e = sym (terminal_back t) ∙ ap terminal_at (eqb-true (terminal_number t) (terminal_number u) e) ∙ terminal_back u
 
+pub terminal_below : (t : Terminal) → terminal_number t < terminal_count
+terminal_below t = ltb→lt _ _ (subst (λ (u : Terminal). T (small u)) (terminal_back t) (read_of small terminals nothing tt tt (terminal_number t)))
+  where
+    small : Terminal → Bool
+    small u = ltb (terminal_number u) terminal_count
+
+pub not_nothing : (t : Terminal) → (t ≡ nothing → ⊥) → is_nothing t ≡ false
+not_nothing t n = go (is_nothing t) refl
+  where
+    go : (b : Bool) → is_nothing t ≡ b → b ≡ false
+    go true e = absurd (n (same_terminal_holds t nothing e))
+    go false e = refl
+
 -- a test that passes at each of the nodes
 pub at_each : (f : Node → Bool) → T (each f nodes) → T (f Finish) → (n : Node) → T (f n)
 at_each f h k n = subst (λ (q : Node). T (f q)) (node_back n) (read_of f nodes Finish h k (node_number n))
@@ -100,11 +113,6 @@ end_at_finish n t {r} e f = go (same_terminal r.symbol end) refl
 pub past_nodes : (k t : ℕ) → node_count ≤ k → None ≡ move_of k t
 unfolding move_of picked rules
 past_nodes k t h = ap (λ (q : Node). move_by (picked (rules q) (terminal_at t))) (sym (get_or-eq_default nodes Finish h))
-
-pub past_terminals : (k t : ℕ) → terminal_count ≤ t → None ≡ move_of k t
-unfolding move_of
-past_terminals k t h =
-    ap move_by (sym (none_at_nothing (node_at k))) ∙ ap (λ (u : Terminal). move_by (picked (rules (node_at k)) u)) (sym (get_or-eq_default terminals nothing h))
 
 -- no rule leads to the first node
 leaves : Rule → Bool

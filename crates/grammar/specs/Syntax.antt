@@ -10,14 +10,10 @@ use Rattle.grammar.specs.declared.Form.TheVariants.{AnchorTo, AnchorUp, AnchorDo
 use Rattle.grammar.specs.declared.NumberUse.TheVariants.{RatioFirst, RatioSecond, Degree, Radicand, FirstFactor, Factor, Frequency, AnchorKey, Amount, Key, StarredKey, Argument}
 use Rattle.grammar.specs.declared.NameUse.TheVariants.{Term, Base, Position, Start as CalledAtStart, Order, Trigger, CountedTrigger, Placeholder, Amount as NamedAmount}
 use Rattle.grammar.specs.declared.MarkUse.TheVariants.{MutedPosition, KeptPosition, KeptAnchor, KeptWidth, Period, Onward, Star}
-
 -- the kinds of symbols that the syntax tells apart: reserved words, a one-letter name, any other name, numbers, marks, the text's end.
 -- `unused` are the reserved words of no use here, `nothing` is a place where no symbol begins.
-pub data Terminal : Type 0 where
-  interval tone tonesystem retuning logic key root harmony unused : Terminal
-  letter name number : Terminal
-  equals colon plus minus times divide opening closing comma at brace_open brace_close bracket_open bracket_close width_open width_close arrow : Terminal
-  end nothing : Terminal
+pub use Rattle.grammar.specs.declared.terminals.Terminal.{Terminal}
+pub use Rattle.grammar.specs.declared.terminals.Terminal.TheVariants.{Interval as interval, Tone as tone, ToneSystem as tonesystem, Retuning as retuning, Logic as logic, Key as key, Root as root, Harmony as harmony, Unused as unused, Letter as letter, Name as name, Number as number, Equals as equals, Colon as colon, Plus as plus, Minus as minus, Times as times, Divide as divide, Opening as opening, Closing as closing, Comma as comma, At as at, BraceOpen as brace_open, BraceClose as brace_close, BracketOpen as bracket_open, BracketClose as bracket_close, WidthOpen as width_open, WidthClose as width_close, Arrow as arrow, End as end, Nothing as nothing}
 
 -- the nodes of the diagrams, each named by what comes next: `IntervalKind` by the symbol that tells which kind of interval it is, `IntervalNext` by the next
 -- declaration or block. `Begin` is where a text begins, `Finish` where it is read whole.

@@ -1,12 +1,14 @@
 // The moves of the syntax diagrams.
 ghost use Rattle.std.specs.Prelude.{◌≡◌, get_or};
-ghost use Rattle.grammar.specs.Moves.{kinds, number_uses, name_uses, mark_uses, plain_actions, action_at, move_of, Moves};
+ghost use Rattle.grammar.specs.Terminals.{terminal_number};
+ghost use Rattle.grammar.specs.Moves.{action_at, move_of, Moves};
 
+use crate::terminals::Terminal;
 use crate::{Action, Form, Kind, MarkUse, NameUse, NumberUse};
 
 const NODES: u8 = 83;
 
-const TERMINALS: u8 = 31;
+const TERMINALS: usize = 31;
 
 // So many numbers for each class of actions.
 const CLASS_SIZE: u8 = 32;
@@ -185,17 +187,14 @@ pub const ACTIONS: [u8; 2573] = *b"\
     \x00\x00\x00\x00\x00\x00\x00\x00\x00\x00\x00\x00\x00\x00\x00\x00\x00\x00\x00\x00\x00\x00\x00\x00\x00\x00\x00\x00\x00\x00\x00";
 
 // What is done at a node on a terminal, and then the next node, by the tables `NEXT` and `ACTIONS`.
-pub fn move_at(next: &[u8], acts: &[u8], node: u8, terminal: u8) -> Option<(Action, u8)>
+pub fn move_at(next: &[u8], acts: &[u8], node: u8, terminal: Terminal) -> Option<(Action, u8)>
     requires { Moves next.now acts.now }
-    ensures { result ≡ move_of node terminal }
+    ensures { result ≡ move_of node (terminal_number terminal) }
 {
     if NODES <= node {
         return None;
     }
-    if TERMINALS <= terminal {
-        return None;
-    }
-    let place = node as usize * TERMINALS as usize + terminal as usize;
+    let place = node as usize * TERMINALS + terminal.number();
     let then = next[place];
     if then == 0 {
         return None;
@@ -203,94 +202,80 @@ pub fn move_at(next: &[u8], acts: &[u8], node: u8, terminal: u8) -> Option<(Acti
     Some((action_at(acts[place]), then))
 }
 
-fn kind_at(index: u8) -> Kind
-    ensures { result ≡ get_or kinds index Kind.Interval }
-{
-    match index {
-        1 => Kind::Tone,
-        2 => Kind::System,
-        3 => Kind::Retuning,
-        4 => Kind::Logic,
-        5 => Kind::Order,
-        6 => Kind::Harmony,
-        _ => Kind::Interval,
-    }
-}
+static KINDS: [Kind; 7] = [
+    Kind::Interval,
+    Kind::Tone,
+    Kind::System,
+    Kind::Retuning,
+    Kind::Logic,
+    Kind::Order,
+    Kind::Harmony,
+];
 
-fn number_use_at(index: u8) -> NumberUse
-    ensures { result ≡ get_or number_uses index NumberUse.RatioFirst }
-{
-    match index {
-        1 => NumberUse::RatioSecond,
-        2 => NumberUse::Degree,
-        3 => NumberUse::Radicand,
-        4 => NumberUse::FirstFactor,
-        5 => NumberUse::Factor,
-        6 => NumberUse::Frequency,
-        7 => NumberUse::AnchorKey,
-        8 => NumberUse::Amount(Form::AnchorTo),
-        9 => NumberUse::Amount(Form::AnchorUp),
-        10 => NumberUse::Amount(Form::AnchorDown),
-        11 => NumberUse::Amount(Form::WidthTo),
-        12 => NumberUse::Amount(Form::WidthUp),
-        13 => NumberUse::Amount(Form::WidthDown),
-        14 => NumberUse::Amount(Form::WidthTimes),
-        15 => NumberUse::Amount(Form::WidthOver),
-        16 => NumberUse::Key,
-        17 => NumberUse::StarredKey,
-        18 => NumberUse::Argument,
-        _ => NumberUse::RatioFirst,
-    }
-}
+static NUMBER_USES: [NumberUse; 19] = [
+    NumberUse::RatioFirst,
+    NumberUse::RatioSecond,
+    NumberUse::Degree,
+    NumberUse::Radicand,
+    NumberUse::FirstFactor,
+    NumberUse::Factor,
+    NumberUse::Frequency,
+    NumberUse::AnchorKey,
+    NumberUse::Amount(Form::AnchorTo),
+    NumberUse::Amount(Form::AnchorUp),
+    NumberUse::Amount(Form::AnchorDown),
+    NumberUse::Amount(Form::WidthTo),
+    NumberUse::Amount(Form::WidthUp),
+    NumberUse::Amount(Form::WidthDown),
+    NumberUse::Amount(Form::WidthTimes),
+    NumberUse::Amount(Form::WidthOver),
+    NumberUse::Key,
+    NumberUse::StarredKey,
+    NumberUse::Argument,
+];
 
-fn name_use_at(index: u8) -> NameUse
-    ensures { result ≡ get_or name_uses index NameUse.Term }
-{
-    match index {
-        1 => NameUse::Base,
-        2 => NameUse::Position,
-        3 => NameUse::Start,
-        4 => NameUse::Order,
-        5 => NameUse::Trigger,
-        6 => NameUse::CountedTrigger,
-        7 => NameUse::Placeholder,
-        8 => NameUse::Amount(Form::AnchorTo),
-        9 => NameUse::Amount(Form::AnchorUp),
-        10 => NameUse::Amount(Form::AnchorDown),
-        11 => NameUse::Amount(Form::WidthTo),
-        12 => NameUse::Amount(Form::WidthUp),
-        13 => NameUse::Amount(Form::WidthDown),
-        14 => NameUse::Amount(Form::WidthTimes),
-        15 => NameUse::Amount(Form::WidthOver),
-        _ => NameUse::Term,
-    }
-}
+static NAME_USES: [NameUse; 16] = [
+    NameUse::Term,
+    NameUse::Base,
+    NameUse::Position,
+    NameUse::Start,
+    NameUse::Order,
+    NameUse::Trigger,
+    NameUse::CountedTrigger,
+    NameUse::Placeholder,
+    NameUse::Amount(Form::AnchorTo),
+    NameUse::Amount(Form::AnchorUp),
+    NameUse::Amount(Form::AnchorDown),
+    NameUse::Amount(Form::WidthTo),
+    NameUse::Amount(Form::WidthUp),
+    NameUse::Amount(Form::WidthDown),
+    NameUse::Amount(Form::WidthTimes),
+    NameUse::Amount(Form::WidthOver),
+];
 
-fn mark_use_at(index: u8) -> MarkUse
-    ensures { result ≡ get_or mark_uses index MarkUse.MutedPosition }
-{
-    match index {
-        1 => MarkUse::KeptPosition,
-        2 => MarkUse::KeptAnchor,
-        3 => MarkUse::KeptWidth,
-        4 => MarkUse::Period,
-        5 => MarkUse::Onward,
-        6 => MarkUse::Star,
-        _ => MarkUse::MutedPosition,
-    }
-}
+static MARK_USES: [MarkUse; 7] = [
+    MarkUse::MutedPosition,
+    MarkUse::KeptPosition,
+    MarkUse::KeptAnchor,
+    MarkUse::KeptWidth,
+    MarkUse::Period,
+    MarkUse::Onward,
+    MarkUse::Star,
+];
 
-fn plain_action_at(index: u8) -> Action
-    ensures { result ≡ get_or plain_actions index Action.Pass }
+static PLAIN_ACTIONS: [Action; 6] = [
+    Action::Pass,
+    Action::Hold,
+    Action::CountOrder,
+    Action::Sign(false),
+    Action::Sign(true),
+    Action::Letter,
+];
+
+fn entry<T: Copy + Drop>(list: &[T], index: u8, default: T) -> T
+    ensures { result ≡ get_or list.now index default }
 {
-    match index {
-        1 => Action::Hold,
-        2 => Action::CountOrder,
-        3 => Action::Sign(false),
-        4 => Action::Sign(true),
-        5 => Action::Letter,
-        _ => Action::Pass,
-    }
+    list.get(index as usize).copied().unwrap_or(default)
 }
 
 // An action by its number: 32 for each class, and its place there.
@@ -299,11 +284,11 @@ pub fn action_at(number: u8) -> Action
 {
     let index = number % CLASS_SIZE;
     match number / CLASS_SIZE {
-        1 => Action::Declare(kind_at(index)),
-        2 => Action::Held(number_use_at(index)),
-        3 => Action::Number(number_use_at(index)),
-        4 => Action::Name(name_use_at(index)),
-        5 => Action::Mark(mark_use_at(index)),
-        _ => plain_action_at(index),
+        1 => Action::Declare(entry(&KINDS, index, Kind::Interval)),
+        2 => Action::Held(entry(&NUMBER_USES, index, NumberUse::RatioFirst)),
+        3 => Action::Number(entry(&NUMBER_USES, index, NumberUse::RatioFirst)),
+        4 => Action::Name(entry(&NAME_USES, index, NameUse::Term)),
+        5 => Action::Mark(entry(&MARK_USES, index, MarkUse::MutedPosition)),
+        _ => entry(&PLAIN_ACTIONS, index, Action::Pass),
     }
 }

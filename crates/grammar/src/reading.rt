@@ -1,16 +1,14 @@
 // Reading a text: its symbols one by one, each a step of the syntax diagrams, into items.
-ghost use Rattle.std.specs.Prelude.{◌≡◌, cond, ◌≤◌, ◌<◌, ◌^◌, eqb, length};
+ghost use Rattle.std.specs.Prelude.{◌≡◌, cond, ◌≤◌, ◌<◌, ◌^◌, length};
 ghost use Rattle.std.proofs.Math.Seq.{slice};
 ghost use Rattle.status.specs.declared.Reason.TheVariants.{NoSymbol, SymbolNotAllowed};
-ghost use Rattle.grammar.specs.Syntax.{nothing};
-ghost use Rattle.grammar.specs.Terminals.{terminal_number, of_name, terminal_of, start_of, end_of, span_of};
+ghost use Rattle.grammar.specs.Terminals.{is_nothing, of_name, terminal_of, start_of, end_of, span_of};
 ghost use Rattle.grammar.specs.Reading.{begun, most_bytes, read_items, Answered};
 ghost use Rattle.grammar.specs.Moves.{Moves};
 ghost use Rattle.grammar.specs.Items.{holding, most_items};
 
-use crate::{
-    Counts, FirstNumber, Item, NextTerm, Progress, Span, actions, moves, terminals,
-};
+use crate::terminals::Terminal;
+use crate::{Counts, FirstNumber, Item, NextTerm, Progress, Span, actions, moves};
 use limits::MOST_BYTES;
 use status::{Reason, Refusal};
 use symbols::{Symbol, spelling, words};
@@ -20,24 +18,24 @@ const BEGIN: u8 = 0;
 
 const FINISH: u8 = 1;
 
-fn terminal_of_name(text: &[u8], start: usize, end: usize) -> u8
-    ensures { result ≡ terminal_number (of_name (slice start end text.now)) }
+fn terminal_of_name(text: &[u8], start: usize, end: usize) -> Terminal
+    ensures { result ≡ of_name (slice start end text.now) }
 {
     if spelling::letter_at(text, start, end).is_some() {
-        return terminals::LETTER;
+        return Terminal::Letter;
     }
-    terminals::of_word(words::word_at(text, start, end))
+    Terminal::from(words::word_at(text, start, end))
 }
 
-fn terminal_of(text: &[u8], symbol: Symbol) -> u8
-    ensures { result ≡ terminal_number (terminal_of text.now symbol) }
+fn terminal_of(text: &[u8], symbol: Symbol) -> Terminal
+    ensures { result ≡ terminal_of text.now symbol }
 {
     match symbol {
         Symbol::Name { start, end } => terminal_of_name(text, start, end),
-        Symbol::Number { .. } => terminals::NUMBER,
-        Symbol::Mark { kind, .. } => terminals::of_mark(kind),
-        Symbol::End(_) => terminals::END,
-        Symbol::Bad(_) => terminals::NOTHING,
+        Symbol::Number { .. } => Terminal::Number,
+        Symbol::Mark { kind, .. } => Terminal::from(kind),
+        Symbol::End(_) => Terminal::End,
+        Symbol::Bad(_) => Terminal::Nothing,
     }
 }
 
@@ -65,13 +63,13 @@ fn span_of(symbol: Symbol) -> Span
 }
 
 // Why a symbol that may not follow is refused, or a place where none begins.
-fn reason_of(terminal: u8) -> Reason
-    ensures { result ≡ cond (eqb terminal (terminal_number nothing)) NoSymbol SymbolNotAllowed }
+fn reason_of(terminal: Terminal) -> Reason
+    ensures { result ≡ cond (is_nothing terminal) NoSymbol SymbolNotAllowed }
 {
-    if terminal == terminals::NOTHING {
-        return Reason::NoSymbol;
+    match terminal {
+        Terminal::Nothing => Reason::NoSymbol,
+        _ => Reason::SymbolNotAllowed,
     }
-    Reason::SymbolNotAllowed
 }
 
 fn begin() -> Progress

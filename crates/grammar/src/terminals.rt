@@ -1,109 +1,99 @@
-// The terminals of the syntax by their numbers: the columns of the table of moves.
+// The terminals of the syntax.
 ghost use Rattle.std.specs.Prelude.{◌≡◌};
 ghost use Rattle.grammar.specs.Terminals.{terminal_number, of_word, of_mark};
 
 use symbols::MarkKind;
 use symbols::words::Word;
 
-const INTERVAL: u8 = 0;
+// The kinds of symbols that the syntax tells apart, in the order of the columns of the tables of moves.
+#[derive(Clone, Copy)]
+pub enum Terminal {
+    Interval,
+    Tone,
+    ToneSystem,
+    Retuning,
+    Logic,
+    Key,
+    Root,
+    Harmony,
+    // A reserved word of no use here.
+    Unused,
+    // A name of one letter, and any other.
+    Letter,
+    Name,
+    Number,
+    Equals,
+    Colon,
+    Plus,
+    Minus,
+    Times,
+    Divide,
+    Opening,
+    Closing,
+    Comma,
+    At,
+    BraceOpen,
+    BraceClose,
+    BracketOpen,
+    BracketClose,
+    WidthOpen,
+    WidthClose,
+    Arrow,
+    // The text's end, and a place where no symbol begins.
+    End,
+    Nothing,
+}
 
-const TONE: u8 = 1;
-
-const TONESYSTEM: u8 = 2;
-
-const RETUNING: u8 = 3;
-
-const LOGIC: u8 = 4;
-
-const KEY: u8 = 5;
-
-const ROOT: u8 = 6;
-
-const HARMONY: u8 = 7;
-
-const UNUSED: u8 = 8;
-
-pub const LETTER: u8 = 9;
-
-const NAME: u8 = 10;
-
-pub const NUMBER: u8 = 11;
-
-const EQUALS: u8 = 12;
-
-const COLON: u8 = 13;
-
-const PLUS: u8 = 14;
-
-const MINUS: u8 = 15;
-
-const TIMES: u8 = 16;
-
-const DIVIDE: u8 = 17;
-
-const OPENING: u8 = 18;
-
-const CLOSING: u8 = 19;
-
-const COMMA: u8 = 20;
-
-const AT: u8 = 21;
-
-const BRACE_OPEN: u8 = 22;
-
-const BRACE_CLOSE: u8 = 23;
-
-const BRACKET_OPEN: u8 = 24;
-
-const BRACKET_CLOSE: u8 = 25;
-
-const WIDTH_OPEN: u8 = 26;
-
-const WIDTH_CLOSE: u8 = 27;
-
-const ARROW: u8 = 28;
-
-pub const END: u8 = 29;
-
-pub const NOTHING: u8 = 30;
-
-pub fn of_word(word: Word) -> u8
-    ensures { result ≡ terminal_number (of_word word) }
-{
-    match word {
-        Word::Plain => NAME,
-        Word::Interval => INTERVAL,
-        Word::Tone => TONE,
-        Word::ToneSystem => TONESYSTEM,
-        Word::Retuning => RETUNING,
-        Word::Logic => LOGIC,
-        Word::Key => KEY,
-        Word::Root => ROOT,
-        Word::Harmony => HARMONY,
-        Word::Unused => UNUSED,
+impl Terminal {
+    // Its column in the tables of moves.
+    pub fn number(self) -> usize
+        ensures { result ≡ terminal_number self }
+    {
+        self as usize
     }
 }
 
-pub fn of_mark(kind: MarkKind) -> u8
-    ensures { result ≡ terminal_number (of_mark kind) }
-{
-    match kind {
-        MarkKind::Equals => EQUALS,
-        MarkKind::Colon => COLON,
-        MarkKind::Plus => PLUS,
-        MarkKind::Minus => MINUS,
-        MarkKind::Times => TIMES,
-        MarkKind::Divide => DIVIDE,
-        MarkKind::Open => OPENING,
-        MarkKind::Close => CLOSING,
-        MarkKind::Comma => COMMA,
-        MarkKind::At => AT,
-        MarkKind::BraceOpen => BRACE_OPEN,
-        MarkKind::BraceClose => BRACE_CLOSE,
-        MarkKind::BracketOpen => BRACKET_OPEN,
-        MarkKind::BracketClose => BRACKET_CLOSE,
-        MarkKind::WidthOpen => WIDTH_OPEN,
-        MarkKind::WidthClose => WIDTH_CLOSE,
-        MarkKind::Arrow => ARROW,
+impl From<Word> for Terminal {
+    ghost from_gives = { λ word t. t ≡ of_word word };
+
+    fn from(word: Word) -> Terminal {
+        match word {
+            Word::Plain => Terminal::Name,
+            Word::Interval => Terminal::Interval,
+            Word::Tone => Terminal::Tone,
+            Word::ToneSystem => Terminal::ToneSystem,
+            Word::Retuning => Terminal::Retuning,
+            Word::Logic => Terminal::Logic,
+            Word::Key => Terminal::Key,
+            Word::Root => Terminal::Root,
+            Word::Harmony => Terminal::Harmony,
+            Word::Unused => Terminal::Unused,
+        }
+    }
+}
+
+impl From<MarkKind> for Terminal {
+    ghost from_gives = { λ kind t. t ≡ of_mark kind };
+
+    fn from(kind: MarkKind) -> Terminal {
+        match kind {
+            MarkKind::Equals => Terminal::Equals,
+            MarkKind::Colon => Terminal::Colon,
+            MarkKind::Plus => Terminal::Plus,
+            MarkKind::Minus => Terminal::Minus,
+            MarkKind::Times => Terminal::Times,
+            MarkKind::Divide => Terminal::Divide,
+            MarkKind::Open => Terminal::Opening,
+            MarkKind::Close => Terminal::Closing,
+            MarkKind::Comma => Terminal::Comma,
+            MarkKind::At => Terminal::At,
+            MarkKind::BraceOpen => Terminal::BraceOpen,
+            MarkKind::BraceClose => Terminal::BraceClose,
+            MarkKind::BracketOpen => Terminal::BracketOpen,
+            MarkKind::BracketClose => Terminal::BracketClose,
+            MarkKind::WidthOpen => Terminal::WidthOpen,
+            MarkKind::WidthClose => Terminal::WidthClose,
+            MarkKind::Arrow => Terminal::Arrow,
+        }
     }
 }

@@ -1,8 +1,9 @@
 -- The invariant: the slice holds the items so far, and what is left to read gives the rest; or the text is complete.
 -- The measure is what is left of the text.
 -- Assumes nothing.
-use mathlib.Core.Path.{refl, ◌∙◌, sym}
+use mathlib.Core.Path.{refl, ◌∙◌, sym, ap}
 use native.Mathlib.Omega.{arith}
+use Rattle.grammar.specs.Terminals.{terminal_number}
 use Rattle.grammar.proofs.Turns.{walks_first, enough_room, fits, walk_unruled, walk_refused, handed_on, walks_on, walks_with}
 use Rattle.grammar.proofs.reading.read_symbols.Goals as goal
 
@@ -17,7 +18,7 @@ shape_of-items-in_default c = c.loop-node.invariant.same_size
 
 pub returns-in_default : goal.returns-in_default
 returns-in_default c =
-    let a = walk_unruled c.loop-node.invariant c.loop-node-test.true c.find_symbol-symbol.ensures c.terminal_of-terminal.ensures c.span_of-x.ensures (sym c.in_default.is ∙ c.move_at.ensures) c.reason_of.ensures in
+    let a = walk_unruled c.loop-node.invariant c.loop-node-test.true c.find_symbol-symbol.ensures (ap terminal_number c.terminal_of-terminal.ensures) c.span_of-x.ensures (sym c.in_default.is ∙ c.move_at.ensures) c.reason_of.ensures in
     record { answered = a.0; items = a.1 }
 
 pub act-requires : goal.act-requires
@@ -28,27 +29,27 @@ shape_of-items-in_err-more c = c.loop-node.invariant.same_size
 
 pub returns-in_err-more : goal.returns-in_err-more
 returns-in_err-more c =
-    let a = walk_refused c.loop-node.invariant c.loop-node-test.true c.find_symbol-symbol.ensures c.terminal_of-terminal.ensures c.span_of-x.ensures (sym c.in-Some.is ∙ c.move_at.ensures) c.act.ensures c.in_err-more.was in
+    let a = walk_refused c.loop-node.invariant c.loop-node-test.true c.find_symbol-symbol.ensures (ap terminal_number c.terminal_of-terminal.ensures) c.span_of-x.ensures (sym c.in-Some.is ∙ c.move_at.ensures) c.act.ensures c.in_err-more.was in
     record { answered = rw (handed_on _ c.from_residual.ensures.1) a.0; items = a.1 }
 
 pub loop-node-smaller : goal.loop-node-smaller
 loop-node-smaller c =
-    (walks_on c.loop-node.invariant c.loop-node-test.true c.find_symbol-symbol.ensures c.terminal_of-terminal.ensures c.span_of-x.ensures (sym c.in-Some.is ∙ c.move_at.ensures) c.act.ensures c.in_ok-more.was c.in_default-item.is).0
+    (walks_on c.loop-node.invariant c.loop-node-test.true c.find_symbol-symbol.ensures (ap terminal_number c.terminal_of-terminal.ensures) c.span_of-x.ensures (sym c.in-Some.is ∙ c.move_at.ensures) c.act.ensures c.in_ok-more.was c.in_default-item.is).0
 
 pub loop-node-preserved : goal.loop-node-preserved
 loop-node-preserved c =
-    (walks_on c.loop-node.invariant c.loop-node-test.true c.find_symbol-symbol.ensures c.terminal_of-terminal.ensures c.span_of-x.ensures (sym c.in-Some.is ∙ c.move_at.ensures) c.act.ensures c.in_ok-more.was c.in_default-item.is).1
+    (walks_on c.loop-node.invariant c.loop-node-test.true c.find_symbol-symbol.ensures (ap terminal_number c.terminal_of-terminal.ensures) c.span_of-x.ensures (sym c.in-Some.is ∙ c.move_at.ensures) c.act.ensures c.in_ok-more.was c.in_default-item.is).1
 
 pub overflow_add-count : goal.overflow_add-count
 overflow_add-count c = omega (arith, (enough_room c.loop-node.invariant c.loop-node-test.true).1)
 
 pub loop-node-smaller-in-Some-item : goal.loop-node-smaller-in-Some-item
 loop-node-smaller-in-Some-item c =
-    (walks_with c.loop-node.invariant c.loop-node-test.true c.find_symbol-symbol.ensures c.terminal_of-terminal.ensures c.span_of-x.ensures (sym c.in-Some.is ∙ c.move_at.ensures) c.act.ensures c.in_ok-more.was c.in-Some-item.is refl).0
+    (walks_with c.loop-node.invariant c.loop-node-test.true c.find_symbol-symbol.ensures (ap terminal_number c.terminal_of-terminal.ensures) c.span_of-x.ensures (sym c.in-Some.is ∙ c.move_at.ensures) c.act.ensures c.in_ok-more.was c.in-Some-item.is refl).0
 
 pub loop-node-preserved-in-Some-item : goal.loop-node-preserved-in-Some-item
 loop-node-preserved-in-Some-item c =
-    (walks_with c.loop-node.invariant c.loop-node-test.true c.find_symbol-symbol.ensures c.terminal_of-terminal.ensures c.span_of-x.ensures (sym c.in-Some.is ∙ c.move_at.ensures) c.act.ensures c.in_ok-more.was c.in-Some-item.is refl).1
+    (walks_with c.loop-node.invariant c.loop-node-test.true c.find_symbol-symbol.ensures (ap terminal_number c.terminal_of-terminal.ensures) c.span_of-x.ensures (sym c.in-Some.is ∙ c.move_at.ensures) c.act.ensures c.in_ok-more.was c.in-Some-item.is refl).1
 
 pub shape_of-items : goal.shape_of-items
 shape_of-items c = c.loop-node.invariant.same_size

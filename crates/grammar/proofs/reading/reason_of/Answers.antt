@@ -1,12 +1,10 @@
--- By the test of the terminal.
+-- By whether a symbol begins there.
 -- Assumes nothing.
-use borrow.Author.Tests.{eq-eqb, ne_eqb}
+use Rattle.grammar.proofs.Diagrams.{not_nothing}
 use Rattle.grammar.proofs.reading.reason_of.Goals as goal
 
-pub returns-then-terminal-eq-NOTHING : goal.returns-then-terminal-eq-NOTHING
-returns-then-terminal-eq-NOTHING c =
-    simp (eq-eqb _ _ c.if-terminal-eq-NOTHING.true)
+pub returns-in-Nothing : goal.returns-in-Nothing
+returns-in-Nothing c = rw c.in-Nothing.is
 
-pub returns : goal.returns
-returns c =
-    simp (ne_eqb _ _ c.if-terminal-eq-NOTHING.false)
+pub returns-in_default : goal.returns-in_default
+returns-in_default c = rw (not_nothing _ c.in_default.not-Nothing)

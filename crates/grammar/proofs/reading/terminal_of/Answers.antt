@@ -20,7 +20,7 @@ pub returns-in-Mark : goal.returns-in-Mark
 unfolding terminal_of
 returns-in-Mark c =
     simp (
-      ← c.of_mark.ensures,
+      ← c.from.ensures,
       c.in-Mark.is,
     )
 
