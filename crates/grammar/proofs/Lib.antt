@@ -1,4 +1,3 @@
-pub mod Arms
 pub mod Table
 pub mod Numbered
 pub mod ActionNumbers
