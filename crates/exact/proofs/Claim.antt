@@ -3,7 +3,7 @@
 use mathlib.Core.Path.{◌≡◌}
 use mathlib.Core.List.{List}
 use Prim.Native.Nat.{ℕ}
-use Rattle.values.specs.declared.Outcome.TheVariants.{Done}
+use Rattle.std.specs.Prelude.{Ok}
 use Rattle.tuning.specs.Tuning.{start}
 use Rattle.tuning.specs.Desk.{cents}
 use Rattle.tuning.specs.State.{held}
@@ -30,7 +30,7 @@ use Rattle.exact.proofs.Stream.{Kept, coded_kept, stream_kept}
 use Rattle.exact.proofs.Matched.{matches}
 
 -- of a program whose numbers are allowed and whose values are in their ranges: what is kept along a stream, and the claim
-module _ (p : Program) (allowed : Allowed p) (done : valued p ≡ Done) (stream : List Lent) where
+module _ (p : Program) (allowed : Allowed p) (done : valued p ≡ Ok tt) (stream : List Lent) where
   pub kept : Kept (declared_in p) (desk_after (tables_of p) start_desk stream).tuning (book_after p stream)
   unfolding book_after
   kept =

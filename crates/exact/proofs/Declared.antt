@@ -2,7 +2,7 @@
 use mathlib.Core.Path.{◌≡◌, refl, sym, ◌∙◌, ap, ap₂, subst}
 use mathlib.Core.Bool.{true, false, ◌||◌, or-false}
 use mathlib.Core.List.{List, [], ◌∷◌, map}
-use Rattle.std.specs.Prelude.{Option, None}
+use Rattle.std.specs.Prelude.{Option, None, Ok}
 use Prim.Native.Nat.{ℕ, zero, suc, ◌<◌}
 use borrow.Author.Tests.{eqb-true}
 use lib.Dec.{eqb}
@@ -13,7 +13,6 @@ use Rattle.grammar.specs.declared.Kind.{Kind}
 use Rattle.grammar.specs.declared.Kind.TheVariants.{Interval, Tone, System, Retuning, Logic, Order as AnOrder, Harmony}
 use Rattle.grammar.specs.Moves.{kinds, kind_number}
 use Rattle.names.proofs.Searching.{kind_back}
-use Rattle.values.specs.declared.Outcome.TheVariants.{Done}
 use Rattle.values.specs.Values.{Term, weight, references}
 use Rattle.values.specs.Inner.{Uses, here, there, refs_of, shallow}
 use Rattle.values.proofs.Cases.{clash}
@@ -47,7 +46,7 @@ sum_is : (value : ℕ → ℤ) (ts : List Term) → sum_of value ts ≡ total ce
 sum_is value [] = refl
 sum_is value (t ∷ ts) = ap₂ (λ (x y : ℤ). x +ℤ y) (*ℤ_comm (value t.of) (weight t)) (sum_is value ts)
 
-module _ (p : Program) (allowed : Allowed p) (done : valued p ≡ Done) where
+module _ (p : Program) (allowed : Allowed p) (done : valued p ≡ Ok tt) where
   pub value_at_step : (i : ℕ) → i < length p → (d : Declaration) → declaration_at p i ≡ d
       → value_of p i ≡ start_at (value_of p) (own_of d).origin +ℤ total cents (value_of p) (value_of p) (own_of d).terms
   value_at_step i l d e =
@@ -70,7 +69,7 @@ Entered ds Harmony e z = Unit
 number_at : (p : Program) (i : ℕ) (d : Declaration) → declaration_at p i ≡ d → get_or (declared_in p) i None ≡ declared_by d
 number_at p i d e = get_or-map (λ (x : Placed). declared_by x.is) p i nothing ∙ ap declared_by e
 
-module _ (p : Program) (allowed : Allowed p) (done : valued p ≡ Done) where
+module _ (p : Program) (allowed : Allowed p) (done : valued p ≡ Ok tt) where
   abbrev numbers : List (Option Declared)
   numbers = declared_in p
 

@@ -2,13 +2,12 @@
 use mathlib.Core.Path.{◌≡◌, refl, ◌∙◌, ap}
 use mathlib.Core.Bool.{false}
 use mathlib.Core.List.{List, [], ◌∷◌, map}
-use Rattle.std.specs.Prelude.{Option, Some, None}
+use Rattle.std.specs.Prelude.{Option, Some, None, Ok}
 use Prim.Native.Nat.{ℕ, ◌≤◌, ◌<◌}
 use native.Mathlib.Decide.{dec_lt}
 use native.Mathlib.Omega.{arith}
 use lib.IntN.{+ℤ_idl}
 use lib.ListN.{length, length-map, get_or-eq_default}
-use Rattle.values.specs.declared.Outcome.TheVariants.{Done}
 use Rattle.values.specs.Values.{Term}
 use Rattle.tuning.specs.Tuning.{Tuning, Action}
 use Rattle.tuning.specs.Desk.{cents, any_beyond}
@@ -44,7 +43,7 @@ matched : {ds : List (Option Declared)} {s : Tuning cents} {x y : Option (Action
 matched Capped.no_call_holds v Worked.no_call_holds = no_call_holds
 matched (Capped.same_call e) v (Worked.both_call k) = one_call e v k
 
-module _ (p : Program) (allowed : Allowed p) (done : valued p ≡ Done) where
+module _ (p : Program) (allowed : Allowed p) (done : valued p ≡ Ok tt) where
   places_in_range : (l : List (Option ℕ)) → Each (FitSystemPosition p) l → any_beyond (map (system_position_of cents (value_of p) (value_of p)) l) ≡ false
   unfolding any_beyond
   places_in_range [] w = refl

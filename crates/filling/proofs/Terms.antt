@@ -14,11 +14,10 @@ use Rattle.grammar.specs.Items.{item_at}
 use Rattle.grammar.specs.Reading.{most_terms}
 use Rattle.names.specs.Parts.{part}
 use Rattle.values.specs.Values.{Term, weight}
-use Rattle.values.specs.Inner.{greatest_factor, largest_term}
 use Rattle.program.specs.Program.{term_then}
 use Rattle.program.specs.Allowed.{Each}
 use Rattle.filling.specs.Tables.{sum_of}
-use Rattle.filling.specs.Inner.{value_in, FitTerm, Summable}
+use Rattle.filling.specs.Inner.{greatest_factor, largest_term, value_in, FitTerm, Summable}
 use Rattle.filling.proofs.Each.{each_append}
 use Rattle.filling.proofs.Items.{terms_from, terms_end, terms_next}
 

@@ -6,7 +6,6 @@ use Rattle.grammar.specs.Reading.{most_terms}
 use Rattle.names.specs.Parts.{Part, part}
 use Rattle.values.specs.Values.{Term, farthest_tone}
 use Rattle.values.specs.Rows.{rows}
-use Rattle.values.specs.Inner.{greatest_factor}
 use Rattle.tuning.specs.declared.Tone.{Tone}
 use Rattle.tuning.specs.declared.ToneChange.{ToneChange}
 use Rattle.tuning.specs.declared.Retuning.TheVariants.{Anchor, Width, Period, Tones}
@@ -18,7 +17,7 @@ use Rattle.program.specs.Program.{Declaration, ratio, root, sequence, frequency,
 use Rattle.program.specs.Program.{AsListed, unlisted, a_term, muted_position, kept_position, tone_position, a_start, a_trigger, a_call, a_key, group_then, grouped, order_then, ordered}
 use Rattle.program.specs.Meaning.{value_of}
 use Rattle.program.specs.Allowed.{Each}
-use Rattle.limits.specs.Limits.{most_harmony_key}
+use Rattle.limits.specs.Limits.{most_factor, most_harmony_key}
 use Rattle.harmonies.specs.Harmonies.{HarmonyKey}
 use Rattle.names.specs.Inner.{items_between}
 use Rattle.filling.specs.declared.lists.ToneHere.{ToneHere}
@@ -32,6 +31,13 @@ use Rattle.filling.specs.declared.triggers.TriggerHere.TheVariants as triggerHer
 use Rattle.filling.specs.declared.lists.OrderHere.{OrderHere}
 use Rattle.filling.specs.declared.lists.OrderHere.TheVariants as orderHere
 use Rattle.filling.specs.Tables.{tones_of, changes_of, orders_of, start_code, trigger_code, row_of}
+
+-- how large a term is
+abbrev pub greatest_factor : ℕ
+greatest_factor = most_factor
+
+abbrev pub largest_term : ℕ
+largest_term = greatest_factor * farthest_tone
 
 -- a slice has the value of each declaration
 pub record Valued (p : Program) (values : List ℤ) : Type 0 where

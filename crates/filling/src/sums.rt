@@ -1,14 +1,13 @@
 // "Sequences add factor times measure": the sums of terms, over items.
 ghost use Rattle.std.specs.Prelude.{◌≡◌, [], ◌*◌, ◌≤◌, nat_abs, ◌+ℤ◌, ◌*ℤ◌};
 ghost use Rattle.grammar.specs.Reading.{most_terms};
-ghost use Rattle.values.specs.Inner.{greatest_factor, largest_term};
 ghost use Rattle.names.specs.Parts.{part};
 ghost use Rattle.program.specs.Program.{term_then, terms_of};
 ghost use Rattle.program.specs.Allowed.{Each};
 ghost use Rattle.names.specs.Inner.{items_between};
 ghost use Rattle.tuning.specs.Capped.{capped};
 ghost use Rattle.filling.specs.Tables.{sum_of};
-ghost use Rattle.filling.specs.Inner.{value_in, FitValue, FitTerm, Summable};
+ghost use Rattle.filling.specs.Inner.{greatest_factor, largest_term, value_in, FitValue, FitTerm, Summable};
 
 use crate::readers::interval_at;
 use cents::{Interval, Pitch};

@@ -3,7 +3,7 @@
 use mathlib.Core.Path.{◌≡◌, refl, sym, ap, ◌∙◌, subst}
 use mathlib.Core.Bool.{Bool, true, not, ◌&&◌, false}
 use mathlib.Core.List.{List, [], ◌∷◌, map, flat_map}
-use Rattle.std.specs.Prelude.{Option, Some, None}
+use Rattle.std.specs.Prelude.{Option, Some, None, Ok}
 use Prim.Native.Nat.{ℕ, ◌+◌, ◌*◌, ◌-◌, ◌<◌}
 use native.Mathlib.Omega.{arith}
 use borrow.Author.Tests.{le-leb, lt-ltb}
@@ -11,7 +11,6 @@ use lib.IntN.{ℤ, pos, ◌+ℤ◌}
 use lib.ListN.{length, length-map, get_or}
 use Rattle.names.specs.Parts as parts
 use Rattle.names.specs.Names.{meant}
-use Rattle.values.specs.declared.Outcome.TheVariants.{Done}
 use Rattle.values.proofs.Cases.{clash}
 use Rattle.tuning.specs.Desk.{beyond}
 use Rattle.tuning.specs.State.{places, heard}
@@ -81,7 +80,7 @@ module _ (value : ℕ → ℤ) (i t c o : ℕ) where
 
 -- ---- tables that are laid out
 
-module _ (p : Program) (a : Allowed p) (v : valued p ≡ Done) where
+module _ (p : Program) (a : Allowed p) (v : valued p ≡ Ok tt) where
   abbrev value : ℕ → ℤ
   value = value_of p
 
@@ -250,7 +249,7 @@ module _ (p : Program) (a : Allowed p) (v : valued p ≡ Done) where
 
 -- ---- the theorems
 
-pub tables_valid : (p : Program) → Allowed p → valued p ≡ Done → valid_tables (tables_of p) ≡ true
+pub tables_valid : (p : Program) → Allowed p → valued p ≡ Ok tt → valid_tables (tables_of p) ≡ true
 unfolding tables_of
 tables_valid p a v = laid_valid p a v
 

@@ -5,19 +5,19 @@ use mathlib.Core.Bool.{Bool, true, false}
 use mathlib.Core.List.{List}
 use Prim.Native.Nat.{ℕ, zero, suc, ◌+◌, ◌<◌}
 use native.Mathlib.Omega.{arith}
-use lib.IntN.{ℤ}
+use lib.IntN.{ℤ, pos}
 use lib.ListN.{length}
 use Rattle.status.specs.Status.{depends_on_itself, value_out_of_range}
 use Rattle.values.specs.Values.{is_beyond, circular, first_from, verdict, value_at, outcome}
 use Rattle.values.specs.Rows.{rows, Resolved}
+use Rattle.std.specs.Prelude.{Option, Some, None, Result, Ok, Err, unwrap_or}
+use Rattle.std.proofs.lemmas.Option.{none-some, same_Some}
 use Rattle.values.specs.declared.Fault.{Fault}
-use Rattle.values.specs.declared.Fault.TheVariants.{Nothing, At}
-use Rattle.values.specs.declared.Outcome.{Outcome}
-use Rattle.values.specs.declared.Outcome.TheVariants.{Done, Circular, OutOfRange}
+use Rattle.values.specs.declared.Fault.TheVariants.{Circular, OutOfRange}
 use Rattle.tables.specs.Layout.{Tables}
 use Rattle.grammar.specs.declared.Item.{Item}
 use Rattle.program.specs.Program.{Program, program_of}
-use Rattle.program.specs.Meaning.{own, exactly, value_of, valued}
+use Rattle.program.specs.Meaning.{own, value_of, valued}
 use Rattle.program.specs.Text.{place_of, by_value}
 use Rattle.valuation.specs.Inner.{Ready}
 use Rattle.filling.specs.Tables.{tables_of}
@@ -26,39 +26,31 @@ use Rattle.mutabor.specs.declared.TextReading.{TextReading}
 use Rattle.mutabor.specs.Reading.{by_verdict, Leaves}
 use Rattle.mutabor.proofs.Steps.{refuses}
 
-NothingFound : Fault → Type 0
-NothingFound Nothing = Unit
-NothingFound (At i) = ⊥
-
-nothing_at : {j : ℕ} → Nothing ≡ At j → ⊥
-unfolding NothingFound
-nothing_at e = subst NothingFound e tt
-
 -- the first that passes a test is one of those that were tested
-first_within : (p : ℕ → Bool) (i k j : ℕ) → first_from p i k ≡ At j → j < i + k
+first_within : (p : ℕ → Bool) (i k j : ℕ) → first_from p i k ≡ Some j → j < i + k
 unfolding first_from
-first_within p i zero j h = absurd (nothing_at h)
+first_within p i zero j h = absurd (none-some j h)
 first_within p i (suc k) j h = go (p i) h (first_within p (suc i) k j)
   where
-    go : (b : Bool) → elim b [ true ↦ At i | false ↦ first_from p (suc i) k ] ≡ At j → (first_from p (suc i) k ≡ At j → j < suc i + k) → j < i + suc k
-    go true e ih = let q : i ≡ j = cc in omega arith
+    go : (b : Bool) → ◌≡◌ {A = Option ℕ} (elim b [ true ↦ Some i | false ↦ first_from p (suc i) k ]) (Some j) → (first_from p (suc i) k ≡ Some j → j < suc i + k) → j < i + suc k
+    go true e ih = let q = same_Some i j e in omega arith
     go false e ih = omega (arith, ih e)
 
-at_fault : Outcome → ℕ → Type 0
-at_fault Done n = Unit
-at_fault (Circular d) n = d < n
-at_fault (OutOfRange d) n = d < n
+at_fault : Result Unit Fault → ℕ → Type 0
+at_fault (Ok u) n = Unit
+at_fault (Err (Circular d)) n = d < n
+at_fault (Err (OutOfRange d)) n = d < n
 
 fault_within : (p : Program) (n : ℕ) → at_fault (outcome (own p) n) n
 unfolding outcome verdict at_fault
 fault_within p n = go (first_from (circular (own p) n) 0 n) refl (first_from (λ i. is_beyond (value_at (own p) n i)) 0 n) refl
   where
-    go : (f : Fault) → first_from (circular (own p) n) 0 n ≡ f → (g : Fault) → first_from (λ i. is_beyond (value_at (own p) n i)) 0 n ≡ g → at_fault (verdict f g) n
-    go (At i) e g q = omega (arith, first_within (circular (own p) n) 0 n i e)
-    go Nothing e (At i) q = omega (arith, first_within (λ i. is_beyond (value_at (own p) n i)) 0 n i q)
-    go Nothing e Nothing q = tt
+    go : (f : Option ℕ) → first_from (circular (own p) n) 0 n ≡ f → (g : Option ℕ) → first_from (λ i. is_beyond (value_at (own p) n i)) 0 n ≡ g → at_fault (verdict f g) n
+    go (Some i) e g q = omega (arith, first_within (circular (own p) n) 0 n i e)
+    go None e (Some i) q = omega (arith, first_within (λ i. is_beyond (value_at (own p) n i)) 0 n i q)
+    go None e None q = tt
 
-module _ {is : List Item} {items starts : List ℕ} {count n : ℕ} {o : Outcome} {values : List ℤ} (d : Ready is items count starts n)
+module _ {is : List Item} {items starts : List ℕ} {count n : ℕ} {o : Result Unit Fault} {values : List ℤ} (d : Ready is items count starts n)
     (w : Resolved (own (program_of is)) n o values) where
   abbrev p : Program
   p = program_of is
@@ -71,38 +63,38 @@ module _ {is : List Item} {items starts : List ℕ} {count n : ℕ} {o : Outcome
   is_valued = ap (outcome (own p)) (sym e) ∙ sym w.answer
 
   found : at_fault o n
-  found = subst (λ (x : Outcome). at_fault x n) (sym w.answer) (fault_within p n)
+  found = subst (λ (x : Result Unit Fault). at_fault x n) (sym w.answer) (fault_within p n)
 
-  pub circular_within : {i : ℕ} → o ≡ Circular i → i < n
+  pub circular_within : {i : ℕ} → o ≡ Err (Circular i) → i < n
   unfolding at_fault
-  circular_within h = subst (λ (x : Outcome). at_fault x n) h found
+  circular_within h = subst (λ (x : Result Unit Fault). at_fault x n) h found
 
-  pub beyond_within : {i : ℕ} → o ≡ OutOfRange i → i < n
+  pub beyond_within : {i : ℕ} → o ≡ Err (OutOfRange i) → i < n
   unfolding at_fault
-  beyond_within h = subst (λ (x : Outcome). at_fault x n) h found
+  beyond_within h = subst (λ (x : Result Unit Fault). at_fault x n) h found
 
-  pub values_known : o ≡ Done → length values ≡ rows → Valued p values
+  pub values_known : o ≡ Ok tt → length values ≡ rows → Valued p values
   unfolding value_of
   values_known h s = record {
     size = s;
-    exact = λ i l. let x = w.exact h i (omega arith) in ap exactly (sym x) ∙ ap (λ (k : ℕ). exactly (value_at (own p) k i)) e;
+    exact = λ i l. let x = w.exact h i (omega arith) in ap (λ v. unwrap_or v (pos 0)) (sym x) ∙ ap (λ (k : ℕ). unwrap_or (value_at (own p) k i) (pos 0)) e;
     small = λ i l. w.small h i (omega arith);
   }
 
   module _ {r : TextReading} {after : Tables} where
     -- 7
-    pub circular_refused : {i : ℕ} → o ≡ Circular i → r.number ≡ depends_on_itself → r.place ≡ place_of p i → after ≡ blank
+    pub circular_refused : {i : ℕ} → o ≡ Err (Circular i) → r.number ≡ depends_on_itself → r.place ≡ place_of p i → after ≡ blank
         → Leaves (by_verdict blank (by_value p (valued p))) r after
     circular_refused {i} h q f g =
-        subst (λ (x : Outcome). Leaves (by_verdict blank (by_value p x)) r after) (sym (is_valued ∙ h)) (refuses depends_on_itself (place_of p i) q f g)
+        subst (λ (x : Result Unit Fault). Leaves (by_verdict blank (by_value p x)) r after) (sym (is_valued ∙ h)) (refuses depends_on_itself (place_of p i) q f g)
 
     -- 8
-    pub beyond_refused : {i : ℕ} → o ≡ OutOfRange i → r.number ≡ value_out_of_range → r.place ≡ place_of p i → after ≡ blank
+    pub beyond_refused : {i : ℕ} → o ≡ Err (OutOfRange i) → r.number ≡ value_out_of_range → r.place ≡ place_of p i → after ≡ blank
         → Leaves (by_verdict blank (by_value p (valued p))) r after
     beyond_refused {i} h q f g =
-        subst (λ (x : Outcome). Leaves (by_verdict blank (by_value p x)) r after) (sym (is_valued ∙ h)) (refuses value_out_of_range (place_of p i) q f g)
+        subst (λ (x : Result Unit Fault). Leaves (by_verdict blank (by_value p x)) r after) (sym (is_valued ∙ h)) (refuses value_out_of_range (place_of p i) q f g)
 
     -- done
-    pub all_done : o ≡ Done → r.number ≡ 0 → r.place ≡ 0 → after ≡ tables_of p → Leaves (by_verdict blank (by_value p (valued p))) r after
+    pub all_done : o ≡ Ok tt → r.number ≡ 0 → r.place ≡ 0 → after ≡ tables_of p → Leaves (by_verdict blank (by_value p (valued p))) r after
     all_done h q f g =
-        subst (λ (x : Outcome). Leaves (by_verdict blank (by_value p x)) r after) (sym (is_valued ∙ h)) (record { number = q; place = f; tables = g })
+        subst (λ (x : Result Unit Fault). Leaves (by_verdict blank (by_value p x)) r after) (sym (is_valued ∙ h)) (record { number = q; place = f; tables = g })

@@ -25,7 +25,7 @@ use placeholders::settle;
 use status::{DEPENDS_ON_ITSELF, DONE, TEXT_TOO_LONG, VALUE_OUT_OF_RANGE};
 use tables::{ROWS, has_full_size};
 use valuation::value_declarations;
-use values::Outcome;
+use values::Fault;
 
 // Room for an item at every symbol of the longest text and two at each call, three numbers each, of which the last is a name's place.
 const ITEM_SLOTS: usize = 101_571;
@@ -76,17 +76,16 @@ fn take_declarations(
     ensures { Leaves (by_verdict blank (by_value (program_of is) (valued (program_of is)))) result (tables_in numbers.new codes.new) }
 {
     let mut values = [0i64; ROWS];
-    let outcome = value_declarations(items, count, starts, n, &mut values);
-    match outcome {
-        Outcome::Circular(d) => TextReading {
+    match value_declarations(items, count, starts, n, &mut values) {
+        Err(Fault::Circular(d)) => TextReading {
             number: DEPENDS_ON_ITSELF,
             place: place_of(items, count, starts, n, d),
         },
-        Outcome::OutOfRange(d) => TextReading {
+        Err(Fault::OutOfRange(d)) => TextReading {
             number: VALUE_OUT_OF_RANGE,
             place: place_of(items, count, starts, n, d),
         },
-        Outcome::Done => {
+        Ok(()) => {
             write_tables(items, count, starts, n, &values, numbers, codes);
             TextReading {
                 number: DONE,

@@ -8,8 +8,9 @@ use borrow.Author.Tests.{lt-ltb, le-ltb, ne_eqb}
 use lib.Dec.{ltb, eqb}
 use lib.ListN.{length}
 use Rattle.status.specs.Status.{done, text_too_long, buffer_too_small}
-use Rattle.values.specs.declared.Outcome.{Outcome}
-use Rattle.values.specs.declared.Outcome.TheVariants.{Done, Circular, OutOfRange}
+use Rattle.std.specs.Prelude.{Result, Ok, Err}
+use Rattle.values.specs.declared.Fault.{Fault}
+use Rattle.values.specs.declared.Fault.TheVariants.{Circular, OutOfRange}
 use Rattle.tables.specs.Layout.{Tables, full_size}
 use Rattle.grammar.specs.Reading.{read_items}
 use Rattle.names.specs.Names.{Meant, meanings}
@@ -39,10 +40,10 @@ if_zero_holds : (n place : ℕ) (v : Verdict) → numbered v → numbered (if_ze
 if_zero_holds zero place v h = h
 if_zero_holds (suc n) place v h = λ e. omega arith
 
-by_value_holds : (p : Program) (o : Outcome) → numbered (by_value p o)
-by_value_holds p (Circular i) = λ e. omega arith
-by_value_holds p (OutOfRange i) = λ e. omega arith
-by_value_holds p Done = tt
+by_value_holds : (p : Program) (o : Result Unit Fault) → numbered (by_value p o)
+by_value_holds p (Err (Circular i)) = λ e. omega arith
+by_value_holds p (Err (OutOfRange i)) = λ e. omega arith
+by_value_holds p (Ok u) = tt
 
 by_settling_holds : (m : Meant) → numbered (by_settling m)
 by_settling_holds m = if_zero_holds m.number m.place _ (by_value_holds (program_of m.items) (valued (program_of m.items)))

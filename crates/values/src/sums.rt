@@ -2,7 +2,7 @@
 ghost use Rattle.std.specs.Prelude.{◌≡◌, ◌+◌, ◌≤◌, nat_abs};
 ghost use Rattle.values.specs.Values.{farthest_tone, within, ranged, plus, shifted, weight};
 ghost use Rattle.values.specs.Rows.{meant};
-ghost use Rattle.values.specs.Inner.{size, largest_factor, largest_measure, largest_term, largest_sum, begun, taken, Small};
+ghost use Rattle.values.specs.Inner.{size, largest_factor, largest_measure, largest_product, largest_sum, begun, taken, Small};
 
 use crate::uses::Use;
 use crate::{Origin, Range, Term, Value};
@@ -53,7 +53,7 @@ fn weigh(term: Term) -> i64
 #[tactic(auto, unfolding(crate::specs::Values::plus))]
 fn add_term(sum: Value, term: Term, value: Value) -> Value
     requires { (size sum ≤ largest_sum) × (size value ≤ farthest_tone) }
-    ensures { (result ≡ plus sum term value) × (size result ≤ size sum + largest_term) }
+    ensures { (result ≡ plus sum term value) × (size result ≤ size sum + largest_product) }
 {
     Some(sum? + value? * weigh(term))
 }
@@ -75,8 +75,8 @@ pub fn begin(origin: Origin) -> Parts
 
 // With one use more, whose declaration has this value.
 pub fn take(parts: Parts, used: Use, value: Value) -> Parts
-    requires { Small parts largest_term × (size value ≤ farthest_tone) }
-    ensures { (result ≡ taken parts used value) × (size result.start ≤ largest_measure) × (size result.sum ≤ size parts.sum + largest_term) }
+    requires { Small parts largest_product × (size value ≤ farthest_tone) }
+    ensures { (result ≡ taken parts used value) × (size result.start ≤ largest_measure) × (size result.sum ≤ size parts.sum + largest_product) }
 {
     let Parts { start, sum } = parts;
     match used {

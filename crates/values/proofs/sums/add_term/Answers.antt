@@ -9,14 +9,14 @@ use mir.Val.{SFits, to_z, of_z}
 use Rattle.integers.proofs.Signed.{signed, sum, mul_size, mul_bound}
 use Rattle.std.specs.Prelude.{Option, Some}
 use Rattle.values.specs.Values.{Term, Value, farthest_tone, plus, weight}
-use Rattle.values.specs.Inner.{size, largest_factor, largest_term, largest_sum}
+use Rattle.values.specs.Inner.{size, largest_factor, largest_product, largest_sum}
 use Rattle.values.proofs.sums.add_term.Goals as goal
 
 module _ (s z w : ℤ) (a : nat_abs s ≤ largest_sum) (b : nat_abs z ≤ farthest_tone) (c : nat_abs w ≤ largest_factor) where
-  product : nat_abs (z *ℤ w) ≤ largest_term
+  product : nat_abs (z *ℤ w) ≤ largest_product
   product = omega (signed, mul_size z w, mul_bound b c)
 
-  bound : nat_abs (s +ℤ z *ℤ w) ≤ nat_abs s + largest_term
+  bound : nat_abs (s +ℤ z *ℤ w) ≤ nat_abs s + largest_product
   bound = let p = product in omega (signed, sum s (z *ℤ w))
 
   -- what the machine makes of it
