@@ -3,14 +3,15 @@ use mathlib.Core.Path.{◌≡◌, refl, sym, ◌∙◌, ap, subst}
 use mathlib.Core.Bool.{true, false}
 use mathlib.Core.List.{List, [], ◌∷◌}
 use Rattle.std.specs.Prelude.{Option, Some, None}
-use Prim.Native.Nat.{ℕ, ◌+◌, ◌≤◌, ◌<◌, ◌^◌}
+use Prim.Native.Nat.{ℕ, ◌<◌, ◌^◌}
 use types.Run.{OneOf, miss}
+use native.Mathlib.Omega.{arith}
 use lib.IntN.{ℤ, pos}
+use lib.ListN.{length}
 use Rattle.grammar.specs.declared.Form.{Form}
 use Rattle.grammar.specs.declared.Form.TheVariants.{AnchorTo, AnchorUp, AnchorDown, WidthTo, WidthUp, WidthDown, WidthTimes, WidthOver}
 use Rattle.grammar.specs.declared.Item.{Item}
 use Rattle.grammar.specs.declared.Item.TheVariants as item
-use Rattle.grammar.specs.Items.{item_at}
 use Rattle.names.specs.Parts as parts
 use Rattle.names.specs.Parts.{Part, declares, gives, uses, says, part}
 use Rattle.values.specs.Values.{Term}
@@ -21,12 +22,9 @@ use Rattle.tables.specs.declared.Row.{Row}
 use Rattle.tables.specs.declared.Row.TheVariants as row
 use Rattle.program.specs.Program.{Declaration, asking, form_of, period_by, period_of, term_then, fresh_period, onward_period, terms_of, system, tones, logic, harmony, Position, Trigger, Order, as_listed, grouped, start_of, orders_of, keys_of}
 use Rattle.harmonies.specs.Harmonies.{HarmonyKey}
-use Rattle.names.specs.Inner.{items_between}
 use Rattle.filling.specs.Tables.{tones_of, changes_of, row_of}
 use Rattle.filling.specs.Inner.{value_in, trigger_of, call_of, as_trigger, begins, Summable, FitParts, Stored, row_after, plain_row, Lists, listed, Rowed}
 use Rattle.filling.proofs.Inside.{tag, Inside, add, subtract, muted, kept, tone, letter, start, order, trigger, key, starred, outside, no_begin, some_or_none, some_same}
-use Rattle.names.proofs.Between.{between_none}
-use Rattle.filling.proofs.Items.{item_next}
 
 -- ---- an anchor or width retuning with its n
 
@@ -97,10 +95,7 @@ as_interval z (item.Placeholder a) h = refl
 as_interval z (item.Argument a) h = refl
 
 -- `[ ]` and no `@`: the period is a new one
-abbrev pub no_onward : List ℕ
-no_onward = 0 ∷ 1 ∷ 2 ∷ 3 ∷ 4 ∷ 5 ∷ 6 ∷ 7 ∷ 8 ∷ 9 ∷ 10 ∷ 11 ∷ 12 ∷ 13 ∷ 14 ∷ 16 ∷ 17 ∷ 18 ∷ 19 ∷ 20 ∷ 21 ∷ 22 ∷ 23 ∷ 24 ∷ []
-
-pub as_fresh : (i : Item) → OneOf no_onward (tag i) → (rest : List Item) → period_of (i ∷ rest) ≡ fresh_period (terms_of (i ∷ rest))
+pub as_fresh : (i : Item) → (i ≡ item.Onward → ⊥) → (rest : List Item) → period_of (i ∷ rest) ≡ fresh_period (terms_of (i ∷ rest))
 as_fresh (item.Declared a b) h rest = refl
 as_fresh (item.Ratio a b) h rest = refl
 as_fresh (item.Root a b) h rest = refl
@@ -116,7 +111,7 @@ as_fresh item.AnchorKept h rest = refl
 as_fresh (item.Amount f a) h rest = refl
 as_fresh item.WidthKept h rest = refl
 as_fresh item.Period h rest = refl
-as_fresh item.Onward h rest = absurd (miss no_onward 15 tt h)
+as_fresh item.Onward h rest = absurd (h refl)
 as_fresh (item.Letter a) h rest = refl
 as_fresh (item.Start a b) h rest = refl
 as_fresh (item.Order a b) h rest = refl
@@ -238,18 +233,14 @@ pub period_fit : (values : List ℤ) {is : List Item} → PeriodForm is → FitP
 period_fit values (fresh e) h = rw e at h
 period_fit values (onto e) h = rw e at h
 
-module _ (l : List ℕ) (i to : ℕ) where
-  pub period_none : to ≤ i → period_of (items_between l i to) ≡ fresh_period (terms_of (items_between l i to))
-  unfolding terms_of
-  period_none h = rw (between_none l i to h)
+pub period_none : (is : List Item) → length is ≡ 0 → period_of is ≡ fresh_period (terms_of is)
+unfolding terms_of
+period_none [] h = refl
+period_none (i ∷ is) h = absurd (omega (arith, h))
 
-  module _ {x : Item} (e : x ≡ item_at l i) (k : i < to) where
-    pub period_fresh : OneOf no_onward (tag x) → period_of (items_between l i to) ≡ fresh_period (terms_of (items_between l i to))
-    period_fresh h = rw (item_next l i to e k) (as_fresh x h (items_between l (i + 1) to))
-
-    pub period_onward : x ≡ item.Onward → period_of (items_between l i to) ≡ onward_period (terms_of (items_between l i to))
-    unfolding terms_of
-    period_onward h = rw (item_next l i to e k, h)
+pub period_onward : {is : List Item} {i : Item} {rest : List Item} → is ≡ i ∷ rest → i ≡ item.Onward → period_of is ≡ onward_period (terms_of is)
+unfolding terms_of
+period_onward e h = rw (e, h)
 
 -- ---- the row with what belongs to it, stored in two of the tables
 

@@ -148,15 +148,12 @@ no_trigger starred h = refl
 no_trigger (outside o) h = ap as_trigger o
 
 -- but what an order calls
-abbrev pub no_calls : List ℕ
-no_calls = 0 ∷ 1 ∷ 2 ∷ 3 ∷ 4 ∷ 5 ∷ 6 ∷ 7 ∷ 8 ∷ 9 ∷ 10 ∷ 11 ∷ 12 ∷ 13 ∷ 14 ∷ 15 ∷ 16 ∷ 17 ∷ 19 ∷ 20 ∷ 21 ∷ 22 ∷ 23 ∷ 24 ∷ []
-
 -- before a trigger no call waits
 trigger_call : (x : Trigger) (called : Option ℕ) (l : List Order) → (triggered_by x called l).call ≡ None
 trigger_call x None l = refl
 trigger_call x (Some n) l = refl
 
-pub no_call_holds : {i : Item} → Inside i → OneOf no_calls (tag i) → (g : Ordered) → (order_then (part i) g).call ≡ None
+pub no_call_holds : {i : Item} → Inside i → ((q n : ℕ) → i ≡ item.Order q n → ⊥) → (g : Ordered) → (order_then (part i) g).call ≡ None
 no_call_holds add h g = refl
 no_call_holds subtract h g = refl
 no_call_holds muted h g = refl
@@ -164,7 +161,7 @@ no_call_holds kept h g = refl
 no_call_holds tone h g = refl
 no_call_holds (letter {c}) h g = trigger_call (by_letter c) g.call g.orders
 no_call_holds start h g = refl
-no_call_holds order h g = absurd (miss no_calls 18 tt h)
+no_call_holds order h g = absurd (h _ _ refl)
 no_call_holds (trigger {n}) h g = trigger_call (by_harmony n) g.call g.orders
 no_call_holds key h g = refl
 no_call_holds starred h g = refl

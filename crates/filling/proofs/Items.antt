@@ -1,22 +1,23 @@
--- Laws of the lists that the items from one place to another of a slice give, item by item. Assumes nothing.
+-- Laws of the lists that items give, item by item. Assumes nothing.
 use mathlib.Core.Path.{◌≡◌, refl, ◌∙◌, ap}
 use mathlib.Core.List.{List, [], ◌∷◌, ◌++◌}
 use Rattle.std.specs.Prelude.{Option, Some, None}
-use Prim.Native.Nat.{ℕ, ◌+◌, ◌≤◌, ◌<◌}
+use Prim.Native.Nat.{ℕ, ◌+◌, ◌-◌, ◌≤◌, ◌<◌}
+use native.Mathlib.Numerals.{add-one}
+use native.Mathlib.Nat.{le_refl}
+use lib.ListN.{length, get_or, take, drop, length-drop, drop_of_length-le}
+use lib.Seq.{drop-cons, take_all}
 use Rattle.grammar.specs.declared.Item.{Item}
-use Rattle.grammar.specs.Items.{item_at}
 use Rattle.names.specs.Parts.{part}
 use Rattle.values.specs.Values.{Term}
 use Rattle.harmonies.specs.Harmonies.{HarmonyKey}
 use Rattle.program.specs.Program.{Trigger, Order, Grouped, Ordered, AsListed, unlisted, a_term, muted_position, kept_position, tone_position, a_start, a_trigger, a_call, a_key, as_listed}
 use Rattle.program.specs.Program.{with_term, term_then, terms_of, with_system_position, system_position_then, system_positions_of, with_group, group_then, grouped, triggered_by, with_order, order_then, ordered, orders_of, start_then, start_of, with_key, key_then, keys_of}
-use Rattle.names.specs.Inner.{items_between}
 use Rattle.filling.specs.Inner.{position_by, order_by}
-use Rattle.names.proofs.Between.{between_none, between_here}
 
 -- ---- what the first item gives, and what those after it give
 
-term_first : (q : AsListed) (ts : List Term) → with_term q ts ≡ with_term q [] ++ ts
+pub term_first : (q : AsListed) (ts : List Term) → with_term q ts ≡ with_term q [] ++ ts
 term_first unlisted ts = refl
 term_first (a_term t) ts = refl
 term_first muted_position ts = refl
@@ -75,69 +76,76 @@ key_first (a_trigger x) ks = refl
 key_first (a_call n) ks = refl
 key_first (a_key k) ks = refl
 
--- ---- the same from one place of a slice to another
+-- the items after the i-th, as a part of a slice has them
+abbrev pub rest_after : ℕ → List Item → List Item
+rest_after i l = take (length l - (i + 1)) (drop (i + 1) l)
 
-abbrev pub terms_from : List ℕ → ℕ → ℕ → List Term
-terms_from l i to = terms_of (items_between l i to)
+pub rest_after_is : (i : ℕ) (l : List Item) → rest_after i l ≡ drop (i + 1) l
+rest_after_is i l = take_all (length l - (i + 1)) (drop (i + 1) l) (rw length-drop (le_refl (length l - (i + 1))))
 
-module _ (l : List ℕ) (i to : ℕ) where
-  module _ (k : to ≤ i) where
-    pub terms_end : terms_from l i to ≡ []
+-- ---- the same from the i-th item on
+
+module _ (l : List Item) (i : ℕ) where
+  module _ (k : length l ≤ i) where
+    pub terms_end : terms_of (drop i l) ≡ []
     unfolding terms_of
-    terms_end = ap terms_of (between_none l i to k)
+    terms_end = ap terms_of (drop_of_length-le l k)
 
-    pub places_end : system_positions_of (items_between l i to) ≡ []
+    pub places_end : system_positions_of (drop i l) ≡ []
     unfolding system_positions_of
-    places_end = ap system_positions_of (between_none l i to k)
+    places_end = ap system_positions_of (drop_of_length-le l k)
 
-    pub ordered_end : ordered (items_between l i to) ≡ record { call = None; orders = [] }
+    pub ordered_end : ordered (drop i l) ≡ record { call = None; orders = [] }
     unfolding ordered
-    ordered_end = ap ordered (between_none l i to k)
+    ordered_end = ap ordered (drop_of_length-le l k)
 
-    pub groups_end : grouped (items_between l i to) ≡ record { before = []; positions = [] }
+    pub groups_end : grouped (drop i l) ≡ record { before = []; positions = [] }
     unfolding grouped
-    groups_end = ap grouped (between_none l i to k)
+    groups_end = ap grouped (drop_of_length-le l k)
 
-    pub start_end : start_of (items_between l i to) ≡ None
+    pub start_end : start_of (drop i l) ≡ None
     unfolding start_of
-    start_end = ap start_of (between_none l i to k)
+    start_end = ap start_of (drop_of_length-le l k)
 
-    pub keys_end : keys_of (items_between l i to) ≡ []
+    pub keys_end : keys_of (drop i l) ≡ []
     unfolding keys_of
-    keys_end = ap keys_of (between_none l i to k)
+    keys_end = ap keys_of (drop_of_length-le l k)
 
-  module _ {x : Item} (e : x ≡ item_at l i) (k : i < to) where
-    pub item_next : items_between l i to ≡ x ∷ items_between l (i + 1) to
-    item_next = rw e (between_here l i to k)
+  module _ (k : i < length l) (none : Item) where
+    abbrev x : Item
+    x = get_or l i none
 
-    pub terms_next : terms_from l i to ≡ term_then (part x) [] ++ terms_from l (i + 1) to
+    pub item_next : drop i l ≡ x ∷ drop (i + 1) l
+    item_next = rw add-one (drop-cons l i none k)
+
+    pub terms_next : terms_of (drop i l) ≡ term_then (part x) [] ++ terms_of (drop (i + 1) l)
     unfolding terms_of
-    terms_next = ap terms_of item_next ∙ term_first (as_listed (part x)) (terms_from l (i + 1) to)
+    terms_next = ap terms_of item_next ∙ term_first (as_listed (part x)) (terms_of (drop (i + 1) l))
 
-    pub places_next : system_positions_of (items_between l i to) ≡ system_position_then (part x) [] ++ system_positions_of (items_between l (i + 1) to)
+    pub places_next : system_positions_of (drop i l) ≡ system_position_then (part x) [] ++ system_positions_of (drop (i + 1) l)
     unfolding system_positions_of
-    places_next = ap system_positions_of item_next ∙ place_first (as_listed (part x)) (system_positions_of (items_between l (i + 1) to))
+    places_next = ap system_positions_of item_next ∙ place_first (as_listed (part x)) (system_positions_of (drop (i + 1) l))
 
-    pub ordered_next : ordered (items_between l i to) ≡ order_then (part x) (ordered (items_between l (i + 1) to))
+    pub ordered_next : ordered (drop i l) ≡ order_then (part x) (ordered (drop (i + 1) l))
     unfolding ordered
     ordered_next = ap ordered item_next
 
-    pub orders_next : orders_of (items_between l i to)
-        ≡ order_by (part x) (ordered (items_between l (i + 1) to)).call ++ orders_of (items_between l (i + 1) to)
-    orders_next = ap (λ (g : Ordered). g.orders) ordered_next ∙ order_first (as_listed (part x)) (ordered (items_between l (i + 1) to))
+    pub orders_next : orders_of (drop i l)
+        ≡ order_by (part x) (ordered (drop (i + 1) l)).call ++ orders_of (drop (i + 1) l)
+    orders_next = ap (λ (g : Ordered). g.orders) ordered_next ∙ order_first (as_listed (part x)) (ordered (drop (i + 1) l))
 
-    pub groups_next : grouped (items_between l i to) ≡ group_then (part x) (grouped (items_between l (i + 1) to))
+    pub groups_next : grouped (drop i l) ≡ group_then (part x) (grouped (drop (i + 1) l))
     unfolding grouped
     groups_next = ap grouped item_next
 
-    pub positions_next : (grouped (items_between l i to)).positions
-        ≡ position_by (part x) (grouped (items_between l (i + 1) to)).before ++ (grouped (items_between l (i + 1) to)).positions
-    positions_next = ap (λ (g : Grouped). g.positions) groups_next ∙ position_first (as_listed (part x)) (grouped (items_between l (i + 1) to))
+    pub positions_next : (grouped (drop i l)).positions
+        ≡ position_by (part x) (grouped (drop (i + 1) l)).before ++ (grouped (drop (i + 1) l)).positions
+    positions_next = ap (λ (g : Grouped). g.positions) groups_next ∙ position_first (as_listed (part x)) (grouped (drop (i + 1) l))
 
-    pub start_next : start_of (items_between l i to) ≡ start_then (part x) (start_of (items_between l (i + 1) to))
+    pub start_next : start_of (drop i l) ≡ start_then (part x) (start_of (drop (i + 1) l))
     unfolding start_of
     start_next = ap start_of item_next
 
-    pub keys_next : keys_of (items_between l i to) ≡ key_then (part x) [] ++ keys_of (items_between l (i + 1) to)
+    pub keys_next : keys_of (drop i l) ≡ key_then (part x) [] ++ keys_of (drop (i + 1) l)
     unfolding keys_of
-    keys_next = ap keys_of item_next ∙ key_first (as_listed (part x)) (keys_of (items_between l (i + 1) to))
+    keys_next = ap keys_of item_next ∙ key_first (as_listed (part x)) (keys_of (drop (i + 1) l))

@@ -4,18 +4,17 @@ use mathlib.Core.Bool.{Bool, true, false, cond}
 use mathlib.Core.List.{List, [], ◌∷◌, ◌++◌}
 use Prim.Native.Nat.{ℕ, ◌+◌, ◌≤◌, ◌<◌}
 use native.Mathlib.Omega.{arith}
+use lib.ListN.{length, get_or, drop}
 use Rattle.limits.specs.Limits.{most_harmony_key}
 use Rattle.sets.specs.Sets.{added}
 use Rattle.sets.proofs.Members.{added_below}
 use Rattle.harmonies.specs.declared.Harmony.{Harmony}
 use Rattle.harmonies.specs.Harmonies.{HarmonyKey, naming, naming_all, nothing_named, harmony_of}
 use Rattle.grammar.specs.declared.Item.{Item}
-use Rattle.grammar.specs.Items.{item_at}
 use Rattle.names.specs.Parts.{part}
 use Rattle.tables.specs.Layout.{all_sets}
 use Rattle.program.specs.Program.{key_then, keys_of}
 use Rattle.program.specs.Allowed.{Each}
-use Rattle.names.specs.Inner.{items_between}
 use Rattle.filling.specs.Inner.{FitKey}
 use Rattle.filling.proofs.Each.{each_append}
 use Rattle.filling.proofs.Items.{keys_end, keys_next}
@@ -40,43 +39,43 @@ all_small {y} s (k ∷ ks) h = all_small {y = naming y k} (naming_small s k h.0)
 pub harmony_small : (ks : List HarmonyKey) → Each FitKey ks → Small (harmony_of ks)
 harmony_small ks h = all_small (record { needed = omega arith; named = omega arith }) ks h
 
--- ---- the keys of the items from one place to another: the harmony of those in front of the i-th, and what is left
+-- ---- the keys of items: the harmony of those in front of the i-th, and what is left
 
 naming_append : (y : Harmony) (ks ls : List HarmonyKey) → naming_all y (ks ++ ls) ≡ naming_all (naming_all y ks) ls
 naming_append y [] ls = refl
 naming_append y (k ∷ ks) ls = naming_append (naming y k) ks ls
 
-abbrev keys_from : List ℕ → ℕ → ℕ → List HarmonyKey
-keys_from l i to = keys_of (items_between l i to)
+pub record Naming (l : List Item) (i : ℕ) (y : Harmony) : Type 0 where
+  pub each : Each FitKey (keys_of (drop i l))
+  pub whole : naming_all y (keys_of (drop i l)) ≡ harmony_of (keys_of l)
 
-pub record Naming (l : List ℕ) (from to i : ℕ) (y : Harmony) : Type 0 where
-  pub each : Each FitKey (keys_from l i to)
-  pub whole : naming_all y (keys_from l i to) ≡ harmony_of (keys_from l from to)
+pub naming_none : (l : List Item) → Each FitKey (keys_of l) → Naming l 0 nothing_named
+naming_none l h = record { each = h; whole = refl }
 
-pub naming_none : (l : List ℕ) (from to : ℕ) → Each FitKey (keys_from l from to) → Naming l from to from nothing_named
-naming_none l from to h = record { each = h; whole = refl }
-
-module _ {l : List ℕ} {from to i : ℕ} {y : Harmony} (h : Naming l from to i y) where
-  pub naming_all_step : to ≤ i → y ≡ harmony_of (keys_from l from to)
-  naming_all_step k = ap (naming_all y) (sym (keys_end l i to k)) ∙ h.whole
+module _ {l : List Item} {i : ℕ} {y : Harmony} (h : Naming l i y) where
+  pub naming_all_step : length l ≤ i → y ≡ harmony_of (keys_of l)
+  naming_all_step k = ap (naming_all y) (sym (keys_end l i k)) ∙ h.whole
 
   -- the key of the present item
-  module _ {x : Item} (e : x ≡ item_at l i) (k : i < to) where
-    split : keys_from l i to ≡ key_then (part x) [] ++ keys_from l (i + 1) to
-    split = keys_next l i to e k
+  module _ (k : i < length l) (none : Item) where
+    abbrev x : Item
+    x = get_or l i none
 
-    fit : Each FitKey (key_then (part x) []) × Each FitKey (keys_from l (i + 1) to)
-    fit = each_append FitKey (key_then (part x) []) (keys_from l (i + 1) to) (subst (Each FitKey) split h.each)
+    split : keys_of (drop i l) ≡ key_then (part x) [] ++ keys_of (drop (i + 1) l)
+    split = keys_next l i k none
+
+    fit : Each FitKey (key_then (part x) []) × Each FitKey (keys_of (drop (i + 1) l))
+    fit = each_append FitKey (key_then (part x) []) (keys_of (drop (i + 1) l)) (subst (Each FitKey) split h.each)
 
     pub naming_now : Each FitKey (key_then (part x) [])
     naming_now = fit.0
 
-    pub naming_next : {z : Harmony} → z ≡ naming_all y (key_then (part x) []) → Naming l from to (i + 1) z
+    pub naming_next : {z : Harmony} → z ≡ naming_all y (key_then (part x) []) → Naming l (i + 1) z
     naming_next q = record {
       each = fit.1;
       whole =
-          ap (λ (w : Harmony). naming_all w (keys_from l (i + 1) to)) q
-          ∙ sym (naming_append y (key_then (part x) []) (keys_from l (i + 1) to))
+          ap (λ (w : Harmony). naming_all w (keys_of (drop (i + 1) l))) q
+          ∙ sym (naming_append y (key_then (part x) []) (keys_of (drop (i + 1) l)))
           ∙ ap (naming_all y) (sym split)
           ∙ h.whole;
     }

@@ -5,21 +5,20 @@ use mathlib.Core.List.{List, [], ◌∷◌, ◌++◌}
 use Prim.Native.Nat.{ℕ, ◌+◌, ◌*◌, ◌≤◌, ◌<◌}
 use native.Mathlib.Omega.{arith}
 use lib.IntN.{ℤ, pos, neg_ℤ, nat_abs, ◌+ℤ◌, ◌*ℤ◌, +ℤ_assoc, +ℤ_idl, +ℤ_idr}
-use lib.ListN.{length, length-append}
+use lib.ListN.{length, get_or, drop, length-append}
 use mir.Syntax.{w64}
 use mir.Val.{SFits}
 use Rattle.integers.proofs.Signed.{signed, abs, sum, up_neg, dn_neg, mul_size, mul_bound}
 use Rattle.grammar.specs.declared.Item.{Item}
-use Rattle.grammar.specs.Items.{item_at}
 use Rattle.grammar.specs.Reading.{most_terms}
 use Rattle.names.specs.Parts.{part}
 use Rattle.values.specs.Values.{Term, weight}
-use Rattle.program.specs.Program.{term_then}
+use Rattle.program.specs.Program.{term_then, terms_of}
 use Rattle.program.specs.Allowed.{Each}
 use Rattle.filling.specs.Tables.{sum_of}
 use Rattle.filling.specs.Inner.{greatest_factor, largest_term, value_in, FitTerm, Summable}
 use Rattle.filling.proofs.Each.{each_append}
-use Rattle.filling.proofs.Items.{terms_from, terms_end, terms_next}
+use Rattle.filling.proofs.Items.{terms_end, terms_next}
 
 abbrev term_of : Item → List Term
 term_of i = term_then (part i) []
@@ -58,41 +57,44 @@ module _ (values : List ℤ) where
 pub sum_limit : {values : List ℤ} {ts : List Term} → Summable values ts → nat_abs (sum_of (value_in values) ts) ≤ most_terms * largest_term
 sum_limit {values} {ts} h = omega (arith, sum_size values ts h.each, h.few)
 
--- ---- adding up the terms of the items from one place to another: the sum of those in front of the i-th, and what is left
+-- ---- adding up the terms of items: the sum of those in front of the i-th, and what is left
 
-pub record Adding (values : List ℤ) (l : List ℕ) (from to i : ℕ) (s : ℤ) : Type 0 where
-  pub each : Each (FitTerm values) (terms_from l i to)
-  pub room : nat_abs s + length (terms_from l i to) * largest_term ≤ most_terms * largest_term
-  pub whole : s +ℤ sum_of (value_in values) (terms_from l i to) ≡ sum_of (value_in values) (terms_from l from to)
+pub record Adding (values : List ℤ) (l : List Item) (i : ℕ) (s : ℤ) : Type 0 where
+  pub each : Each (FitTerm values) (terms_of (drop i l))
+  pub room : nat_abs s + length (terms_of (drop i l)) * largest_term ≤ most_terms * largest_term
+  pub whole : s +ℤ sum_of (value_in values) (terms_of (drop i l)) ≡ sum_of (value_in values) (terms_of l)
 
-pub adding_none : (values : List ℤ) (l : List ℕ) (from to : ℕ) → Summable values (terms_from l from to) → Adding values l from to from (pos 0)
-adding_none values l from to h = record { each = h.each; room = omega (arith, h.few); whole = +ℤ_idl (sum_of (value_in values) (terms_from l from to)) }
+pub adding_none : (values : List ℤ) (l : List Item) → Summable values (terms_of l) → Adding values l 0 (pos 0)
+adding_none values l h = record { each = h.each; room = omega (arith, h.few); whole = +ℤ_idl (sum_of (value_in values) (terms_of l)) }
 
-module _ {values : List ℤ} {l : List ℕ} {from to i : ℕ} {s : ℤ} (h : Adding values l from to i s) where
+module _ {values : List ℤ} {l : List Item} {i : ℕ} {s : ℤ} (h : Adding values l i s) where
   pub adding_fits : SFits w64 s
   adding_fits = omega (signed, h.room)
 
-  pub adding_all : to ≤ i → s ≡ sum_of (value_in values) (terms_from l from to)
+  pub adding_all : length l ≤ i → s ≡ sum_of (value_in values) (terms_of l)
   adding_all k =
-      let e = ap (sum_of (value_in values)) (terms_end l i to k) in
+      let e = ap (sum_of (value_in values)) (terms_end l i k) in
       sym (+ℤ_idr s) ∙ ap (λ (y : ℤ). s +ℤ y) (sym e) ∙ h.whole
 
   -- the term of the present item
-  module _ {x : Item} (e : x ≡ item_at l i) (k : i < to) where
-    split : terms_from l i to ≡ term_of x ++ terms_from l (i + 1) to
-    split = terms_next l i to e k
+  module _ (k : i < length l) (none : Item) where
+    abbrev x : Item
+    x = get_or l i none
 
-    fit : Each (FitTerm values) (term_of x) × Each (FitTerm values) (terms_from l (i + 1) to)
-    fit = each_append (FitTerm values) (term_of x) (terms_from l (i + 1) to) (subst (λ (ts : List Term). Each (FitTerm values) ts) split h.each)
+    split : terms_of (drop i l) ≡ term_of x ++ terms_of (drop (i + 1) l)
+    split = terms_next l i k none
+
+    fit : Each (FitTerm values) (term_of x) × Each (FitTerm values) (terms_of (drop (i + 1) l))
+    fit = each_append (FitTerm values) (term_of x) (terms_of (drop (i + 1) l)) (subst (λ (ts : List Term). Each (FitTerm values) ts) split h.each)
 
     pub adding_now : Each (FitTerm values) (term_of x)
     adding_now = fit.0
 
-    pub adding_next : Adding values l from to (i + 1) (s +ℤ sum_of (value_in values) (term_of x))
+    pub adding_next : Adding values l (i + 1) (s +ℤ sum_of (value_in values) (term_of x))
     adding_next =
         let z = sum_of (value_in values) (term_of x) in
-        let rest = terms_from l (i + 1) to in
-        let n : length (terms_from l i to) ≡ length (term_of x) + length rest = ap length split ∙ length-append (term_of x) rest in
+        let rest = terms_of (drop (i + 1) l) in
+        let n : length (terms_of (drop i l)) ≡ length (term_of x) + length rest = ap length split ∙ length-append (term_of x) rest in
         let w = sum_append (value_in values) (term_of x) rest in
         record {
           each = fit.1;

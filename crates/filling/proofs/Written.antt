@@ -1,10 +1,10 @@
 -- The tables of a text whose items are ready and whose values are known, declaration by declaration. Assumes nothing.
 use mathlib.Core.Path.{◌≡◌, sym, ◌∙◌, ap, subst}
 use mathlib.Core.List.{List}
-use Prim.Native.Nat.{ℕ, suc, ◌+◌, ◌≤◌, ◌<◌}
+use Prim.Native.Nat.{ℕ, ◌+◌, ◌≤◌, ◌<◌}
 use native.Mathlib.Omega.{arith}
 use lib.IntN.{ℤ}
-use lib.ListN.{length, get_or, take}
+use lib.ListN.{length}
 use Rattle.grammar.specs.declared.Item.{Item}
 use Rattle.tables.specs.declared.Counts.{Counts}
 use Rattle.tables.specs.Layout.{Tables}
@@ -12,8 +12,7 @@ use Rattle.tables.specs.Values.{CountsFit}
 use Rattle.program.specs.Program.{Declaration, Program, declaration_of, program_of}
 use Rattle.program.specs.Meaning.{declaration_at, value_of}
 use Rattle.valuation.specs.Inner.{Ready}
-use Rattle.names.specs.Inner.{items_between}
-use Rattle.valuation.proofs.Ready.{ready_few, ready_fits, ready_body}
+use Rattle.valuation.proofs.Ready.{ready_number, ready_few, ready_fits}
 use Rattle.filling.specs.Tables.{filled_from, laid_out, tables_of}
 use Rattle.filling.specs.Inner.{Valued, blank, value_in, FitValue, Writable, Lists, lists_of, Added}
 use Rattle.filling.proofs.Fitting.{value_fit, fit_parts, filled_same}
@@ -25,8 +24,7 @@ pub written_none : (value : ℕ → ℤ) (p : Program) {t : Tables} → t ≡ bl
 written_none value p e =
     subst (λ (t : Tables). Filling value p 0 (record { rows = 0; tones = 0; changes = 0; orders = 0 }) t.rows (lists_of t)) (sym e) (filling_none value p)
 
-module _ {is : List Item} {items : List ℕ} {count : ℕ} {starts : List ℕ} {n : ℕ} {values : List ℤ}
-    (r : Ready is items count starts n) (v : Valued (program_of is) values) where
+module _ {is : List Item} {starts : List ℕ} {values : List ℤ} (r : Ready is starts) (v : Valued (program_of is) values) where
   within : Within (filled_from (value_in values) 0 0 0 0 (program_of is))
   within = filled_within (value_in values) r.allowed
 
@@ -34,25 +32,22 @@ module _ {is : List Item} {items : List ℕ} {count : ℕ} {starts : List ℕ} {
     pub written_few : CountsFit used
     written_few = filling_few h within
 
-    pub written_all_step : n ≤ d → {counts : List ℕ} → counts ≡ four_counts used → together rows lists counts ≡ tables_of (program_of is)
+    pub written_all_step : length starts ≤ d → {counts : List ℕ} → counts ≡ four_counts used → together rows lists counts ≡ tables_of (program_of is)
     unfolding tables_of
     written_all_step k {counts} e =
         let p = program_of is in
         rw e
-        (filling_all h (omega (arith, r.number))
+        (filling_all h (omega (arith, ready_number r))
         ∙ ap laid_out (filled_same p (value_in values) (value_of p) v.exact 0 0 0 0 p (omega arith) r.allowed.each))
 
-    -- the next declaration, as the code finds its items
-    module _ (k : d < n) {to : ℕ} (e : to ≡ get_or (take n starts) (suc d) count) where
+    -- the next declaration, of which these are the items
+    module _ (k : d < length starts) (body : List Item) (e : declaration_of body ≡ declaration_at (program_of is) d) where
       inside : d < length (program_of is)
-      inside = rw r.number at k
+      inside = rw (ready_number r) at k
 
-      body : declaration_of (items_between items (get_or starts d 0 + 1) to) ≡ declaration_at (program_of is) d
-      body = ready_body r d k e
-
-      pub written_fits : Writable values used (declaration_of (items_between items (get_or starts d 0 + 1) to))
+      pub written_fits : Writable values used (declaration_of body)
       written_fits =
-          subst (λ (c : Declaration). Writable values used c) (sym body)
+          subst (λ (c : Declaration). Writable values used c) (sym e)
           (record {
             rows = room_rows h within inside;
             value = subst (λ (i : ℕ). FitValue values i) (sym h.place) (value_fit v (ready_few r) inside);
@@ -63,10 +58,10 @@ module _ {is : List Item} {items : List ℕ} {count : ℕ} {starts : List ℕ} {
           })
 
       pub written_next : {used' : Counts} {rows' : List ℤ} {lists' : Lists}
-          → Added (value_in values) used (declaration_of (items_between items (get_or starts d 0 + 1) to)) rows lists used' rows' lists'
+          → Added (value_in values) used (declaration_of body) rows lists used' rows' lists'
           → Filling (value_in values) (program_of is) (d + 1) used' rows' lists'
       written_next {used'} {rows'} {lists'} a =
-          filling_next h within inside (subst (λ (c : Declaration). Added (value_in values) used c rows lists used' rows' lists') body a)
+          filling_next h within inside (subst (λ (c : Declaration). Added (value_in values) used c rows lists used' rows' lists') e a)
 
 -- the same of a declaration that is told in another way
 pub writable_as : {values : List ℤ} {used : Counts} {c d : Declaration} → c ≡ d → Writable values used c → Writable values used d

@@ -1,35 +1,24 @@
 -- What the contracts cite: no part of the rules.
 use Rattle.std.specs.Prelude.{◌≡◌, Bool, List, [], ◌∷◌, map, ℕ, ◌+◌, ◌*◌, ◌≤◌, ◌<◌, ◌^◌, ltb, ℤ, pos, nat_abs, length, get_or, replicate, Option, Some, None}
 use Rattle.std.proofs.lemmas.List.Edits.{sets}
-use Rattle.grammar.specs.Items.{item_at}
 use Rattle.grammar.specs.Reading.{most_terms}
-use Rattle.names.specs.Parts.{Part, part}
+use Rattle.names.specs.Parts.{Part}
 use Rattle.values.specs.Values.{Term, farthest_tone}
 use Rattle.values.specs.Rows.{rows}
-use Rattle.tuning.specs.declared.Tone.{Tone}
-use Rattle.tuning.specs.declared.ToneChange.{ToneChange}
 use Rattle.tuning.specs.declared.Retuning.TheVariants.{Anchor, Width, Period, Tones}
 use Rattle.tables.specs.declared.Counts.{Counts}
 use Rattle.tables.specs.declared.Row.{Row}
 use Rattle.tables.specs.declared.Row.TheVariants as row
 use Rattle.tables.specs.Layout.{Tables, most_rows, row_width, most_tones, most_changes, most_orders, counts_size, numbers_of, written, amount_number, sounding_of, pitch_of, change_code, change_number}
 use Rattle.program.specs.Program.{Declaration, ratio, root, sequence, frequency, from, system, anchor, width, fresh_period, onward_period, tones, pattern, logic, harmony, Program, Position, mute, kept, named, Trigger, by_letter, by_harmony, Order}
-use Rattle.program.specs.Program.{AsListed, unlisted, a_term, muted_position, kept_position, tone_position, a_start, a_trigger, a_call, a_key, group_then, grouped, order_then, ordered}
+use Rattle.program.specs.Program.{AsListed, unlisted, a_term, muted_position, kept_position, tone_position, a_start, a_trigger, a_call, a_key, group_then, order_then}
 use Rattle.program.specs.Meaning.{value_of}
 use Rattle.program.specs.Allowed.{Each}
 use Rattle.limits.specs.Limits.{most_factor, most_harmony_key}
 use Rattle.harmonies.specs.Harmonies.{HarmonyKey}
-use Rattle.names.specs.Inner.{items_between}
-use Rattle.filling.specs.declared.lists.ToneHere.{ToneHere}
-use Rattle.filling.specs.declared.lists.ToneHere.TheVariants as toneHere
-use Rattle.filling.specs.declared.lists.ChangeHere.{ChangeHere}
-use Rattle.filling.specs.declared.lists.ChangeHere.TheVariants as changeHere
+use Rattle.filling.specs.declared.lists.Order.{Order as OrderRead}
 use Rattle.filling.specs.declared.triggers.Trigger.{Trigger as TriggerRead}
 use Rattle.filling.specs.declared.triggers.Trigger.TheVariants as triggerRead
-use Rattle.filling.specs.declared.triggers.TriggerHere.{TriggerHere}
-use Rattle.filling.specs.declared.triggers.TriggerHere.TheVariants as triggerHere
-use Rattle.filling.specs.declared.lists.OrderHere.{OrderHere}
-use Rattle.filling.specs.declared.lists.OrderHere.TheVariants as orderHere
 use Rattle.filling.specs.Tables.{tones_of, changes_of, orders_of, start_code, trigger_code, row_of}
 
 -- how large a term is
@@ -71,9 +60,6 @@ position_by q ts = (group_then q (record { before = ts; positions = [] })).posit
 abbrev pub begins : Part → Bool
 begins q = ltb 0 (length (position_by q []))
 
-abbrev pub position_at : List ℕ → ℕ → ℕ → List Position
-position_at items i to = position_by (part (item_at items i)) (grouped (items_between items (i + 1) to)).before
-
 -- the trigger that a part is, if it is one
 abbrev pub as_trigger : AsListed → Option Trigger
 as_trigger (a_trigger x) = Some x
@@ -90,30 +76,19 @@ as_trigger (a_key k) = None
 abbrev pub order_by : Part → Option ℕ → List Order
 order_by q called = (order_then q (record { call = called; orders = [] })).orders
 
-abbrev pub order_at : List ℕ → ℕ → ℕ → List Order
-order_at items i to = order_by (part (item_at items i)) (ordered (items_between items (i + 1) to)).call
-
--- what an item gives to the tones, a position to the changes, or a trigger with its call to the orders
-abbrev pub tones_here : ToneHere → List Tone
-tones_here toneHere.Nothing = []
-tones_here (toneHere.Tone t) = t ∷ []
-
-abbrev pub changes_here : ChangeHere → List ToneChange
-changes_here changeHere.Nothing = []
-changes_here (changeHere.Change x) = x ∷ []
+-- the one thing that is found, or none
+abbrev pub found : {A : Type 0} → Option A → List A
+found None = []
+found (Some x) = x ∷ []
 
 -- a trigger as the code holds it
 abbrev pub trigger_by : TriggerRead → Trigger
 trigger_by (triggerRead.Letter c) = by_letter c
 trigger_by (triggerRead.Harmony k) = by_harmony k
 
-abbrev pub triggers_here : TriggerHere → Option Trigger
-triggers_here triggerHere.Nothing = None
-triggers_here (triggerHere.Trigger x) = Some (trigger_by x)
-
-abbrev pub orders_here : OrderHere → List Order
-orders_here orderHere.Nothing = []
-orders_here (orderHere.Order x n) = record { trigger = trigger_by x; calls = n } ∷ []
+-- and an order
+abbrev pub order_read : OrderRead → Order
+order_read x = record { trigger = trigger_by x.trigger; calls = x.calls }
 
 -- the code of an order's trigger, and what the order calls
 abbrev pub trigger_of : Order → ℕ

@@ -5,10 +5,9 @@ ghost use Rattle.names.specs.Parts.{part};
 ghost use Rattle.program.specs.Program.{key_of, key_then, keys_of};
 ghost use Rattle.program.specs.Allowed.{Each};
 ghost use Rattle.harmonies.specs.Harmonies.{naming, naming_all, harmony_of};
-ghost use Rattle.names.specs.Inner.{items_between};
 ghost use Rattle.filling.specs.Inner.{FitKey};
 
-use grammar::{Item, items};
+use grammar::Item;
 use harmonies::Harmony;
 
 // The harmony with one key more: "a star before a number means that it may be held or not".
@@ -40,17 +39,17 @@ fn name_item(harmony: Harmony, item: Item) -> Harmony
     }
 }
 
-// The harmony of the keys that stand from one place to another.
-pub fn read_harmony(items: &[u32], from: usize, to: usize) -> Harmony
-    requires { Each FitKey (keys_of (items_between items.now from to)) }
-    ensures { result ≡ harmony_of (keys_of (items_between items.now from to)) }
+// The harmony of the keys among the items.
+pub fn read_harmony(items: &[Item]) -> Harmony
+    requires { Each FitKey (keys_of items.now) }
+    ensures { result ≡ harmony_of (keys_of items.now) }
 {
     let mut harmony = Harmony {
         needed: 0,
         named: 0,
     };
-    for i in from..to {
-        harmony = name_item(harmony, items::item_at(items, i));
+    for item in items {
+        harmony = name_item(harmony, *item);
     }
     harmony
 }

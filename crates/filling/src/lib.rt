@@ -8,34 +8,30 @@ mod rows;
 mod sums;
 mod triggers;
 
-ghost use Rattle.std.specs.Prelude.{◌≡◌, List};
-ghost use Rattle.grammar.specs.declared.Item.{Item};
-ghost use Rattle.names.specs.Inner.{items_in};
+ghost use Rattle.std.specs.Prelude.{◌≡◌};
 ghost use Rattle.tables.specs.Layout.{tables_in};
 ghost use Rattle.program.specs.Program.{program_of};
 ghost use Rattle.valuation.specs.Inner.{Ready};
 ghost use Rattle.filling.specs.Tables.{tables_of};
 ghost use Rattle.filling.specs.Inner.{Valued, blank};
 
+use grammar::Item;
 use rows::write_declaration;
 use tables::{Counts, SOUNDING_AT, encode};
+use valuation::body_at;
 
-// Writes the tables of n declarations into tables that are zero.
+// Writes the tables of all declarations into tables that are zero.
 pub fn write_tables(
-    items: &[u32],
-    count: usize,
+    items: &[Item],
     starts: &[u32],
-    n: usize,
     values: &[i64],
     numbers: &mut [i32],
     codes: &mut [u16],
 )
-    ghost is: { List Item }
-    requires value { items_in count items.now ≡ is }
-    requires ready { Ready is items.now count starts.now n }
-    requires valued { Valued (program_of is) values.now }
+    requires ready { Ready items.now starts.now }
+    requires valued { Valued (program_of items.now) values.now }
     requires codes_value { tables_in numbers.old codes.old ≡ blank }
-    ensures { tables_in numbers.new codes.new ≡ tables_of (program_of is) }
+    ensures { tables_in numbers.new codes.new ≡ tables_of (program_of items.now) }
 {
     let mut used = Counts {
         rows: 0,
@@ -43,10 +39,9 @@ pub fn write_tables(
         changes: 0,
         orders: 0,
     };
-    for d in 0..n {
-        let from = starts[d] as usize + 1;
-        let to = valuation::end_of(starts, n, count, d);
-        used = write_declaration(items, from, to, values, used, numbers, codes);
+    for d in 0..starts.len() {
+        let body = body_at(items, starts, d);
+        used = write_declaration(body, values, used, numbers, codes);
     }
     encode::store_counts(&mut codes[0..SOUNDING_AT], used);
 }

@@ -3,7 +3,6 @@ ghost use Rattle.std.specs.Prelude.{◌≡◌, [], ◌∷◌, ◌+◌, ◌≤◌
 ghost use Rattle.tables.specs.Layout.{tables_in, triggers_in, calls_in, most_rows, most_orders, sounding_of, pitch_of, change_code, change_number};
 ghost use Rattle.program.specs.Program.{asking, form_of, declaration_of, period_of, tones, grouped, start_of, orders_of, keys_of};
 ghost use Rattle.harmonies.specs.Harmonies.{harmony_of};
-ghost use Rattle.names.specs.Inner.{items_between};
 ghost use Rattle.tables.specs.Values.{Slices};
 ghost use Rattle.program.specs.Allowed.{Each};
 ghost use Rattle.filling.specs.Tables.{tones_of, changes_of, trigger_code, row_of};
@@ -13,30 +12,21 @@ use crate::harmony::read_harmony;
 use crate::lists;
 use crate::readers::{interval_at, pitch_at};
 use crate::sums::sum_terms;
-use crate::triggers::{Trigger, TriggerHere, code_of, read_trigger};
+use crate::triggers::{Trigger, code_of, read_trigger};
 use cents::KeyNumber;
-use grammar::{Form, Item, items};
+use grammar::{Form, Item};
 use tables::{
     CHANGES_AT, CODES, Counts, KINDS_AT, NUMBERS, ORDERS_AT, Row, SOUNDING_AT, TONES_AT, encode,
 };
 use tuning::{Amount, Operator, PeriodChange, Retuning};
 use valuation::skip_names;
 
-fn make_anchor(amount: Amount) -> Row
-    ensures { result ≡ Row.Retuning (Retuning.Anchor amount) 0 0 }
+// The row of a retuning with no list.
+fn make_retuning(retuning: Retuning) -> Row
+    ensures { result ≡ Row.Retuning retuning 0 0 }
 {
     Row::Retuning {
-        retuning: Retuning::Anchor(amount),
-        from: 0,
-        to: 0,
-    }
-}
-
-fn make_width(amount: Amount) -> Row
-    ensures { result ≡ Row.Retuning (Retuning.Width amount) 0 0 }
-{
-    Row::Retuning {
-        retuning: Retuning::Width(amount),
+        retuning,
         from: 0,
         to: 0,
     }
@@ -47,14 +37,14 @@ fn make_asking(form: Form, n: u16) -> Row
     ensures { result ≡ plain_row (pos 0) (asking form n) }
 {
     match form {
-        Form::AnchorTo => make_anchor(Amount::Absolute(n)),
-        Form::AnchorUp => make_anchor(Amount::Relative(Operator::Plus, n)),
-        Form::AnchorDown => make_anchor(Amount::Relative(Operator::Minus, n)),
-        Form::WidthTo => make_width(Amount::Absolute(n)),
-        Form::WidthUp => make_width(Amount::Relative(Operator::Plus, n)),
-        Form::WidthDown => make_width(Amount::Relative(Operator::Minus, n)),
-        Form::WidthTimes => make_width(Amount::Relative(Operator::Times, n)),
-        Form::WidthOver => make_width(Amount::Relative(Operator::Divide, n)),
+        Form::AnchorTo => make_retuning(Retuning::Anchor(Amount::Absolute(n))),
+        Form::AnchorUp => make_retuning(Retuning::Anchor(Amount::Relative(Operator::Plus, n))),
+        Form::AnchorDown => make_retuning(Retuning::Anchor(Amount::Relative(Operator::Minus, n))),
+        Form::WidthTo => make_retuning(Retuning::Width(Amount::Absolute(n))),
+        Form::WidthUp => make_retuning(Retuning::Width(Amount::Relative(Operator::Plus, n))),
+        Form::WidthDown => make_retuning(Retuning::Width(Amount::Relative(Operator::Minus, n))),
+        Form::WidthTimes => make_retuning(Retuning::Width(Amount::Relative(Operator::Times, n))),
+        Form::WidthOver => make_retuning(Retuning::Width(Amount::Relative(Operator::Divide, n))),
     }
 }
 
@@ -67,63 +57,44 @@ fn make_plain(item: Item, values: &[i64], row: usize) -> Row
     match item {
         Item::Frequency(_) => Row::Tone(pitch_at(values, row)),
         Item::Base(_) => Row::Tone(pitch_at(values, row)),
-        Item::AnchorKept => make_anchor(Amount::Kept),
-        Item::WidthKept => make_width(Amount::Kept),
+        Item::AnchorKept => make_retuning(Retuning::Anchor(Amount::Kept)),
+        Item::WidthKept => make_retuning(Retuning::Width(Amount::Kept)),
         Item::Amount(form, n) => make_asking(form, n as u16),
         Item::AmountName(_, _) => Row::Pattern,
         _ => Row::Interval(interval_at(values, row)),
     }
 }
 
-fn make_period(change: PeriodChange) -> Row
-    ensures { result ≡ Row.Retuning (Retuning.Period change) 0 0 }
-{
-    Row::Retuning {
-        retuning: Retuning::Period(change),
-        from: 0,
-        to: 0,
-    }
-}
-
 // The row of a period retuning: its items after `[ ]`.
-fn read_period(items: &[u32], from: usize, to: usize, values: &[i64]) -> Row
-    requires { FitParts values.now (period_of (items_between items.now from to)) }
-    ensures { result ≡ row_of (value_in values.now) 0 0 0 0 (period_of (items_between items.now from to)) }
+fn read_period(items: &[Item], values: &[i64]) -> Row
+    requires { FitParts values.now (period_of items.now) }
+    ensures { result ≡ row_of (value_in values.now) 0 0 0 0 (period_of items.now) }
 {
-    let sum = sum_terms(items, from, to, values).to_interval();
-    if to <= from {
-        return make_period(PeriodChange::Fresh(sum));
-    }
-    let Item::Onward = items::item_at(items, from) else {
-        return make_period(PeriodChange::Fresh(sum));
+    let sum = sum_terms(items, values).to_interval();
+    let fresh = make_retuning(Retuning::Period(PeriodChange::Fresh(sum)));
+    let Some((first, _)) = items.split_first() else {
+        return fresh;
     };
-    make_period(PeriodChange::Onward(sum))
+    let Item::Onward = *first else {
+        return fresh;
+    };
+    make_retuning(Retuning::Period(PeriodChange::Onward(sum)))
 }
 
-// Writes the positions of a tone system, whose items after its anchor stand there. Answers its row.
+// Writes the positions of a tone system, by its items after its anchor. Answers its row.
 fn write_system(
-    items: &[u32],
-    from: usize,
-    to: usize,
+    items: &[Item],
     values: &[i64],
     key: u32,
     used: Counts,
     sounding: &mut [u16],
     tones: &mut [i32],
 ) -> Row
-    requires { Writable values.now used (form_of (Item.AnchorKey key ∷ items_between items.now from to)) }
-    ensures value { result ≡ row_after (value_in values.now) used (form_of (Item.AnchorKey key ∷ items_between items.now from to)) }
-    ensures stored { Stored sounding_of pitch_of (tones_of (value_in values.now) (form_of (Item.AnchorKey key ∷ items_between items.now from to))) used.tones sounding.old tones.old sounding.new tones.new }
+    requires { Writable values.now used (form_of (Item.AnchorKey key ∷ items.now)) }
+    ensures value { result ≡ row_after (value_in values.now) used (form_of (Item.AnchorKey key ∷ items.now)) }
+    ensures stored { Stored sounding_of pitch_of (tones_of (value_in values.now) (form_of (Item.AnchorKey key ∷ items.now))) used.tones sounding.old tones.old sounding.new tones.new }
 {
-    let end = lists::write_positions(
-        items,
-        from,
-        to,
-        values,
-        sounding,
-        tones,
-        used.tones as usize,
-    );
+    let end = lists::write_positions(items, values, sounding, tones, used.tones as usize);
     Row::System {
         anchor: KeyNumber(key as u8),
         period: interval_at(values, used.rows as usize),
@@ -134,27 +105,17 @@ fn write_system(
 
 // Writes the positions of a tones retuning. Answers its row.
 fn write_tones(
-    items: &[u32],
-    from: usize,
-    to: usize,
+    items: &[Item],
     values: &[i64],
     used: Counts,
     kinds: &mut [u16],
     changes: &mut [i32],
 ) -> Row
-    requires { Writable values.now used (tones (grouped (items_between items.now from to)).positions) }
-    ensures value { result ≡ row_after (value_in values.now) used (tones (grouped (items_between items.now from to)).positions) }
-    ensures stored { Stored change_code change_number (changes_of (value_in values.now) (tones (grouped (items_between items.now from to)).positions)) used.changes kinds.old changes.old kinds.new changes.new }
+    requires { Writable values.now used (tones (grouped items.now).positions) }
+    ensures value { result ≡ row_after (value_in values.now) used (tones (grouped items.now).positions) }
+    ensures stored { Stored change_code change_number (changes_of (value_in values.now) (tones (grouped items.now).positions)) used.changes kinds.old changes.old kinds.new changes.new }
 {
-    let end = lists::write_changes(
-        items,
-        from,
-        to,
-        values,
-        kinds,
-        changes,
-        used.changes as usize,
-    );
+    let end = lists::write_changes(items, values, kinds, changes, used.changes as usize);
     Row::Retuning {
         retuning: Retuning::Tones,
         from: used.changes,
@@ -162,35 +123,28 @@ fn write_tones(
     }
 }
 
-// Writes the orders of a logic, whose items after its trigger stand there. Answers its row.
-fn write_logic(
-    items: &[u32],
-    from: usize,
-    to: usize,
-    trigger: Trigger,
-    used: Counts,
-    orders: &mut [u16],
-) -> Row
-    requires fit_logic { FitLogic (trigger_by trigger) (start_of (items_between items.now from to)) (orders_of (items_between items.now from to)) }
-    requires to_bound { used.orders + length (orders_of (items_between items.now from to)) ≤ most_orders }
-    ensures value { result ≡ Row.Logic (trigger_code (trigger_by trigger)) (called_by (start_of (items_between items.now from to))) used.orders (used.orders + length (orders_of (items_between items.now from to))) }
-    ensures stored { Stored trigger_of call_of (orders_of (items_between items.now from to)) used.orders (triggers_in orders.old) (calls_in orders.old) (triggers_in orders.new) (calls_in orders.new) }
+// Writes the orders of a logic, by its items after its trigger. Answers its row.
+fn write_logic(items: &[Item], trigger: Trigger, used: Counts, orders: &mut [u16]) -> Row
+    requires fit_logic { FitLogic (trigger_by trigger) (start_of items.now) (orders_of items.now) }
+    requires to_bound { used.orders + length (orders_of items.now) ≤ most_orders }
+    ensures value { result ≡ Row.Logic (trigger_code (trigger_by trigger)) (called_by (start_of items.now)) used.orders (used.orders + length (orders_of items.now)) }
+    ensures stored { Stored trigger_of call_of (orders_of items.now) used.orders (triggers_in orders.old) (calls_in orders.old) (triggers_in orders.new) (calls_in orders.new) }
 {
-    let end = lists::write_orders(items, from, to, orders, used.orders as usize);
+    let end = lists::write_orders(items, orders, used.orders as usize);
     Row::Logic {
         trigger: code_of(trigger),
-        start: lists::find_start(items, from, to),
+        start: lists::find_start(items),
         from: used.orders,
         to: end as u32,
     }
 }
 
-// The row of a harmony, whose keys stand there.
-fn make_harmony(items: &[u32], from: usize, to: usize) -> Row
-    requires { Each FitKey (keys_of (items_between items.now from to)) }
-    ensures { result ≡ Row.Harmony (harmony_of (keys_of (items_between items.now from to))).needed (harmony_of (keys_of (items_between items.now from to))).named }
+// The row of a harmony of these keys.
+fn make_harmony(items: &[Item]) -> Row
+    requires { Each FitKey (keys_of items.now) }
+    ensures { result ≡ Row.Harmony (harmony_of (keys_of items.now)).needed (harmony_of (keys_of items.now)).named }
 {
-    let harmony = read_harmony(items, from, to);
+    let harmony = read_harmony(items);
     Row::Harmony {
         needed: harmony.needed,
         named: harmony.named,
@@ -231,82 +185,73 @@ fn count_row(used: Counts, row: Row) -> Counts
     next
 }
 
-// Writes the tones, changes or orders of the declaration whose items stand there. Answers its row.
+// Writes the tones, changes or orders of the declaration of these items. Answers its row.
 fn write_lists(
-    items: &[u32],
-    from: usize,
-    to: usize,
+    items: &[Item],
     values: &[i64],
     used: Counts,
     numbers: &mut [i32],
     codes: &mut [u16],
 ) -> Row
     requires slices { Slices numbers.old codes.old }
-    requires writable { Writable values.now used (form_of (items_between items.now from to)) }
-    ensures { RowedIn (value_in values.now) used (form_of (items_between items.now from to)) (tables_in numbers.old codes.old) result (tables_in numbers.new codes.new) }
+    requires writable { Writable values.now used (form_of items.now) }
+    ensures { RowedIn (value_in values.now) used (form_of items.now) (tables_in numbers.old codes.old) result (tables_in numbers.new codes.new) }
 {
     let row = used.rows as usize;
-    if to <= from {
+    let Some((item, rest)) = items.split_first() else {
         return Row::Interval(interval_at(values, row));
-    }
-    let item = items::item_at(items, from);
-    if lists::is_position(item) {
+    };
+    if lists::is_position(*item) {
         let kinds = &mut codes[KINDS_AT..ORDERS_AT];
         let changes = &mut numbers[CHANGES_AT..NUMBERS];
-        return write_tones(items, from, to, values, used, kinds, changes);
+        return write_tones(items, values, used, kinds, changes);
     }
-    let rest = from + 1;
-    if let TriggerHere::Trigger(trigger) = read_trigger(item) {
+    if let Some(trigger) = read_trigger(*item) {
         let orders = &mut codes[ORDERS_AT..CODES];
-        return write_logic(items, rest, to, trigger, used, orders);
+        return write_logic(rest, trigger, used, orders);
     }
-    match item {
+    match *item {
         Item::AnchorKey(key) => {
             let sounding = &mut codes[SOUNDING_AT..KINDS_AT];
             let tones = &mut numbers[TONES_AT..CHANGES_AT];
-            write_system(items, rest, to, values, key, used, sounding, tones)
+            write_system(rest, values, key, used, sounding, tones)
         }
-        Item::Period => read_period(items, rest, to, values),
-        Item::Onward => read_period(items, from, to, values),
-        Item::Key(_) => make_harmony(items, from, to),
-        Item::StarredKey(_) => make_harmony(items, from, to),
-        _ => make_plain(item, values, row),
+        Item::Period => read_period(rest, values),
+        Item::Onward => read_period(items, values),
+        Item::Key(_) => make_harmony(items),
+        Item::StarredKey(_) => make_harmony(items),
+        _ => make_plain(*item, values, row),
     }
 }
 
-// Writes the declaration whose parts stand there: its row, and what belongs to it. Answers how many there are then.
+// Writes the declaration of these parts: its row, and what belongs to it. Answers how many there are then.
 fn write_parts(
-    items: &[u32],
-    from: usize,
-    to: usize,
+    items: &[Item],
     values: &[i64],
     used: Counts,
     numbers: &mut [i32],
     codes: &mut [u16],
 ) -> Counts
     requires slices { Slices numbers.old codes.old }
-    requires writable { Writable values.now used (form_of (items_between items.now from to)) }
-    ensures { AddedIn (value_in values.now) used (form_of (items_between items.now from to)) (tables_in numbers.old codes.old) result (tables_in numbers.new codes.new) }
+    requires writable { Writable values.now used (form_of items.now) }
+    ensures { AddedIn (value_in values.now) used (form_of items.now) (tables_in numbers.old codes.old) result (tables_in numbers.new codes.new) }
 {
-    let row = write_lists(items, from, to, values, used, numbers, codes);
+    let row = write_lists(items, values, used, numbers, codes);
     encode::store_row(&mut numbers[0..TONES_AT], used.rows as usize, row);
     count_row(used, row)
 }
 
 // The same of all its items, of which the names of its placeholders come first.
 pub fn write_declaration(
-    items: &[u32],
-    from: usize,
-    to: usize,
+    items: &[Item],
     values: &[i64],
     used: Counts,
     numbers: &mut [i32],
     codes: &mut [u16],
 ) -> Counts
     requires slices { Slices numbers.old codes.old }
-    requires writable { Writable values.now used (declaration_of (items_between items.now from to)) }
-    ensures { AddedIn (value_in values.now) used (declaration_of (items_between items.now from to)) (tables_in numbers.old codes.old) result (tables_in numbers.new codes.new) }
+    requires writable { Writable values.now used (declaration_of items.now) }
+    ensures { AddedIn (value_in values.now) used (declaration_of items.now) (tables_in numbers.old codes.old) result (tables_in numbers.new codes.new) }
 {
-    let parts = skip_names(items, from, to);
-    write_parts(items, parts, to, values, used, numbers, codes)
+    write_parts(skip_names(items), values, used, numbers, codes)
 }

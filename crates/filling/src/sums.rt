@@ -4,14 +4,13 @@ ghost use Rattle.grammar.specs.Reading.{most_terms};
 ghost use Rattle.names.specs.Parts.{part};
 ghost use Rattle.program.specs.Program.{term_then, terms_of};
 ghost use Rattle.program.specs.Allowed.{Each};
-ghost use Rattle.names.specs.Inner.{items_between};
 ghost use Rattle.tuning.specs.Capped.{capped};
 ghost use Rattle.filling.specs.Tables.{sum_of};
 ghost use Rattle.filling.specs.Inner.{greatest_factor, largest_term, value_in, FitValue, FitTerm, Summable};
 
 use crate::readers::interval_at;
 use cents::{Interval, Pitch};
-use grammar::{Item, items};
+use grammar::Item;
 use tuning::FARTHEST_SUM;
 
 const LOWEST: i64 = -HIGHEST;
@@ -60,14 +59,14 @@ fn weigh(item: Item, values: &[i64]) -> i64
     }
 }
 
-// The sum of the terms that stand from one place to another.
-pub fn sum_terms(items: &[u32], from: usize, to: usize, values: &[i64]) -> Sum
-    requires { Summable values.now (terms_of (items_between items.now from to)) }
-    ensures { result.0 ≡ sum_of (value_in values.now) (terms_of (items_between items.now from to)) }
+// The sum of the terms among the items.
+pub fn sum_terms(items: &[Item], values: &[i64]) -> Sum
+    requires { Summable values.now (terms_of items.now) }
+    ensures { result.0 ≡ sum_of (value_in values.now) (terms_of items.now) }
 {
     let mut sum = 0;
-    for i in from..to {
-        sum += weigh(items::item_at(items, i), values);
+    for item in items {
+        sum += weigh(*item, values);
     }
     Sum(sum)
 }

@@ -1,9 +1,10 @@
 // What a logic or an order waits for, and its code in the tables.
 ghost use Rattle.std.specs.Prelude.{◌≡◌, ◌<◌, ◌^◌};
+ghost use Rattle.std.specs.Option.{option_map};
 ghost use Rattle.names.specs.Parts.{part};
 ghost use Rattle.program.specs.Program.{as_listed};
 ghost use Rattle.filling.specs.Tables.{trigger_code};
-ghost use Rattle.filling.specs.Inner.{as_trigger, trigger_by, triggers_here};
+ghost use Rattle.filling.specs.Inner.{as_trigger, trigger_by};
 
 use grammar::Item;
 use tables::HARMONY_BASE;
@@ -15,20 +16,14 @@ pub enum Trigger {
     Harmony(u32),
 }
 
-// A trigger, where an item is one.
-#[derive(Clone, Copy)]
-pub enum TriggerHere {
-    Nothing,
-    Trigger(Trigger),
-}
-
-pub fn read_trigger(item: Item) -> TriggerHere
-    ensures { triggers_here result ≡ as_trigger (as_listed (part item)) }
+// The trigger that an item is, if it is one.
+pub fn read_trigger(item: Item) -> Option<Trigger>
+    ensures { option_map trigger_by result ≡ as_trigger (as_listed (part item)) }
 {
     match item {
-        Item::Letter(c) => TriggerHere::Trigger(Trigger::Letter(c)),
-        Item::Trigger(k) => TriggerHere::Trigger(Trigger::Harmony(k)),
-        _ => TriggerHere::Nothing,
+        Item::Letter(c) => Some(Trigger::Letter(c)),
+        Item::Trigger(k) => Some(Trigger::Harmony(k)),
+        _ => None,
     }
 }
 

@@ -19,10 +19,10 @@ returns-in-Base c =
     rw c.in-Base.is (ap (λ (z : ℤ). Tone (record { 0 = z })) c.pitch_at-in-Base.ensures)
 
 pub returns-in-AnchorKept : goal.returns-in-AnchorKept
-returns-in-AnchorKept c = rw c.in-AnchorKept.is c.make_anchor.ensures
+returns-in-AnchorKept c = rw c.in-AnchorKept.is c.make_retuning.ensures
 
 pub returns-in-WidthKept : goal.returns-in-WidthKept
-returns-in-WidthKept c = rw c.in-WidthKept.is c.make_width.ensures
+returns-in-WidthKept c = rw c.in-WidthKept.is c.make_retuning-in-WidthKept.ensures
 
 pub returns-in-Amount : goal.returns-in-Amount
 returns-in-Amount c = as_asking _ c.in-Amount.form c.in-Amount.n c.in-Amount.is c.make_asking.ensures
