@@ -5,7 +5,7 @@ mod actions;
 mod items;
 mod moves;
 pub mod reading;
-mod terminals;
+pub mod terminals;
 
 use status::Refusal;
 

@@ -31,7 +31,8 @@ use Rattle.grammar.specs.declared.Item.TheVariants as item
 use Rattle.grammar.specs.declared.Counts.{Counts}
 use Rattle.grammar.specs.declared.Progress.{Progress}
 use Rattle.grammar.specs.declared.Span.{Span}
-use Rattle.grammar.specs.Syntax.{Terminal, Node, Rule, rules}
+use Rattle.grammar.specs.declared.terminals.Terminal.{Terminal}
+use Rattle.grammar.specs.Syntax.{Node, Rule, rules}
 use Rattle.grammar.specs.Terminals.{picked, terminal_of, start_of, span_of}
 use Rattle.grammar.specs.Reading.{Outcome, refusal, Read, limit, so_far, one_more, most_terms, most_positions, next_term, with_counts, with_positions, with_keys, with_key, with_bracketed, in_brackets, no_term, unless_full, key_counted, key_named, order_counted, counted, term_item, termed, positioned, used, judged, if_allowed, numbered, acted, Standing, Moved, then_at, by_rule, stepped, begun, with, refused_at, read_from, most_bytes, read_items}
 use Rattle.grammar.specs.Reading as reading

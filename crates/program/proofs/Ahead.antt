@@ -16,7 +16,7 @@ use Rattle.grammar.specs.declared.Action.{Action}
 use Rattle.grammar.specs.declared.Item.{Item}
 use Rattle.grammar.specs.declared.Item.TheVariants as item
 use Rattle.grammar.specs.declared.Progress.{Progress}
-use Rattle.grammar.specs.Syntax.{Terminal}
+use Rattle.grammar.specs.declared.terminals.Terminal.{Terminal}
 use Rattle.grammar.specs.Terminals.{terminal_of, span_of}
 use Rattle.grammar.specs.Reading.{Outcome, most_terms, most_positions, acted}
 use Rattle.program.specs.Allowed.{Decimal, Degree}

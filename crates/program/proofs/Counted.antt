@@ -26,7 +26,8 @@ use Rattle.grammar.specs.declared.Item.TheVariants as item
 use Rattle.grammar.specs.declared.Counts.{Counts}
 use Rattle.grammar.specs.declared.Progress.{Progress}
 use Rattle.grammar.specs.declared.Span.{Span}
-use Rattle.grammar.specs.Syntax.{Terminal, Node, OrderLetter, OrderName, Rule, rules}
+use Rattle.grammar.specs.declared.terminals.Terminal.{Terminal}
+use Rattle.grammar.specs.Syntax.{Node, OrderLetter, OrderName, Rule, rules}
 use Rattle.grammar.specs.Terminals.{picked, terminal_of, span_of}
 use Rattle.grammar.specs.Moves.{node_number, kind_number, class_size, action_at}
 use Rattle.grammar.specs.Reading.{Outcome, refusal, limit, so_far, one_more, most_terms, most_positions, next_term, with_positions, with_key, no_term, unless_full, key_counted, key_named, term_item, termed, positioned, used, numbered, acted, read_items}

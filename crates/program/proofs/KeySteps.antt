@@ -21,7 +21,7 @@ use Rattle.grammar.specs.declared.Item.{Item}
 use Rattle.grammar.specs.declared.Item.TheVariants as item
 use Rattle.grammar.specs.declared.Progress.{Progress}
 use Rattle.grammar.specs.declared.Span.{Span}
-use Rattle.grammar.specs.Syntax.{Terminal}
+use Rattle.grammar.specs.declared.terminals.Terminal.{Terminal}
 use Rattle.grammar.specs.Terminals.{span_of}
 use Rattle.grammar.specs.Reading.{refusal, with_key, key_counted, key_named, acted}
 use Rattle.program.proofs.Formed.{KeyItems, no_key, plain_key, starred_key_case, something, a_harmony}

@@ -13,7 +13,7 @@ use Rattle.grammar.specs.declared.Item.{Item}
 use Rattle.grammar.specs.declared.Item.TheVariants as item
 use Rattle.grammar.specs.declared.Progress.{Progress}
 use Rattle.grammar.specs.declared.Span.{Span}
-use Rattle.grammar.specs.Syntax.{Terminal}
+use Rattle.grammar.specs.declared.terminals.Terminal.{Terminal}
 use Rattle.grammar.specs.Terminals.{span_of}
 use Rattle.grammar.specs.Reading.{allowed, most_terms, most_positions, with_positions, no_term, positioned, acted}
 use Rattle.program.proofs.Formed.{no_term_holds, no_place, muted_place, tone_place, PositionItems, no_position, muted_position, kept_position, tone_position, something, Body, a_system, a_tones}

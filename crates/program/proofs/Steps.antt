@@ -18,7 +18,7 @@ use Rattle.grammar.specs.declared.Item.{Item}
 use Rattle.grammar.specs.declared.Item.TheVariants as item
 use Rattle.grammar.specs.declared.Progress.{Progress}
 use Rattle.grammar.specs.declared.Span.{Span}
-use Rattle.grammar.specs.Syntax.{Terminal}
+use Rattle.grammar.specs.declared.terminals.Terminal.{Terminal}
 use Rattle.grammar.specs.Terminals.{span_of}
 use Rattle.grammar.specs.Reading.{Outcome, allowed_amount, allowed, limit, so_far, unless_full, used, acted}
 use Rattle.program.proofs.Formed.{Body, a_ratio, a_root, a_frequency, anchor_kept_case, width_kept_case, an_amount, an_amount_name, after_names, no_name_case, a_name}

@@ -12,7 +12,7 @@ use Rattle.grammar.specs.declared.MarkUse.TheVariants.{Period, Onward}
 use Rattle.grammar.specs.declared.Action.TheVariants.{Held, Number, Sign, Name, Mark}
 use Rattle.grammar.specs.declared.Item.{Item}
 use Rattle.grammar.specs.declared.Progress.{Progress}
-use Rattle.grammar.specs.Syntax.{Terminal}
+use Rattle.grammar.specs.declared.terminals.Terminal.{Terminal}
 use Rattle.grammar.specs.Terminals.{start_of, span_of}
 use Rattle.grammar.specs.Reading.{most_terms, term_item, acted}
 use Rattle.program.proofs.Formed.{TermItems, add_term, subtract_term, a_sequence, from_tone, fresh_period_case, onward_period_case}
