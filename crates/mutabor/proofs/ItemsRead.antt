@@ -1,20 +1,20 @@
--- Once a text is read into items, the slice has them.
+-- Once a text is read into items, the slice begins with them.
 -- Assumes nothing.
 use mathlib.Core.Path.{◌≡◌, sym, ◌∙◌, ap, subst}
 use mathlib.Core.List.{List}
-use Prim.Native.Nat.{ℕ}
-use lib.ListN.{length}
+use Prim.Native.Nat.{ℕ, ◌≤◌}
+use native.Mathlib.Omega.{arith}
+use lib.ListN.{length, take, drop, length-append}
+use lib.Seq.{take_at}
 use Rattle.std.specs.Prelude.{Ok, Err}
 use Rattle.status.specs.Status.{done}
 use Rattle.status.specs.declared.Refusal.{Refusal}
 use Rattle.status.specs.Reasons.{number_of}
 use Rattle.status.proofs.ReasonNumbers.{never_done}
 use Rattle.grammar.specs.declared.Item.{Item}
-use Rattle.grammar.specs.Items.{holding, item_slots}
+use Rattle.grammar.specs.Items.{holding}
 use Rattle.grammar.specs.Reading.{read_items, Answered}
 use Rattle.names.specs.Names.{meanings}
-use Rattle.names.specs.Inner.{Held, items_in}
-use Rattle.names.proofs.Held.{held_after, items_after}
 use Rattle.tables.specs.Layout.{Tables}
 use Rattle.program.specs.Text.{by_meaning, read_text}
 use Rattle.filling.specs.Inner.{blank}
@@ -28,16 +28,20 @@ pub not_read : (text : List ℕ) (e : Refusal) → Answered (read_items text) (E
 not_read text e w f g h = items_refused text (λ z. never_done e.reason (sym w.0 ∙ z)) (f ∙ sym w.0) (g ∙ sym w.1) h
 
 -- or its items are read, so many
-module _ (text items : List ℕ) {items' : List ℕ} {n : ℕ} (w : Answered (read_items text) (Ok n)) (h : items' ≡ holding (read_items text).items items) where
+module _ (text : List ℕ) (items : List Item) {items' : List Item} {n : ℕ} (w : Answered (read_items text) (Ok n)) (h : items' ≡ holding (read_items text).items items) where
   pub all_read : (read_items text).number ≡ done
   all_read = w.1
 
-  pub same_items : (read_items text).items ≡ items_in n items'
-  same_items = sym (items_after (read_items text).items items h w.0)
+  pub same_items : (read_items text).items ≡ take n items'
+  same_items =
+      let is = (read_items text).items in
+      sym (ap (take n) h ∙ take_at is (drop (length is) items) n (sym w.0))
 
-  pub held_now : length items' ≡ item_slots → Held (items_in n items') items'
-  held_now k = subst (λ (l : List Item). Held l items') same_items (held_after (read_items text).items items h k)
+  pub count_within : n ≤ length items'
+  count_within =
+      let is = (read_items text).items in
+      omega (arith, w.0, ap length h, length-append is (drop (length is) items))
 
   module _ {q : TextReading} {after : Tables} where
-    pub names_meant : Leaves (by_verdict blank (by_meaning text (meanings text (items_in n items')))) q after → Leaves (by_verdict blank (read_text text)) q after
+    pub names_meant : Leaves (by_verdict blank (by_meaning text (meanings text (take n items')))) q after → Leaves (by_verdict blank (read_text text)) q after
     names_meant x = items_read text all_read (subst (λ (l : List Item). Leaves (by_verdict blank (by_meaning text (meanings text l))) q after) (sym same_items) x)

@@ -9,13 +9,11 @@ use lib.Seq.{take_all}
 use Rattle.limits.specs.Limits.{most_rows}
 use Rattle.status.specs.Status.{done}
 use Rattle.grammar.specs.declared.Item.{Item}
-use Rattle.grammar.specs.Items.{holding, item_slots}
 use Rattle.grammar.specs.Reading.{read_items}
 use Rattle.names.specs.Names.{declared, meanings}
-use Rattle.names.specs.Inner.{Held, items_in, beginnings, distinct, BothPasses}
+use Rattle.names.specs.Inner.{beginnings, distinct, BothPasses}
 use Rattle.names.specs.declared.Naming.{Naming}
 use Rattle.names.proofs.Lists.{begun_taken}
-use Rattle.names.proofs.Held.{length_items_in, held_after, items_after}
 use Rattle.names.proofs.Meanings.{Accepted, accepted}
 use Rattle.placeholders.specs.Filling.{settled}
 use Rattle.placeholders.proofs.Beginnings.{as_many}
@@ -31,8 +29,8 @@ use Rattle.mutabor.specs.Reading.{by_verdict, Leaves}
 use Rattle.mutabor.specs.Inner.{Resolved}
 use Rattle.mutabor.proofs.Steps.{if_zero_holds}
 
-module _ (text : List ℕ) (is : List Item) {items names starts items' names' starts' : List ℕ} {r : Naming}
-    (b : BothPasses text is items names starts r items' names' starts') (h : r.number ≡ done) where
+module _ (text : List ℕ) (is : List Item) {names starts : List ℕ} {is' : List Item} {names' starts' : List ℕ} {r : Naming}
+    (b : BothPasses text is names starts r is' names' starts') (h : r.number ≡ done) where
   meant : (meanings text is).number ≡ done
   meant = sym b.number ∙ h
 
@@ -42,9 +40,9 @@ module _ (text : List ℕ) (is : List Item) {items names starts items' names' st
   known : Accepted text is
   known = accepted text is meant
 
-  left : items' ≡ holding js items
+  left : is' ≡ js
   unfolding js
-  left = b.left ∙ ap (λ (x : List Item). holding x items) known.left
+  left = b.left ∙ known.left
 
   kept : r.declarations ≡ length (declared is)
   kept = b.count ∙ known.kept
@@ -60,33 +58,27 @@ module _ (text : List ℕ) (is : List Item) {items names starts items' names' st
       ap (λ (k : ℕ). take k starts') b.count ∙ ap (take (distinct text is)) b.begun ∙ begun_taken (beginnings is) starts (distinct text is) (omega arith)
       ∙ take_all (distinct text is) (beginnings is) (omega arith) ∙ sym same_beginnings
 
-  -- the items with their meanings, as the slice has them now
-  module _ (count : ℕ) (e : items_in count items ≡ is) (f : (read_items text).items ≡ is) (g : (read_items text).number ≡ done) (n : length items' ≡ item_slots) where
-    counted : items_in count items' ≡ (meanings text is).items
-    unfolding js
-    counted =
-        let c : count ≡ length js = sym (length_items_in count items) ∙ ap length e ∙ sym known.settles.same_length in
-        items_after js items left c
-
-    pub resolved_now : (m : length starts' ≡ most_rows) → Resolved text (items_in count items') items' starts' r.declarations
+  -- the items with their meanings
+  module _ (f : (read_items text).items ≡ is) (g : (read_items text).number ≡ done) where
+    pub resolved_now : (m : length starts' ≡ most_rows) → Resolved text is' starts' r.declarations
     unfolding js
     resolved_now m =
         let few = declared_few text (meanings text is).items (formed_meant text is (subst FormedText f (read_formed text g)) meant) in
         record {
           read = g;
           meant = rw f meant;
-          these = ap (λ (l : List Item). (meanings text l).items) f ∙ sym counted;
-          held = subst (λ (l : List Item). Held l items') (sym counted) (held_after js items left n);
+          these = ap (λ (l : List Item). (meanings text l).items) f ∙ sym left;
           begun = record {
             within = omega (arith, kept, m, few, ap length known.settles.same_names);
-            begun = begun ∙ ap beginnings (sym counted);
+            begun = begun ∙ ap beginnings (sym left);
           };
           room = m;
         }
 
     -- what is left then is what is left of the names' meanings
-    pub names_resolved : {q : TextReading} {after : Tables} → Leaves (by_verdict blank (by_settling (settled text (items_in count items')))) q after
+    pub names_resolved : {q : TextReading} {after : Tables} → Leaves (by_verdict blank (by_settling (settled text is'))) q after
         → Leaves (by_verdict blank (by_meaning text (meanings text is))) q after
+    unfolding js
     names_resolved {q} {after} w =
-        let x = subst (λ (l : List Item). Leaves (by_verdict blank (by_settling (settled text l))) q after) counted w in
+        let x = subst (λ (l : List Item). Leaves (by_verdict blank (by_settling (settled text l))) q after) left w in
         subst (λ (v : Verdict). Leaves (by_verdict blank v) q after) (sym (if_zero_holds (meanings text is).number (meanings text is).place _ meant)) x

@@ -4,15 +4,15 @@ use mathlib.Core.Path.{◌≡◌, sym, ◌∙◌, ap, subst}
 use mathlib.Core.List.{List}
 use Prim.Native.Nat.{ℕ, ◌+◌, ◌≤◌}
 use native.Mathlib.Omega.{arith}
-use lib.ListN.{length, take, length-take}
+use lib.ListN.{length, take, drop, length-append}
+use lib.Seq.{take_at}
 use Rattle.limits.specs.Limits.{most_bytes}
 use Rattle.status.specs.Status.{done}
 use Rattle.grammar.specs.declared.Item.{Item}
-use Rattle.grammar.specs.Items.{holding, item_slots}
+use Rattle.grammar.specs.Items.{holding}
 use Rattle.grammar.specs.Reading.{read_items}
 use Rattle.names.specs.Names.{declared, meanings}
-use Rattle.names.specs.Inner.{items_in, beginnings}
-use Rattle.names.proofs.Held.{held_after, items_after}
+use Rattle.names.specs.Inner.{beginnings}
 use Rattle.names.proofs.Meanings.{AllMean, accepted}
 use Rattle.placeholders.specs.declared.Settling.{Settling}
 use Rattle.placeholders.specs.declared.Fault.{Fault}
@@ -31,7 +31,6 @@ use Rattle.program.proofs.ItemCount.{few_items}
 use Rattle.program.proofs.ReadFormed.{read_formed}
 use Rattle.program.proofs.Numbered.{formed_meant}
 use Rattle.program.proofs.AllowedText.{few_filled, declared_few, filled_declared, filled_items, filled_allowed}
-use Rattle.program.proofs.Bodies.{program_length}
 use Rattle.valuation.specs.Inner.{Ready}
 use Rattle.filling.specs.Inner.{blank}
 use Rattle.mutabor.specs.declared.TextReading.{TextReading}
@@ -39,7 +38,7 @@ use Rattle.mutabor.specs.Reading.{by_verdict, Leaves}
 use Rattle.mutabor.specs.Inner.{Resolved}
 use Rattle.mutabor.proofs.Steps.{if_zero_holds, names_refused}
 
-module _ {text : List ℕ} {is : List Item} {items starts : List ℕ} {n : ℕ} (w : Resolved text is items starts n) where
+module _ {text : List ℕ} {is : List Item} {starts : List ℕ} {n : ℕ} (w : Resolved text is starts n) where
   formed : FormedText is
   formed = subst FormedText w.these (formed_meant text (read_items text).items (read_formed text w.read) w.meant)
 
@@ -60,13 +59,13 @@ module _ {text : List ℕ} {is : List Item} {items starts : List ℕ} {n : ℕ} 
         fits_starts = omega (arith, f, as_many 0 (filled_in text is), filled_declared text is formed, declared_few text is formed, w.room);
       }
 
-  module _ {r : Settling} {items' starts' : List ℕ} (s : Settles text is items r items' starts') where
+  module _ {items : List Item} {r : Settling} {items' : List Item} {starts' : List ℕ} (s : Settles text is items r items' starts') where
     pub not_settled : {q : TextReading} {after : Tables} → (r.number ≡ 0 → ⊥) → q.number ≡ r.number → q.place ≡ r.place → after ≡ blank
         → Leaves (by_verdict blank (by_settling (settled text is))) q after
     not_settled h e f g =
         names_refused (settled text is).number (settled text is).place _ (λ z. h (s.number ∙ z)) (e ∙ s.number) (f ∙ s.place) g
 
-    module _ (h : r.number ≡ done) (k : length items' ≡ item_slots) where
+    module _ (h : r.number ≡ done) where
       right : (fault_of text is ≡ Nothing) × ((settled text is).items ≡ filled_in text is)
       right = settled_done text is (sym s.number ∙ h)
 
@@ -76,28 +75,33 @@ module _ {text : List ℕ} {is : List Item} {items starts : List ℕ} {n : ℕ} 
       left : items' ≡ holding (filled_in text is) items
       left = s.left ∙ ap (λ (l : List Item). holding l items) these
 
-      counted : items_in r.items items' ≡ filled_in text is
-      counted = items_after (filled_in text is) items left (s.count ∙ ap length these)
+      same_count : r.items ≡ length (filled_in text is)
+      same_count = s.count ∙ ap length these
+
+      counted : take r.items items' ≡ filled_in text is
+      counted =
+          let is' = filled_in text is in
+          ap (take r.items) left ∙ take_at is' (drop (length is') items) r.items (sym same_count)
+
+      pub items_within : r.items ≤ length items'
+      items_within =
+          let is' = filled_in text is in
+          omega (arith, same_count, ap length left, length-append is' (drop (length is') items))
+
+      pub starts_within : r.declarations ≤ length starts'
+      starts_within = s.within
 
       begun : take r.declarations starts' ≡ beginnings (filled_in text is)
       begun = s.begun ∙ ap beginnings these
 
-      ready : Ready (filled_in text is) items' r.items starts' r.declarations
-      ready =
-          record {
-            counted = counted;
-            held = held_after (filled_in text is) items left k;
-            number = omega (arith, ap length begun, length-take r.declarations starts', s.within, program_length (filled_in text is));
-            begun = begun;
-            allowed = filled_allowed text is formed means;
-          }
-
-      -- the same, of the items as the slice has them now
-      pub ready_now : Ready (items_in r.items items') items' r.items starts' r.declarations
-      ready_now = subst (λ (l : List Item). Ready l items' r.items starts' r.declarations) (sym counted) ready
+      -- as the slices have them now
+      pub ready_now : Ready (take r.items items') (take r.declarations starts')
+      ready_now =
+          subst (λ (l : List Item). Ready l (take r.declarations starts')) (sym counted)
+          (record { begun = begun; allowed = filled_allowed text is formed means })
 
       pub settled_on : {q : TextReading} {after : Tables}
-          → Leaves (by_verdict blank (by_value (program_of (items_in r.items items')) (valued (program_of (items_in r.items items'))))) q after
+          → Leaves (by_verdict blank (by_value (program_of (take r.items items')) (valued (program_of (take r.items items'))))) q after
           → Leaves (by_verdict blank (by_settling (settled text is))) q after
       settled_on {q} {after} v =
           let x = subst (λ (l : List Item). Leaves (by_verdict blank (by_value (program_of l) (valued (program_of l)))) q after) (counted ∙ sym right.1) v in

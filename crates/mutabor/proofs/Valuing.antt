@@ -3,6 +3,8 @@
 use mathlib.Core.Path.{◌≡◌, refl, sym, ◌∙◌, ap, subst}
 use mathlib.Core.Bool.{Bool, true, false}
 use mathlib.Core.List.{List}
+use Rattle.std.specs.Prelude.{Option, Some, None, Result, Ok, Err}
+use Rattle.std.specs.Option.{unwrap_or}
 use Prim.Native.Nat.{ℕ, zero, suc, ◌+◌, ◌<◌}
 use native.Mathlib.Omega.{arith}
 use lib.IntN.{ℤ, pos}
@@ -10,8 +12,6 @@ use lib.ListN.{length}
 use Rattle.status.specs.Status.{depends_on_itself, value_out_of_range}
 use Rattle.values.specs.Values.{is_beyond, circular, first_from, verdict, value_at, outcome}
 use Rattle.values.specs.Rows.{rows, Resolved}
-use Rattle.std.specs.Prelude.{Option, Some, None, Result, Ok, Err, unwrap_or}
-use Rattle.std.proofs.lemmas.Option.{none-some, same_Some}
 use Rattle.values.specs.declared.Fault.{Fault}
 use Rattle.values.specs.declared.Fault.TheVariants.{Circular, OutOfRange}
 use Rattle.tables.specs.Layout.{Tables}
@@ -20,24 +20,29 @@ use Rattle.program.specs.Program.{Program, program_of}
 use Rattle.program.specs.Meaning.{own, value_of, valued}
 use Rattle.program.specs.Text.{place_of, by_value}
 use Rattle.valuation.specs.Inner.{Ready}
+use Rattle.valuation.proofs.Ready.{ready_number}
 use Rattle.filling.specs.Tables.{tables_of}
 use Rattle.filling.specs.Inner.{Valued, blank}
 use Rattle.mutabor.specs.declared.TextReading.{TextReading}
 use Rattle.mutabor.specs.Reading.{by_verdict, Leaves}
 use Rattle.mutabor.proofs.Steps.{refuses}
 
+-- a fault is none, or one
+none_or_some : {j : ℕ} → ◌≡◌ {A = Option ℕ} None (Some j) → ⊥
+none_or_some e = let z : ◌≡◌ {A = ℕ} 0 1 = cc in omega arith
+
 -- the first that passes a test is one of those that were tested
 first_within : (p : ℕ → Bool) (i k j : ℕ) → first_from p i k ≡ Some j → j < i + k
 unfolding first_from
-first_within p i zero j h = absurd (none-some j h)
+first_within p i zero j h = absurd (none_or_some h)
 first_within p i (suc k) j h = go (p i) h (first_within p (suc i) k j)
   where
-    go : (b : Bool) → ◌≡◌ {A = Option ℕ} (elim b [ true ↦ Some i | false ↦ first_from p (suc i) k ]) (Some j) → (first_from p (suc i) k ≡ Some j → j < suc i + k) → j < i + suc k
-    go true e ih = let q = same_Some i j e in omega arith
+    go : (b : Bool) → elim b [ true ↦ Some i | false ↦ first_from p (suc i) k ] ≡ Some j → (first_from p (suc i) k ≡ Some j → j < suc i + k) → j < i + suc k
+    go true e ih = let q : i ≡ j = cc in omega arith
     go false e ih = omega (arith, ih e)
 
 at_fault : Result Unit Fault → ℕ → Type 0
-at_fault (Ok u) n = Unit
+at_fault (Ok _) n = Unit
 at_fault (Err (Circular d)) n = d < n
 at_fault (Err (OutOfRange d)) n = d < n
 
@@ -50,13 +55,16 @@ fault_within p n = go (first_from (circular (own p) n) 0 n) refl (first_from (λ
     go None e (Some i) q = omega (arith, first_within (λ i. is_beyond (value_at (own p) n i)) 0 n i q)
     go None e None q = tt
 
-module _ {is : List Item} {items starts : List ℕ} {count n : ℕ} {o : Result Unit Fault} {values : List ℤ} (d : Ready is items count starts n)
-    (w : Resolved (own (program_of is)) n o values) where
+module _ {is : List Item} {starts : List ℕ} {o : Result Unit Fault} {values : List ℤ} (d : Ready is starts)
+    (w : Resolved (own (program_of is)) (length starts) o values) where
+  abbrev n : ℕ
+  n = length starts
+
   abbrev p : Program
   p = program_of is
 
   e : n ≡ length p
-  e = d.number
+  e = ready_number d
 
   is_valued : valued p ≡ o
   unfolding valued
@@ -77,8 +85,8 @@ module _ {is : List Item} {items starts : List ℕ} {count n : ℕ} {o : Result 
   unfolding value_of
   values_known h s = record {
     size = s;
-    exact = λ i l. let x = w.exact h i (omega arith) in ap (λ v. unwrap_or v (pos 0)) (sym x) ∙ ap (λ (k : ℕ). unwrap_or (value_at (own p) k i) (pos 0)) e;
-    small = λ i l. w.small h i (omega arith);
+    exact = λ i l. let x = w.exact h i (omega (arith, e)) in ap (λ v. unwrap_or v (pos 0)) (sym x) ∙ ap (λ (k : ℕ). unwrap_or (value_at (own p) k i) (pos 0)) e;
+    small = λ i l. w.small h i (omega (arith, e));
   }
 
   module _ {r : TextReading} {after : Tables} where

@@ -1,12 +1,11 @@
 // The reader: a text becomes tables, or a number and a place, with every lent table zero.
 #![tactic(auto)]
 
-ghost use Rattle.std.specs.Prelude.{◌≡◌, List, ◌<◌};
+ghost use Rattle.std.specs.Prelude.{◌≡◌, ◌≤◌, ◌<◌, length, take};
 ghost use Rattle.status.specs.Status.{done};
-ghost use Rattle.grammar.specs.declared.Item.{Item};
+ghost use Rattle.grammar.specs.Items.{most_items};
 ghost use Rattle.grammar.specs.Reading.{read_items};
 ghost use Rattle.names.specs.Names.{meanings};
-ghost use Rattle.names.specs.Inner.{items_in, Held};
 ghost use Rattle.tables.specs.Layout.{tables_in};
 ghost use Rattle.program.specs.Program.{program_of};
 ghost use Rattle.program.specs.Meaning.{valued};
@@ -18,6 +17,7 @@ ghost use Rattle.mutabor.specs.Reading.{by_verdict, reading, Leaves};
 ghost use Rattle.mutabor.specs.Inner.{Cleared, Resolved};
 
 use filling::write_tables;
+use grammar::Item;
 use grammar::reading::read_items;
 use limits::MOST_DECLARATIONS;
 use names::resolve_names;
@@ -27,12 +27,8 @@ use tables::{ROWS, has_full_size};
 use valuation::value_declarations;
 use values::Fault;
 
-// Room for an item at every symbol of the longest text and two at each call, three numbers each, of which the last is a name's place.
-const ITEM_SLOTS: usize = 101_571;
-
-const ITEM_SIZE: usize = 3;
-
-const ITEM_PLACE: usize = 2;
+// Room for an item at every symbol of the longest text, its end too, and two at each call.
+const MOST_ITEMS: usize = 33_857;
 
 // The number, and the place of a refusal.
 #[derive(Clone, Copy)]
@@ -49,44 +45,40 @@ fn clear_tables(numbers: &mut [i32], codes: &mut [u16])
 }
 
 // The place of the name of declaration `d`.
-fn place_of(items: &[u32], count: usize, starts: &[u32], n: usize, d: usize) -> u32
-    ghost is: { List Item }
-    requires value { items_in count items.now ≡ is }
-    requires ready { Ready is items.now count starts.now n }
-    requires d_lt_n { d < n }
-    ensures { result ≡ place_of (program_of is) d }
+fn place_of(items: &[Item], starts: &[u32], d: usize) -> u32
+    requires ready { Ready items.now starts.now }
+    requires d_in_bounds { d < length starts.now }
+    ensures { result ≡ place_of (program_of items.now) d }
 {
-    let at = starts[d] as usize;
-    items[ITEM_SIZE * at + ITEM_PLACE]
+    let Item::Declared(_, place) = items[starts[d] as usize] else {
+        return 0;
+    };
+    place
 }
 
 // Values the declarations and writes their tables, or refuses the text at the name of one (7, 8).
 fn take_declarations(
-    items: &[u32],
-    count: usize,
+    items: &[Item],
     starts: &[u32],
-    n: usize,
     numbers: &mut [i32],
     codes: &mut [u16],
 ) -> TextReading
-    ghost is: { List Item }
-    requires value { items_in count items.now ≡ is }
-    requires ready { Ready is items.now count starts.now n }
+    requires ready { Ready items.now starts.now }
     requires codes_value { tables_in numbers.old codes.old ≡ blank }
-    ensures { Leaves (by_verdict blank (by_value (program_of is) (valued (program_of is)))) result (tables_in numbers.new codes.new) }
+    ensures { Leaves (by_verdict blank (by_value (program_of items.now) (valued (program_of items.now)))) result (tables_in numbers.new codes.new) }
 {
     let mut values = [0i64; ROWS];
-    match value_declarations(items, count, starts, n, &mut values) {
+    match value_declarations(items, starts, &mut values) {
         Err(Fault::Circular(d)) => TextReading {
             number: DEPENDS_ON_ITSELF,
-            place: place_of(items, count, starts, n, d),
+            place: place_of(items, starts, d),
         },
         Err(Fault::OutOfRange(d)) => TextReading {
             number: VALUE_OUT_OF_RANGE,
-            place: place_of(items, count, starts, n, d),
+            place: place_of(items, starts, d),
         },
         Ok(()) => {
-            write_tables(items, count, starts, n, &values, numbers, codes);
+            write_tables(items, starts, &values, numbers, codes);
             TextReading {
                 number: DONE,
                 place: 0,
@@ -98,18 +90,18 @@ fn take_declarations(
 // Settles the placeholders (24), and goes on with the declarations.
 fn take_names(
     text: &[u8],
-    items: &mut [u32],
+    items: &mut [Item],
     count: usize,
     starts: &mut [u32],
     n: usize,
     numbers: &mut [i32],
     codes: &mut [u16],
 ) -> TextReading
-    ghost is: { List Item }
-    requires value { items_in count items.old ≡ is }
-    requires resolved { Resolved text.now is items.old starts.old n }
+    requires counted { count ≤ length items.old }
+    requires size { length items.old ≡ most_items }
+    requires resolved { Resolved text.now (take count items.old) starts.old n }
     requires codes_value { tables_in numbers.old codes.old ≡ blank }
-    ensures { Leaves (by_verdict blank (by_settling (settled text.now is))) result (tables_in numbers.new codes.new) }
+    ensures { Leaves (by_verdict blank (by_settling (settled text.now (take count items.old)))) result (tables_in numbers.new codes.new) }
 {
     let settled = settle(text, items, count, starts, n);
     if settled.number != DONE {
@@ -118,34 +110,27 @@ fn take_names(
             place: settled.place,
         };
     }
-    take_declarations(
-        items,
-        settled.items,
-        starts,
-        settled.declarations,
-        numbers,
-        codes,
-    )
+    let items = &items[..settled.items];
+    take_declarations(items, &starts[..settled.declarations], numbers, codes)
 }
 
 // Resolves the names (5, 6), and goes on with the placeholders.
 fn take_items(
     text: &[u8],
-    items: &mut [u32],
+    items: &mut [Item],
     count: usize,
     numbers: &mut [i32],
     codes: &mut [u16],
 ) -> TextReading
-    ghost is: { List Item }
-    requires value { items_in count items.old ≡ is }
-    requires held { Held is items.old }
-    requires text_value { ((read_items text.now).items ≡ is) × ((read_items text.now).number ≡ done) }
+    requires counted { count ≤ length items.old }
+    requires size { length items.old ≡ most_items }
+    requires text_value { ((read_items text.now).items ≡ take count items.old) × ((read_items text.now).number ≡ done) }
     requires codes_value { tables_in numbers.old codes.old ≡ blank }
-    ensures { Leaves (by_verdict blank (by_meaning text.now (meanings text.now is))) result (tables_in numbers.new codes.new) }
+    ensures { Leaves (by_verdict blank (by_meaning text.now (meanings text.now (take count items.old)))) result (tables_in numbers.new codes.new) }
 {
     let mut declared = [0u32; MOST_DECLARATIONS];
     let mut starts = [0u32; ROWS];
-    let named = resolve_names(text, items, count, &mut declared, &mut starts);
+    let named = resolve_names(text, &mut items[..count], &mut declared, &mut starts);
     if named.number != DONE {
         return TextReading {
             number: named.number,
@@ -161,7 +146,7 @@ fn take_symbols(text: &[u8], numbers: &mut [i32], codes: &mut [u16]) -> TextRead
     requires { tables_in numbers.old codes.old ≡ blank }
     ensures { Leaves (by_verdict blank (read_text text.now)) result (tables_in numbers.new codes.new) }
 {
-    let mut items = [0u32; ITEM_SLOTS];
+    let mut items = [Item::MutedPosition; MOST_ITEMS];
     match read_items(text, &mut items) {
         Ok(count) => take_items(text, &mut items, count, numbers, codes),
         Err(refusal) => TextReading {

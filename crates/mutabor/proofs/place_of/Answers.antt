@@ -1,37 +1,23 @@
--- The place of a declared name stands in the row of its item.
-use native.Mathlib.Omega.{arith}
-use Rattle.grammar.specs.declared.Item.TheVariants.{MutedPosition}
-use Rattle.mutabor.proofs.NamePlaces.{start_there, place_there, place_read, number_small, place_small}
+-- The item with which the declaration begins declares its name.
+use mathlib.Core.Path.{◌≡◌, sym, ◌∙◌}
+use Prim.Native.Nat.{ℕ}
+use Rattle.grammar.specs.declared.Kind.{Kind}
+use Rattle.grammar.specs.declared.Item.TheVariants.{Declared}
+use Rattle.mutabor.proofs.NamePlaces.{inside, declared_here}
 use Rattle.mutabor.proofs.place_of.Goals as goal
 
--- src/lib.rt:56:14
-pub offset_bounds-starts-d : goal.offset_bounds-starts-d
-offset_bounds-starts-d g c = record { fits = omega (arith, number_small c.requires.1.0 c.requires.1.1) }
+-- an item declares one place
+same_place : {k l : Kind} {p q : ℕ} → Declared k p ≡ Declared l q → p ≡ q
+same_place e = cc
 
--- src/lib.rt:56:14
-pub bounds-starts-d : goal.bounds-starts-d
-bounds-starts-d g c = start_there c.requires.1.0 c.requires.1.1
+pub bounds : goal.bounds
+bounds c = inside c.requires.ready c.requires.d_in_bounds
 
--- src/lib.rt:56:14
-pub overflow_cast-at : goal.overflow_cast-at
-overflow_cast-at g c = record { fits = omega (arith, place_small c.requires.1.0 c.requires.1.1) }
+pub bounds-items-starts : goal.bounds-items-starts
+bounds-items-starts c = inside c.requires.ready c.requires.d_in_bounds
 
--- src/lib.rt:57:11
-pub overflow_mul-result : goal.overflow_mul-result
-overflow_mul-result g c = omega (arith, place_small c.requires.1.0 c.requires.1.1)
+pub returns-in_default : goal.returns-in_default
+returns-in_default c = let n = declared_here c.requires.ready c.requires.d_in_bounds _ in absurd (c.in_default.not-Declared _ _ n.1)
 
--- src/lib.rt:57:11
-pub overflow_add-result : goal.overflow_add-result
-overflow_add-result g c = omega (arith, place_small c.requires.1.0 c.requires.1.1)
-
--- src/lib.rt:57:5
-pub offset_bounds-items-at : goal.offset_bounds-items-at
-offset_bounds-items-at g c = record { fits = omega (arith, place_small c.requires.1.0 c.requires.1.1) }
-
--- src/lib.rt:57:5
-pub bounds-items-at : goal.bounds-items-at
-bounds-items-at g c = place_there c.requires.1.0 c.requires.1.1
-
--- src/lib.rt:49:1
 pub returns : goal.returns
-returns g c = place_read c.requires.1.0 c.requires.1.1 MutedPosition
+returns c = let n = declared_here c.requires.ready c.requires.d_in_bounds _ in same_place (sym c.in-Declared.is ∙ n.1)

@@ -1,33 +1,22 @@
 -- The declarations are valued; the text is refused at the name of one, or its tables are written.
-use mathlib.Core.Path.{refl, ◌∙◌, ap}
-use Rattle.std.specs.Prelude.{Err}
-use Rattle.program.specs.Program.{program_of}
-use Rattle.program.specs.Text.{place_of}
+use mathlib.Core.Path.{refl}
 use Rattle.mutabor.proofs.Valuing.{circular_within, beyond_within, values_known, circular_refused, beyond_refused, all_done}
 use Rattle.mutabor.proofs.take_declarations.Goals as goal
 
 pub place_of-requires : goal.place_of-requires
-place_of-requires g c =
-    let e = c.in-Err-Circular.is ∙ ap Err c.in-Err-Circular.field-0-is in
-    (c.requires.0, (c.requires.1.0, rw c.in-Err-Circular.d-is (circular_within c.requires.1.0 c.value_declarations.ensures e)))
+place_of-requires c = record { ready = c.requires.ready; d_in_bounds = circular_within c.requires.ready c.value_declarations.ensures c.in-Err-Circular.is }
 
 pub place_of-requires-in-Err-OutOfRange : goal.place_of-requires-in-Err-OutOfRange
-place_of-requires-in-Err-OutOfRange g c =
-    let e = c.in-Err-OutOfRange.is ∙ ap Err c.in-Err-OutOfRange.field-0-is in
-    (c.requires.0, (c.requires.1.0, rw c.in-Err-OutOfRange.d-is (beyond_within c.requires.1.0 c.value_declarations.ensures e)))
+place_of-requires-in-Err-OutOfRange c = record { ready = c.requires.ready; d_in_bounds = beyond_within c.requires.ready c.value_declarations.ensures c.in-Err-OutOfRange.is }
 
 pub write_tables-requires : goal.write_tables-requires
-write_tables-requires g c = (c.requires.0, (c.requires.1.0, (values_known c.requires.1.0 c.value_declarations.ensures c.in-Ok.is c.value_declarations.auto.values, c.requires.1.1)))
+write_tables-requires c = record { ready = c.requires.ready; valued = values_known c.requires.ready c.value_declarations.ensures c.in-Ok.is c.value_declarations.auto.values; codes_value = c.requires.codes_value }
 
 pub returns-in-Err-Circular : goal.returns-in-Err-Circular
-returns-in-Err-Circular g c =
-    let e = c.in-Err-Circular.is ∙ ap Err c.in-Err-Circular.field-0-is in
-    circular_refused c.requires.1.0 c.value_declarations.ensures e refl (c.place_of.ensures ∙ ap (place_of (program_of g.is)) c.in-Err-Circular.d-is) c.requires.1.1
+returns-in-Err-Circular c = circular_refused c.requires.ready c.value_declarations.ensures c.in-Err-Circular.is refl c.place_of.ensures c.requires.codes_value
 
 pub returns-in-Err-OutOfRange : goal.returns-in-Err-OutOfRange
-returns-in-Err-OutOfRange g c =
-    let e = c.in-Err-OutOfRange.is ∙ ap Err c.in-Err-OutOfRange.field-0-is in
-    beyond_refused c.requires.1.0 c.value_declarations.ensures e refl (c.place_of-in-Err-OutOfRange.ensures ∙ ap (place_of (program_of g.is)) c.in-Err-OutOfRange.d-is) c.requires.1.1
+returns-in-Err-OutOfRange c = beyond_refused c.requires.ready c.value_declarations.ensures c.in-Err-OutOfRange.is refl c.place_of-in-Err-OutOfRange.ensures c.requires.codes_value
 
 pub returns-in-Ok : goal.returns-in-Ok
-returns-in-Ok g c = all_done c.requires.1.0 c.value_declarations.ensures c.in-Ok.is refl refl c.write_tables.ensures
+returns-in-Ok c = all_done c.requires.ready c.value_declarations.ensures c.in-Ok.is refl refl c.write_tables.ensures

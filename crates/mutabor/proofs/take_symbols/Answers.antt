@@ -1,13 +1,13 @@
 -- The text is refused at a symbol, or its items are taken.
 use mathlib.Core.Path.{refl}
-use Rattle.mutabor.proofs.ItemsRead.{all_read, same_items, held_now, not_read, names_meant}
+use Rattle.mutabor.proofs.ItemsRead.{all_read, same_items, count_within, not_read, names_meant}
 use Rattle.mutabor.proofs.take_symbols.Goals as goal
 
 pub take_items-requires : goal.take_items-requires
 take_items-requires c =
     let w = c.in-Ok.ensures.answered in
     let h = c.in-Ok.ensures.items in
-    (refl, (held_now _ _ w h c.read_items.auto.items, ((same_items _ _ w h, all_read _ _ w h), c.requires)))
+    record { counted = count_within _ _ w h; size = c.read_items.auto.items; text_value = (same_items _ _ w h, all_read _ _ w h); codes_value = c.requires }
 
 pub returns-in-Ok : goal.returns-in-Ok
 returns-in-Ok c = names_meant _ _ c.in-Ok.ensures.answered c.in-Ok.ensures.items c.take_items.ensures
