@@ -11,7 +11,7 @@ use Rattle.grammar.specs.declared.Action.TheVariants.{Pass, Number, Name, Letter
 use Rattle.grammar.specs.declared.Item.{Item}
 use Rattle.grammar.specs.declared.Item.TheVariants as item
 use Rattle.grammar.specs.declared.terminals.Terminal.{Terminal}
-use Rattle.grammar.specs.Syntax.{letter}
+use Rattle.grammar.specs.declared.terminals.Terminal.TheVariants.{Letter as letter}
 use Rattle.grammar.specs.Terminals.{span_of}
 use Rattle.grammar.specs.Reading.{limit, so_far, acted}
 use Rattle.program.proofs.Formed.{no_number_case, a_number, no_start, a_start, TriggerItem, by_letter_case, by_harmony_case, OrderItems, an_order, Body, a_logic}

@@ -22,7 +22,7 @@ use Rattle.grammar.specs.declared.NumberUse.{NumberUse}
 use Rattle.grammar.specs.declared.NumberUse.TheVariants as numberUse
 use Rattle.grammar.specs.declared.NumberRange.{NumberRange}
 use Rattle.grammar.specs.declared.NumberRange.TheVariants as range
-use Rattle.grammar.specs.Syntax.{letter}
+use Rattle.grammar.specs.declared.terminals.Terminal.TheVariants.{Letter as letter}
 use Rattle.grammar.specs.Terminals.{terminal_number, of_letter, terminal_of, span_of, letter_at}
 use Rattle.grammar.specs.Reading.{allowed, number_in, judged}
 use Rattle.grammar.proofs.Numbered.{word_apart, mark_apart}
