@@ -3,8 +3,6 @@
 use mathlib.Core.Path.{◌≡◌, refl, sym, ◌∙◌, ap, subst}
 use mathlib.Core.Bool.{Bool, true, false}
 use mathlib.Core.List.{List}
-use Rattle.std.specs.Prelude.{Option, Some, None, Result, Ok, Err}
-use Rattle.std.specs.Option.{unwrap_or}
 use Prim.Native.Nat.{ℕ, zero, suc, ◌+◌, ◌<◌}
 use native.Mathlib.Omega.{arith}
 use lib.IntN.{ℤ, pos}
@@ -12,6 +10,8 @@ use lib.ListN.{length}
 use Rattle.status.specs.Status.{depends_on_itself, value_out_of_range}
 use Rattle.values.specs.Values.{is_beyond, circular, first_from, verdict, value_at, outcome}
 use Rattle.values.specs.Rows.{rows, Resolved}
+use Rattle.std.specs.Prelude.{Option, Some, None, Result, Ok, Err, unwrap_or}
+use Rattle.std.proofs.lemmas.Option.{none-some, same_Some}
 use Rattle.values.specs.declared.Fault.{Fault}
 use Rattle.values.specs.declared.Fault.TheVariants.{Circular, OutOfRange}
 use Rattle.tables.specs.Layout.{Tables}
@@ -27,22 +27,18 @@ use Rattle.mutabor.specs.declared.TextReading.{TextReading}
 use Rattle.mutabor.specs.Reading.{by_verdict, Leaves}
 use Rattle.mutabor.proofs.Steps.{refuses}
 
--- a fault is none, or one
-none_or_some : {j : ℕ} → ◌≡◌ {A = Option ℕ} None (Some j) → ⊥
-none_or_some e = let z : ◌≡◌ {A = ℕ} 0 1 = cc in omega arith
-
 -- the first that passes a test is one of those that were tested
 first_within : (p : ℕ → Bool) (i k j : ℕ) → first_from p i k ≡ Some j → j < i + k
 unfolding first_from
-first_within p i zero j h = absurd (none_or_some h)
+first_within p i zero j h = absurd (none-some j h)
 first_within p i (suc k) j h = go (p i) h (first_within p (suc i) k j)
   where
-    go : (b : Bool) → elim b [ true ↦ Some i | false ↦ first_from p (suc i) k ] ≡ Some j → (first_from p (suc i) k ≡ Some j → j < suc i + k) → j < i + suc k
-    go true e ih = let q : i ≡ j = cc in omega arith
+    go : (b : Bool) → ◌≡◌ {A = Option ℕ} (elim b [ true ↦ Some i | false ↦ first_from p (suc i) k ]) (Some j) → (first_from p (suc i) k ≡ Some j → j < suc i + k) → j < i + suc k
+    go true e ih = let q = same_Some i j e in omega arith
     go false e ih = omega (arith, ih e)
 
 at_fault : Result Unit Fault → ℕ → Type 0
-at_fault (Ok _) n = Unit
+at_fault (Ok u) n = Unit
 at_fault (Err (Circular d)) n = d < n
 at_fault (Err (OutOfRange d)) n = d < n
 

@@ -7,7 +7,12 @@ pub take_items-requires : goal.take_items-requires
 take_items-requires c =
     let w = c.in-Ok.ensures.answered in
     let h = c.in-Ok.ensures.items in
-    record { counted = count_within _ _ w h; size = c.read_items.auto.items; text_value = (same_items _ _ w h, all_read _ _ w h); codes_value = c.requires }
+    record {
+      counted = count_within _ _ w h;
+      size = c.read_items.auto.items;
+      text_value = (same_items _ _ w h, all_read _ _ w h);
+      codes_value = c.requires;
+    }
 
 pub returns-in-Ok : goal.returns-in-Ok
 returns-in-Ok c = names_meant _ _ c.in-Ok.ensures.answered c.in-Ok.ensures.items c.take_items.ensures
