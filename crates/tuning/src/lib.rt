@@ -200,13 +200,13 @@ impl State {
         used.iter().all(|tone| tone.is_allowed())
     }
 
-    // Whether the places past the width are unused.
+    // Whether the places past the width are unused: all are looked at with no branch, since this runs at each frame.
     fn has_muted_rest(&self) -> bool
         requires { self.now.width ≤ most_positions }
         ensures { result ≡ all_muted (map heard (drop self.now.width self.now.tones)) }
     {
         let unused = &self.tones[self.width as usize..];
-        unused.iter().all(|tone| tone.is_muted())
+        unused.iter().fold(true, |all, tone| all & tone.is_muted())
     }
 
     // Whether every number is in its range, and the unused places are zero.
