@@ -69,10 +69,11 @@ fn join(chord: u64, keys: u64, first: u8, width: u8) -> u64
     let mut joined = chord;
     let mut left = keys;
     let mut r = first;
+    // Kept as it is: it counts no index, and ends with the last key that is down; a `for` over all 64 keys of the half runs on past it.
     while left != 0 {
         joined = with_position(joined, r, left);
         r = next_position(r, width);
-        left = left / 2;
+        left /= 2;
     }
     joined
 }

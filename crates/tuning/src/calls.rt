@@ -102,6 +102,8 @@ impl PeriodChange {
     }
 }
 
+// Kept as it is: each of these asks for a valid state. A desk is handed in with its state, valid or not, so `State` can't promise it (`valid_state` is what
+// `is_valid` tests), and a type of valid states would change the public calls and copy the state once more at each frame.
 impl State {
     // The distance from position 0 to the key at the other end: whole periods where that key is on position 0, muted or not.
     fn reach(&self, key: KeyNumber) -> Option<Interval>
