@@ -8,7 +8,7 @@ use crate::tally::Tally;
 use cents::{Interval, KeyNumber, Pitch};
 use keys::{HeldKeys, KEYS};
 use std::io;
-use tuning::{PLACES, Position, State, Tone};
+use tuning::{PLACES, State, Tone};
 
 const WIDTH_AT_START: u8 = 12;
 
@@ -34,8 +34,8 @@ fn start_of_period(thousandths: i32) -> State {
 
 // One position, and the longest period.
 fn far_state(anchor: KeyNumber, tone: Tone) -> State {
-    let mut tones = [Position { tone: Tone::Muted }; PLACES];
-    tones[0] = Position { tone };
+    let mut tones = [Tone::Muted; PLACES];
+    tones[0] = tone;
     State {
         anchor,
         width: 1,

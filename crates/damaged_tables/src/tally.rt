@@ -10,7 +10,7 @@ use protocol::{Active, Desk};
 use status::{BAD_FRAME, BUFFER_TOO_SMALL, DONE, KEY_UNPLAYABLE, TABLE_DAMAGED};
 use std::num::wrapping_add_u64;
 use tables::{HARMONY_BASE, PATTERN_FORM, ROW_WIDTH, ROWS, UNUSED_FORM};
-use tuning::{PLACES, Position, State, Tone};
+use tuning::{PLACES, State, Tone};
 
 // The forms go from 1 to 10.
 const BELOW_FORMS: i32 = UNUSED_FORM as i32;
@@ -218,7 +218,7 @@ impl Tally {
         while i < to {
             let mut s = State::start();
             if i < PLACES {
-                s.tones[i] = Position { tone };
+                s.tones[i] = tone;
             }
             tally = tally.try_tuning(s);
             i += 1;

@@ -3,9 +3,7 @@ ghost use Rattle.std.specs.Prelude.{◌≤◌};
 
 use crate::lent::{Lent, SLICES};
 use answers::SMALLEST_BUFFER;
-use keys::HeldKeys;
 use protocol::{Active, Answered, Desk};
-use tuning::{PLACES, State, Tone};
 
 // The number that a frame gets, whether the desk is as it was, and whether the buffer is, too.
 #[derive(Clone, Copy)]
@@ -41,35 +39,6 @@ fn is_filled(buffer: &[u8; SMALLEST_BUFFER]) -> bool {
     true
 }
 
-fn same_tone(a: Tone, b: Tone) -> bool {
-    match a {
-        Tone::Muted => b.is_muted(),
-        Tone::At(p) => match b {
-            Tone::Muted => false,
-            Tone::At(q) => p.0 == q.0,
-        },
-    }
-}
-
-fn same_tones(a: State, b: State) -> bool {
-    let mut i: usize = 0;
-    while i < PLACES {
-        let p = a.tones[i];
-        let q = b.tones[i];
-        let before = p.tone;
-        let after = q.tone;
-        if !same_tone(before, after) {
-            return false;
-        }
-        i += 1;
-    }
-    true
-}
-
-fn same_tuning(a: State, b: State) -> bool {
-    a.anchor.0 == b.anchor.0 && a.width == b.width && a.period.0 == b.period.0 && same_tones(a, b)
-}
-
 fn same_active(a: Active, b: Active) -> bool {
     match a {
         Active::Nothing => match b {
@@ -83,23 +52,8 @@ fn same_active(a: Active, b: Active) -> bool {
     }
 }
 
-fn same_keys(a: HeldKeys, b: HeldKeys) -> bool {
-    a.held_in_half(1, 0) == b.held_in_half(1, 0)
-        && a.held_in_half(1, 1) == b.held_in_half(1, 1)
-        && a.held_in_half(2, 0) == b.held_in_half(2, 0)
-        && a.held_in_half(2, 1) == b.held_in_half(2, 1)
-}
-
 fn same_desk(a: Desk, b: Desk) -> bool {
-    let tuning_before = a.tuning;
-    let tuning_after = b.tuning;
-    let active_before = a.active;
-    let active_after = b.active;
-    let keys_before = a.keys;
-    let keys_after = b.keys;
-    same_tuning(tuning_before, tuning_after)
-        && same_active(active_before, active_after)
-        && same_keys(keys_before, keys_after)
+    a.tuning == b.tuning && same_active(a.active, b.active) && a.keys == b.keys
 }
 
 fn least(a: usize, b: usize) -> usize

@@ -16,7 +16,7 @@ const WORD: usize = 64;
 const WORDS: usize = 2 * KEYS / WORD;
 
 // The sets of held keys: the first house's keys, then the second's.
-#[derive(Clone, Copy)]
+#[derive(Clone, Copy, PartialEq, Eq)]
 pub struct HeldKeys {
     words: [u64; WORDS],
 }

@@ -33,14 +33,14 @@ const SEMITONE: Interval = Interval(100_000);
 
 // A tone of a state: a pitch, or muted.
 // Kept as it is: an Option of a pitch can't have the methods of a tone, and a struct round one is no plainer.
-#[derive(Clone, Copy)]
+#[derive(Clone, Copy, PartialEq, Eq)]
 pub enum Tone {
     Muted,
     At(Pitch),
 }
 
 // The tones of the positions, and muted ones in the places past the width.
-#[derive(Clone, Copy)]
+#[derive(Clone, Copy, PartialEq, Eq)]
 pub struct State {
     pub anchor: KeyNumber,
     pub width: u8,
@@ -87,7 +87,7 @@ pub enum PeriodChange {
 }
 
 // What a position of a tones retuning says of the tone there.
-#[derive(Clone, Copy)]
+#[derive(Clone, Copy, PartialEq, Eq)]
 pub enum ToneChange {
     Mute,
     Move(Interval),
