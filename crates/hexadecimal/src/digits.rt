@@ -20,11 +20,13 @@ fn digit_value(b: u8) -> Option<u8>
     ensures value { result ≡ digit_of b }
     ensures small { IfSome result (λ d. d < radix) }
 {
-    match b {
-        b'0'..=b'9' => Some(b - b'0'),
-        b'A'..=b'F' => Some(b - b'A' + 10),
-        _ => None,
+    if b.is_ascii_digit() {
+        return Some(b - b'0');
     }
+    if matches!(b, b'A'..=b'F') {
+        return Some(b - b'A' + 10);
+    }
+    None
 }
 
 // The byte that two digits write.
