@@ -1,62 +1,40 @@
--- Laws of `first_match`: it ends, it finds, it goes on, and what it finds is within.
+-- Laws of `first_match`: it is the first position in the part, counted from where the part begins, and what is found is one of the records.
 -- Assumes nothing.
-use Prim.Native.Nat.{ℕ, zero, suc, ◌+◌, ◌-◌, ◌<◌, ◌≤◌}
-use mathlib.Core.Path.{◌≡◌, refl}
-use mathlib.Core.List.{List, [], ◌∷◌}
-use mathlib.Core.Bool.{Bool, true, false}
-use native.Mathlib.Numerals.{add-one}
-use native.Mathlib.Omega.{arith}
-use lib.Dec.{eqb}
-use lib.ListN.{length, length-drop, drop, drop_of_length-le}
-use lib.Seq.{drop-cons}
+use Rattle.std.proofs.Common.{◌≡◌, refl, sym, ap, ◌∙◌, Bool, true, false, cond, List, [], ◌∷◌, ℕ, suc, ◌+◌, ◌<◌, ◌≤◌, arith, length, drop, take, length-drop, length-take}
+use Rattle.std.specs.Prelude.{Option, Some, ◌==◌}
+use Rattle.std.specs.List.{position_from}
+use Rattle.std.specs.Option.{option_map}
+use Rattle.std.proofs.lemmas.Option.{none-some, same_Some}
 use Rattle.orders.specs.declared.Order.{Order}
-use Rattle.orders.specs.declared.Found.TheVariants.{Nothing, At}
-use Rattle.orders.specs.Orders.{order_at, no_order, match_from, first_match}
+use Rattle.orders.specs.Orders.{first_match}
 
-pub match_past : (trigger : ℕ) (xs : List Order) (i count : ℕ) → length xs ≤ i → Nothing ≡ first_match trigger xs i count
-unfolding first_match match_from
-match_past trigger xs i count h = rw (drop_of_length-le xs h)
-
-pub match_none : (trigger : ℕ) (xs : List Order) (i count : ℕ) → count ≤ 0 → Nothing ≡ first_match trigger xs i count
-unfolding first_match match_from
-match_none trigger xs i count h = none _ (drop i xs) count h
-  where
-    none : (at : ℕ) (ys : List Order) (n : ℕ) → n ≤ 0 → Nothing ≡ match_from trigger at ys n
-    none at [] n h = refl
-    none at (y ∷ ys) zero h = refl
-    none at (y ∷ ys) (suc n) h = absurd (omega (arith, h))
-
-module _ (trigger : ℕ) (xs : List Order) (i : ℕ) (h : i < length xs) where
-  drop_here : drop i xs ≡ order_at xs i ∷ drop (i + 1) xs
-  drop_here = rw (add-one, drop-cons xs i no_order)
-
-  pub match_here : (count : ℕ) → 0 < count → eqb (order_at xs i).trigger trigger ≡ true → At i ≡ first_match trigger xs i count
-  unfolding first_match match_from
-  match_here zero c e = absurd (omega (arith, c))
-  match_here (suc n) c e = rw (drop_here, match_from, e)
-
-  pub match_on : (count : ℕ) → 0 < count → eqb (order_at xs i).trigger trigger ≡ false → first_match trigger xs (i + 1) (count - 1) ≡ first_match trigger xs i count
-  unfolding first_match match_from
-  match_on zero c e = absurd (omega (arith, c))
-  match_on (suc n) c e = rw (less, drop_here, match_from, e)
+module _ {X : Type 0} (p : X → Bool) where
+  position_from-add : (n i : ℕ) (xs : List X) → option_map (λ (k : ℕ). n + k) (position_from p i xs) ≡ position_from p (n + i) xs
+  position_from-add n i [] = refl
+  position_from-add n i (x ∷ xs) = go (p x) (position_from-add n (i + 1) xs)
     where
-      less : suc n - 1 ≡ n
-      less = omega arith
+      go : (b : Bool) → option_map (λ (k : ℕ). n + k) (position_from p (i + 1) xs) ≡ position_from p (n + (i + 1)) xs
+          → option_map (λ (k : ℕ). n + k) (cond b (Some i) (position_from p (i + 1) xs)) ≡ cond b (Some (n + i)) (position_from p (n + i + 1) xs)
+      go true e = refl
+      go false e = e ∙ ap (λ (m : ℕ). position_from p m xs) (omega arith)
 
--- what is found is one of the records
-from_within : (trigger at : ℕ) (xs : List Order) (count : ℕ) {i : ℕ} → match_from trigger at xs count ≡ At i → (at ≤ i) × (i < at + length xs)
-unfolding match_from
-from_within trigger at [] count e = let z : ◌≡◌ {A = ℕ} 0 1 = cc in (omega arith, omega arith)
-from_within trigger at (x ∷ xs) zero e = let z : ◌≡◌ {A = ℕ} 0 1 = cc in (omega arith, omega arith)
-from_within trigger at (x ∷ xs) (suc n) {i} e = go (eqb x.trigger trigger) (from_within trigger (at + 1) xs n) e
-  where
-    go : (b : Bool) → (match_from trigger (at + 1) xs n ≡ At i → (at + 1 ≤ i) × (i < at + 1 + length xs))
-        → elim b [ true ↦ At at | false ↦ match_from trigger (at + 1) xs n ] ≡ At i → (at ≤ i) × (i < at + suc (length xs))
-    go true later q = let z : at ≡ i = cc in (omega arith, omega arith)
-    go false later q = let w = later q in (omega (arith, w.0), omega (arith, w.1))
+  position_from-within : (i : ℕ) (xs : List X) {k : ℕ} → position_from p i xs ≡ Some k → (i ≤ k) × (k < i + length xs)
+  position_from-within i [] {k} e = absurd (none-some k e)
+  position_from-within i (x ∷ xs) {k} e = go (p x) (position_from-within (i + 1) xs) e
+    where
+      go : (b : Bool) → (position_from p (i + 1) xs ≡ Some k → (i + 1 ≤ k) × (k < i + 1 + length xs)) → cond b (Some i) (position_from p (i + 1) xs) ≡ Some k
+          → (i ≤ k) × (k < i + suc (length xs))
+      go true later q = let z = same_Some i k q in (omega arith, omega arith)
+      go false later q = let w = later q in (omega (arith, w.0), omega (arith, w.1))
 
-pub match_within : (trigger : ℕ) (xs : List Order) (first count : ℕ) {i : ℕ} → first_match trigger xs first count ≡ At i → i < length xs
-unfolding first_match
-match_within trigger xs first count e =
-    let w = from_within trigger first (drop first xs) count e in
-    omega (arith, w.0, w.1, length-drop first xs)
+module _ (trigger : ℕ) (xs : List Order) (first count : ℕ) {o : Option ℕ} (e : o ≡ position_from (λ (x : Order). x.trigger == trigger) 0 (take count (drop first xs))) where
+  pub match_of : {m : Option ℕ} → o ≡ m → option_map (λ (k : ℕ). first + k) m ≡ first_match trigger xs first count
+  match_of h =
+      ap (option_map (λ (k : ℕ). first + k)) (sym h ∙ e)
+      ∙ position_from-add (λ (x : Order). x.trigger == trigger) first 0 (take count (drop first xs))
+      ∙ ap (λ (n : ℕ). position_from (λ (x : Order). x.trigger == trigger) n (take count (drop first xs))) (omega arith)
+
+pub match_within : (trigger : ℕ) (xs : List Order) (first count : ℕ) {i : ℕ} → first_match trigger xs first count ≡ Some i → i < length xs
+match_within trigger xs first count {i} e =
+    let w = position_from-within (λ (x : Order). x.trigger == trigger) first (take count (drop first xs)) e in
+    omega (arith, w.0, w.1, length-take count (drop first xs), length-drop first xs)
