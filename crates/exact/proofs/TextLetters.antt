@@ -24,8 +24,6 @@ use Rattle.mutabor.proofs.Decoded.{rows_counted, row_decoded, past_decoded, logi
 use Rattle.ascii.proofs.Between.{each, in_range_holds}
 use Rattle.frames.specs.Frames.{first_letter, last_letter, is_capital, are_capitals, inside}
 use Rattle.frames.proofs.Ranges.{frame_inside, letter_ranges, row_ranges}
-use Rattle.protocol.specs.declared.Active.{Active}
-use Rattle.protocol.specs.declared.Active.TheVariants as active
 use Rattle.protocol.specs.Triggers as protocol
 use Rattle.protocol.specs.declared.Chord.{Chord}
 use Rattle.protocol.specs.Triggers.{Sought, itself, matching, matches_as, answers_to, Struck, first_logic, first_order, order_of, calls_as, called, else_order, struck}
@@ -35,7 +33,7 @@ use Rattle.exact.specs.TextLetters.{harmony_matches, sought_by, Asked, passes, l
 abbrev tested_row : (ℕ → Bool) → Row → Bool
 tested_row q r = protocol.passes q (tables.as_logic r)
 
-abbrev calls_row : Active → ℕ → Row → Struck
+abbrev calls_row : Option ℕ → ℕ → Row → Struck
 calls_row a k r = calls_as a k (tables.as_logic r)
 
 -- of a row: whether it is a harmony that matches
@@ -135,20 +133,20 @@ module _ (p : Program) (allowed : Allowed p) (r : ℕ → Bool) (q : Trigger →
   orders_of_step k h pattern e w = refl
   orders_of_step k h (harmony ks) e w = refl
 
-  order_of_step : (a : Active) → order_of (tables_of p) r a ≡ active_order p q a
+  order_of_step : (a : Option ℕ) → order_of (tables_of p) r a ≡ active_order p q a
   unfolding order_in
-  order_of_step active.Nothing = refl
-  order_of_step (active.Logic i) =
+  order_of_step None = refl
+  order_of_step (Some i) =
       elim (dec_lt i (length p)) [
         | yes h ↦ ap (protocol.order_by (tables_of p) r) (row_decoded p i h) ∙ orders_of_step i h (declaration_at p i) refl (fits_at allowed i h)
         | no h ↦ rw (past_decoded p i (omega arith), past_declared p i (omega arith)) refl
       ]
 
-  by_logic : (a : Active) (o : Option ℕ) → else_order (tables_of p) a r o ≡ else_active p a q o
+  by_logic : (a : Option ℕ) (o : Option ℕ) → else_order (tables_of p) a r o ≡ else_active p a q o
   by_logic a None = order_of_step a
   by_logic a (Some i) = refl
 
-  found : (a : Active) → else_order (tables_of p) a r (first_logic (tables_of p).rows r 0 (row_count (tables_of p))) ≡ else_active p a q (logic_in q 0 p)
+  found : (a : Option ℕ) → else_order (tables_of p) a r (first_logic (tables_of p).rows r 0 (row_count (tables_of p))) ≡ else_active p a q (logic_in q 0 p)
   found a =
       let n = rows_counted p in
       let first : first_logic (tables_of p).rows r 0 (row_count (tables_of p)) ≡ logic_in q 0 p = rw n (logics 0 (length p) (omega arith)) in
@@ -156,7 +154,7 @@ module _ (p : Program) (allowed : Allowed p) (r : ℕ → Bool) (q : Trigger →
 
 module _ (p : Program) where
   -- ---- what is called
-  calls_of_step : (a : Active) (k t c o : ℕ) (d : Declaration) → calls_row a k (row_of (value_of p) k t c o d) ≡ calls_in a k (as_logic d)
+  calls_of_step : (a : Option ℕ) (k t c o : ℕ) (d : Declaration) → calls_row a k (row_of (value_of p) k t c o d) ≡ calls_in a k (as_logic d)
   calls_of_step a k t c o (ratio x b) = refl
   calls_of_step a k t c o (root x b) = refl
   calls_of_step a k t c o (sequence ts) = refl
@@ -173,18 +171,18 @@ module _ (p : Program) where
   calls_of_step a k t c o pattern = refl
   calls_of_step a k t c o (harmony ks) = refl
 
-  called_by_step : (a : Active) (k : ℕ) → calls_row a k (row_at (tables_of p) k) ≡ calls_in a k (as_logic (declaration_at p k))
+  called_by_step : (a : Option ℕ) (k : ℕ) → calls_row a k (row_at (tables_of p) k) ≡ calls_in a k (as_logic (declaration_at p k))
   called_by_step a k =
       elim (dec_lt k (length p)) [
         | yes h ↦ ap (calls_row a k) (row_decoded p k h) ∙ calls_of_step a k (tones_before p k) (changes_before p k) (orders_before p k) (declaration_at p k)
         | no h ↦ rw (past_decoded p k (omega arith), past_declared p k (omega arith)) refl
       ]
 
-  by_name : (a : Active) (o : Option ℕ) → called (tables_of p) a o ≡ unless_none p a o
+  by_name : (a : Option ℕ) (o : Option ℕ) → called (tables_of p) a o ≡ unless_none p a o
   by_name a None = refl
   by_name a (Some k) = called_by_step a k
 
-  struck_here : Allowed p → (a : Active) (x : Sought) → Asked x → struck (tables_of p) a x ≡ struck_in p a (sought_by p x)
+  struck_here : Allowed p → (a : Option ℕ) (x : Sought) → Asked x → struck (tables_of p) a x ≡ struck_in p a (sought_by p x)
   unfolding struck struck_in
   struck_here allowed a x l =
       let q = sought_by p x in

@@ -10,8 +10,6 @@ use Rattle.program.specs.Allowed.{Letter}
 use Rattle.program.specs.Text.{accepted, read_text}
 use Rattle.filling.specs.Tables.{tables_of}
 use Rattle.frames.specs.Frames.{letter, letter_row, frame_of}
-use Rattle.protocol.specs.declared.Active.{Active}
-use Rattle.protocol.specs.declared.Active.TheVariants as active
 use Rattle.protocol.specs.declared.Chord.{Chord}
 use Rattle.protocol.specs.Triggers.{Sought, itself, matching, Struck, struck}
 
@@ -49,11 +47,11 @@ abbrev pub order_by : (Trigger → Bool) → AsLogic → Option ℕ
 order_by q no_logic_holds = None
 order_by q (a_logic c s os) = order_in q os
 
-abbrev pub active_order : Program → (Trigger → Bool) → Active → Option ℕ
-active_order p q active.Nothing = None
-active_order p q (active.Logic i) = order_by q (as_logic (declaration_at p i))
+abbrev pub active_order : Program → (Trigger → Bool) → Option ℕ → Option ℕ
+active_order p q None = None
+active_order p q (Some i) = order_by q (as_logic (declaration_at p i))
 
-abbrev pub else_active : Program → Active → (Trigger → Bool) → Option ℕ → Option ℕ
+abbrev pub else_active : Program → Option ℕ → (Trigger → Bool) → Option ℕ → Option ℕ
 else_active p a q None = active_order p q a
 else_active p a q (Some i) = Some i
 
@@ -62,16 +60,16 @@ abbrev pub start_of : ℕ → Option ℕ → List ℕ
 start_of k None = k ∷ []
 start_of k (Some j) = j ∷ []
 
-abbrev pub calls_in : Active → ℕ → AsLogic → Struck
+abbrev pub calls_in : Option ℕ → ℕ → AsLogic → Struck
 calls_in a k no_logic_holds = record { active = a; calls = k ∷ [] }
-calls_in a k (a_logic c s os) = record { active = active.Logic k; calls = start_of k s }
+calls_in a k (a_logic c s os) = record { active = Some k; calls = start_of k s }
 
 -- nothing is called where nothing is found
-abbrev pub unless_none : Program → Active → Option ℕ → Struck
+abbrev pub unless_none : Program → Option ℕ → Option ℕ → Struck
 unless_none p a None = record { active = a; calls = [] }
 unless_none p a (Some k) = calls_in a k (as_logic (declaration_at p k))
 
-unfoldable pub struck_in : Program → Active → (Trigger → Bool) → Struck
+unfoldable pub struck_in : Program → Option ℕ → (Trigger → Bool) → Struck
 struck_in p a q = unless_none p a (else_active p a q (logic_in q 0 p))
 
 -- ---- what the tables of an accepted text call for a letter or for a chord is what its declarations say
@@ -95,5 +93,5 @@ FramesAsk = (line : List ℕ) → LineAsks line
 
 unfoldable pub LettersOfText : Type 0
 LettersOfText =
-    (text : List ℕ) (p : Program) → read_text text ≡ accepted p → (a : Active) (x : Sought) → Asked x
+    (text : List ℕ) (p : Program) → read_text text ≡ accepted p → (a : Option ℕ) (x : Sought) → Asked x
     → struck (tables_of p) a x ≡ struck_in p a (sought_by p x)

@@ -1,7 +1,7 @@
 -- What valid tables have for a call: all that the call reads, and an action that keeps valid states valid. Assumes nothing.
 use mathlib.Core.Path.{◌≡◌, ◌∙◌, subst}
 use mathlib.Core.Bool.{true}
-use Rattle.std.specs.Prelude.{Option, Some, None}
+use Rattle.std.specs.Prelude.{Option, Some, None, Result, Ok, Err}
 use Prim.Native.Nat.{ℕ, ◌<◌}
 use native.Mathlib.Omega.{arith}
 use lib.ListN.{length, length-map}
@@ -22,8 +22,6 @@ use Rattle.tables.proofs.Lists.{part_length}
 use Rattle.validity.specs.Valid.{valid_tables}
 use Rattle.validity.specs.Inner.{ValidSystem}
 use Rattle.validity.proofs.Laws.{ValidRow, row_valid, fields_fit}
-use Rattle.protocol.specs.declared.Callee.{Callee}
-use Rattle.protocol.specs.declared.Callee.TheVariants.{Nothing, Row}
 use Rattle.protocol.specs.Triggers.{action_by, action_at}
 use Rattle.protocol.specs.Inner.{calls_of, tuned, tuned_by, CallableRow, Callable, CallableFound, Within}
 
@@ -45,9 +43,9 @@ module _ (t : Tables) (v : valid_tables t ≡ true) where
   callable : (k : ℕ) → k < row_count t → Callable t k
   callable k h = record { fields = fields_fit t v k h; row = callable_row (row_at t k) (row_valid t v k h) }
 
-  pub callable_found : (f : Callee) → Within t (calls_of f) → CallableFound t f
-  callable_found Nothing h = tt
-  callable_found (Row k) h = callable k h.0
+  pub callable_found : (f : Result ℕ ℕ) → Within t (calls_of f) → CallableFound t f
+  callable_found (Err number) h = tt
+  callable_found (Ok k) h = callable k h.0
 
   -- ---- the state after a call
 

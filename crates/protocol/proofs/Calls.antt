@@ -1,7 +1,7 @@
 -- The call of a declaration, by its row; what the tables hold of it; and a step by its call. Assumes nothing.
 use mathlib.Core.Path.{◌≡◌, refl, ap, sym, ◌∙◌, subst}
 use mathlib.Core.List.{List, [], ◌∷◌}
-use Rattle.std.specs.Prelude.{Option, Some, None}
+use Rattle.std.specs.Prelude.{Option, Some, None, Result, Ok, Err}
 use Prim.Native.Nat.{ℕ}
 use types.Run.{OneOf, miss}
 use denote.Enum.Declared.{tag_of}
@@ -14,14 +14,11 @@ use Rattle.tables.specs.declared.Row.{Row as TableRow}
 use Rattle.tables.specs.declared.Row.TheVariants.{Unused, Interval, Tone, System, Retuning, Logic, Harmony, Pattern}
 use Rattle.tables.specs.Layout.{Tables, row_at}
 use Rattle.tables.specs.contracts.Row as variants
-use Rattle.protocol.specs.declared.Callee.{Callee}
-use Rattle.protocol.specs.declared.Callee.TheVariants.{Nothing, Row}
 use Rattle.protocol.specs.declared.Desk.{Desk}
 use Rattle.protocol.specs.declared.Stepped.{Stepped}
-use Rattle.protocol.specs.declared.triggers.Press.{Press}
-use Rattle.protocol.specs.Triggers.{Sought, action_by, action_at, Struck, struck}
-use Rattle.protocol.specs.Steps.{with_tuning, with_active, by_action, call_on, desk_from, made_from, triggered}
-use Rattle.protocol.specs.Inner.{calls_of, struck_by, tuned, tuned_by, found_tuned, calls_leave, step_leaves, CallableRow, Callable}
+use Rattle.protocol.specs.Triggers.{action_by, action_at}
+use Rattle.protocol.specs.Steps.{with_tuning, by_action, call_on}
+use Rattle.protocol.specs.Inner.{tuned, tuned_by, found_tuned, calls_leave, CallableRow, Callable}
 
 -- the variants of a row that call nothing
 abbrev pub uncalled : List ℕ
@@ -47,10 +44,10 @@ pub row_callable : {t : Tables} {k : ℕ} → Callable t k → {r q : TableRow} 
 row_callable {t} h e f = subst (CallableRow t) (sym e ∙ f) h.row
 
 -- a call changes the desk's tuning alone
-pub found_leaves : (t : Tables) (house : ℕ) (d : Desk) (f : Callee) (unfound : ℕ) {q : Reply} → q ≡ found_tuned t d.tuning f unfound
-    → ◌≡◌ {A = Stepped} (record { desk = with_tuning q.state d; number = q.number }) (calls_leave t house d (calls_of f) unfound)
-unfolding desk_from made_from call_on
-found_leaves t house d f unfound e = ap leaves e ∙ go f
+pub found_leaves : (t : Tables) (house : ℕ) (d : Desk) (f : Result ℕ ℕ) {q : Reply} → q ≡ found_tuned t d.tuning f
+    → ◌≡◌ {A = Stepped} (record { desk = with_tuning q.state d; number = q.number }) (calls_leave t house d f)
+unfolding call_on
+found_leaves t house d f e = ap leaves e ∙ go f
   where
     leaves : Reply → Stepped
     leaves r = record { desk = with_tuning r.state d; number = r.number }
@@ -59,12 +56,6 @@ found_leaves t house d f unfound e = ap leaves e ∙ go f
     acted None = refl
     acted (Some c) = refl
 
-    go : (f : Callee) → leaves (found_tuned t d.tuning f unfound) ≡ calls_leave t house d (calls_of f) unfound
-    go Nothing = refl
-    go (Row k) = acted (action_at t k)
-
--- a step, by what is found
-pub step_leaves_holds : (t : Tables) (house : ℕ) (d : Desk) (x : Sought) (unfound : ℕ) (p : Press) → struck_by p ≡ struck t d.active x
-    → calls_leave t house (with_active p.active d) (calls_of p.called) unfound ≡ step_leaves (triggered t house d x unfound)
-unfolding triggered
-step_leaves_holds t house d x unfound p e = ap (λ (z : Struck). calls_leave t house (with_active z.active d) z.calls unfound) e
+    go : (f : Result ℕ ℕ) → leaves (found_tuned t d.tuning f) ≡ calls_leave t house d f
+    go (Err number) = refl
+    go (Ok k) = acted (action_at t k)

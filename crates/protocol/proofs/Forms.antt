@@ -1,6 +1,7 @@
 -- What a row is, by its form: its kind, and whether it is a logic. Assumes nothing.
 use mathlib.Core.Path.{◌≡◌, refl}
-use mathlib.Core.Bool.{Bool, false, cond, ◌&&◌}
+use mathlib.Core.Bool.{Bool, true, false, cond, ◌&&◌}
+use Rattle.std.specs.Prelude.{Option, Some, None}
 use Prim.Native.Nat.{ℕ, ◌+◌, ◌*◌, ◌<◌}
 use native.Mathlib.Omega.{arith}
 use borrow.Author.Tests.{ne_eqb, le-leb, lt-leb}
@@ -15,12 +16,19 @@ use Rattle.tables.specs.Layout.{numbers, row_of, as_logic, AsHarmony, no_harmony
 use Rattle.tables.proofs.Forms.{by_form, no_row_holds}
 use Rattle.validity.specs.Valid.{is_logic}
 use Rattle.protocol.specs.Triggers.{passes}
-use Rattle.protocol.specs.Inner.{is_trigger, kind_of, is_logic_kind}
+use Rattle.protocol.specs.Inner.{is_trigger, kind_of}
 
 -- the kind of a row, as the code finds it by the form
-abbrev pub kind_by : ℕ → Kind
+abbrev pub kind_by : ℕ → Option Kind
 kind_by f =
-    cond (eqb f system_form) kind.System (cond (leb anchor_form f && leb f tones_form) kind.Retuning (cond (eqb f logic_form) kind.Logic kind.Nothing))
+    cond (eqb f system_form) (Some kind.System)
+    (cond (leb anchor_form f && leb f tones_form) (Some kind.Retuning) (cond (eqb f logic_form) (Some kind.Logic) None))
+
+abbrev pub is_logic_kind : Option Kind → Bool
+is_logic_kind None = false
+is_logic_kind (Some kind.System) = false
+is_logic_kind (Some kind.Retuning) = false
+is_logic_kind (Some kind.Logic) = true
 
 module _ (n : Numbers) where
   -- the row, were this its form

@@ -17,8 +17,6 @@ use Rattle.frames.specs.Frames.{Frame, bad, letter, key, dump, move, letter_row,
 use Rattle.frames.specs.declared.Way.{Way}
 use Rattle.keys.specs.declared.HeldKeys.{HeldKeys}
 use Rattle.protocol.specs.declared.Desk.{Desk}
-use Rattle.protocol.specs.declared.Active.{Active}
-use Rattle.protocol.specs.declared.Active.TheVariants as active
 use Rattle.protocol.specs.Triggers.{Sought, itself, matching, action_at, calls_as, called, struck}
 use Rattle.protocol.specs.Steps.{with_active, with_keys, Made, by_action, call_on, desk_from, made_from, last_number, triggered, letter_step, pressed_in_turn, chord_on, if_moved, key_moved, move_step}
 use Rattle.protocol.specs.Answers.{Outcome, letter_outcome, move_outcome, letter_row_outcome, key_outcome, frame_outcome}
@@ -39,21 +37,21 @@ call_keeps t house d v n k h = one_kept house d v n (action_at t k) h
 module _ (t : Tables) (d : Desk) (n : length d.tuning.tones ≡ places) (v : valid_state d.tuning ≡ true) where
   -- a step makes at most one call
   module _ (house unfound : ℕ) where
-    abbrev Keeps : Active → List ℕ → Type 0
+    abbrev Keeps : Option ℕ → List ℕ → Type 0
     Keeps a ks = let e = with_active a d in last_number unfound (made_from t house e ks) ≢ 0 → (desk_from t house e ks).tuning ≡ d.tuning
 
-    call_kept : (a : Active) (k : ℕ) → Keeps a (k ∷ [])
+    call_kept : (a : Option ℕ) (k : ℕ) → Keeps a (k ∷ [])
     unfolding desk_from made_from call_on
     call_kept a k h = one_kept house (with_active a d) v n (action_at t k) h
 
-    no_call_holds : (a : Active) → Keeps a []
+    no_call_holds : (a : Option ℕ) → Keeps a []
     unfolding desk_from
     no_call_holds a h = refl
 
     logic_kept : (k : ℕ) (l : AsLogic) → let z = calls_as d.active k l in Keeps z.active z.calls
     logic_kept k no_logic_holds = call_kept d.active k
-    logic_kept k (a_logic c zero from to) = call_kept (active.Logic k) k
-    logic_kept k (a_logic c (suc j) from to) = call_kept (active.Logic k) j
+    logic_kept k (a_logic c zero from to) = call_kept (Some k) k
+    logic_kept k (a_logic c (suc j) from to) = call_kept (Some k) j
 
     called_kept : (o : Option ℕ) → let z = called t d.active o in Keeps z.active z.calls
     called_kept None = no_call_holds d.active

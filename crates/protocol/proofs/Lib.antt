@@ -11,6 +11,7 @@ pub mod Ways
 pub mod InTurn
 pub mod Stays
 pub mod Audible
+pub mod Active
 pub mod Numbers
 pub mod Kept
 pub mod Singly

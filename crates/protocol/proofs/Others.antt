@@ -11,16 +11,12 @@ use Rattle.frames.specs.declared.Decoded.{Decoded}
 use Rattle.frames.specs.declared.Decoded.TheVariants as frame
 use Rattle.frames.specs.contracts.Decoded as frames
 use Rattle.frames.proofs.LetterRows.{no_row}
-use Rattle.orders.specs.declared.Kind.{Kind}
-use Rattle.orders.specs.declared.Kind.TheVariants as kind
-use Rattle.orders.specs.contracts.Kind as kinds
 use Rattle.tables.specs.declared.Row.{Row as TableRow}
 use Rattle.tables.specs.declared.Row.TheVariants as row
 use Rattle.tables.specs.contracts.Row as rows
 use Rattle.protocol.proofs.Ways.{no_letter, no_move}
 use Rattle.protocol.proofs.Calls.{uncalled}
 use Rattle.protocol.proofs.Struck.{no_logic}
-use Rattle.protocol.proofs.Records.{no_logic_kind}
 
 -- a frame that is no row of letters
 pub row_else : (f : Decoded) → ((house count : ℕ) → f ≡ frame.LetterRow house count → ⊥) → OneOf no_row (tag_of frames.the_type f)
@@ -48,13 +44,6 @@ move_else (frame.Key a b) h = hit no_move 2 tt
 move_else (frame.Dump a) h = hit no_move 3 tt
 move_else (frame.Move a b c) h = absurd (h a b c refl)
 move_else (frame.LetterRow a b) h = hit no_move 5 tt
-
--- a kind that is not a logic's
-pub kind_else : (x : Kind) → (x ≡ kind.Logic → ⊥) → OneOf no_logic_kind (tag_of kinds.the_type x)
-kind_else kind.Nothing h = hit no_logic_kind 0 tt
-kind_else kind.System h = hit no_logic_kind 1 tt
-kind_else kind.Retuning h = hit no_logic_kind 2 tt
-kind_else kind.Logic h = absurd (h refl)
 
 -- a row that is no logic
 pub logic_else : (r : TableRow) → ((c s from to : ℕ) → r ≡ row.Logic c s from to → ⊥) → OneOf no_logic (tag_of rows.the_type r)

@@ -10,45 +10,25 @@ use lib.Dec.{ltb}
 use Rattle.tuning.proofs.Lists.{both}
 use Rattle.tables.specs.declared.Row.{Row as TableRow}
 use Rattle.tables.specs.declared.Row.TheVariants.{Unused, Interval, Tone, System, Retuning, Logic, Harmony, Pattern}
-use Rattle.tables.specs.Layout.{Tables, row_count, row_at, as_logic}
+use Rattle.tables.specs.Layout.{Tables, row_count, row_at, read_at, as_logic}
+use Rattle.tables.specs.Values.{FieldsFit}
 use Rattle.validity.specs.Valid.{is_logic, valid_tables}
 use Rattle.validity.proofs.Laws.{valid_of, ValidRow, row_valid, fields_fit, order_valid}
-use Rattle.protocol.specs.declared.Active.{Active}
-use Rattle.protocol.specs.declared.Active.TheVariants as active
 use Rattle.protocol.specs.Triggers.{Sought, answers_to, first_logic, order_by, order_of, else_order, calls_as, called, struck}
 use Rattle.protocol.specs.Answers.{active_right}
-use Rattle.protocol.specs.Inner.{Within, OrdersThere, ActiveReadable}
+use Rattle.protocol.specs.Inner.{Within}
 use Rattle.protocol.proofs.Searches.{logic_found, order_called}
 use Rattle.protocol.proofs.Struck.{named}
 
 module _ (t : Tables) (v : valid_tables t ≡ true) where
-  active_within : (i : ℕ) → active_right t (active.Logic i) ≡ true → i < row_count t
+  active_within : (i : ℕ) → active_right t (Some i) ≡ true → i < row_count t
   active_within i h = ltb-true _ _ (both (ltb i (row_count t)) (is_logic (row_at t i)) h).0
 
-  orders_there : (r : TableRow) → ValidRow t r → OrdersThere t r
-  orders_there Unused h = tt
-  orders_there (Interval d) h = tt
-  orders_there (Tone p) h = tt
-  orders_there (System a P from to) h = tt
-  orders_there (Retuning r from to) h = tt
-  orders_there (Harmony needed named) h = tt
-  orders_there Pattern h = tt
-  orders_there (Logic c s from to) h =
-      let w = valid_of t v in
-      record {
-        order = h.order;
-        triggers = omega (arith, h.within, w.room.orders, w.sizes.triggers);
-        calls = omega (arith, h.within, w.room.orders, w.sizes.calls);
-      }
-
-  pub active_readable : (a : Active) → active_right t a ≡ true → ActiveReadable t a
-  active_readable active.Nothing h = tt
-  active_readable (active.Logic i) h =
-      let k = active_within i h in
-      (fields_fit t v i k, orders_there (row_at t i) (row_valid t v i k))
-
-  pub active_row : (i : ℕ) → active_right t (active.Logic i) ≡ true → ValidRow t (row_at t i)
+  pub active_row : (i : ℕ) → active_right t (Some i) ≡ true → ValidRow t (row_at t i)
   active_row i h = row_valid t v i (active_within i h)
+
+  pub active_fields : (i : ℕ) → active_right t (Some i) ≡ true → FieldsFit (read_at t.rows i)
+  active_fields i h = fields_fit t v i (active_within i h)
 
   -- what an order calls
   order_within_step : (p : ℕ → Bool) (r : TableRow) → ValidRow t r → {k : ℕ} → order_by t p r ≡ Some k → k < row_count t
@@ -60,16 +40,17 @@ module _ (t : Tables) (v : valid_tables t ≡ true) where
   order_within_step p (Harmony needed named) h {k} e = absurd (none-some k e)
   order_within_step p Pattern h {k} e = absurd (none-some k e)
   order_within_step p (Logic c s from to) h {k} e =
-      let o = order_called p t.triggers t.calls from to (orders_there (Logic c s from to) h).calls e in
+      let w = valid_of t v in
+      let o = order_called p t.triggers t.calls from to (omega (arith, h.within, w.room.orders, w.sizes.calls)) e in
       subst (λ (x : ℕ). x < row_count t) o.is (order_valid t v o.index (omega (arith, o.most, h.within))).within
 
-  module _ (a : Active) (h : active_right t a ≡ true) (x : Sought) where
+  module _ (a : Option ℕ) (h : active_right t a ≡ true) (x : Sought) where
     pub named_within : {k : ℕ} → named t a x ≡ Some k → k < row_count t
     named_within {k} e = go (first_logic t.rows (answers_to t x) 0 (row_count t)) refl e
       where
-        ordered : (b : Active) → active_right t b ≡ true → order_of t (answers_to t x) b ≡ Some k → k < row_count t
-        ordered active.Nothing r q = absurd (none-some k q)
-        ordered (active.Logic i) r q = order_within_step (answers_to t x) (row_at t i) (row_valid t v i (active_within i r)) q
+        ordered : (b : Option ℕ) → active_right t b ≡ true → order_of t (answers_to t x) b ≡ Some k → k < row_count t
+        ordered None r q = absurd (none-some k q)
+        ordered (Some i) r q = order_within_step (answers_to t x) (row_at t i) (row_valid t v i (active_within i r)) q
 
         go : (o : Option ℕ) → first_logic t.rows (answers_to t x) 0 (row_count t) ≡ o → else_order t a (answers_to t x) o ≡ Some k → k < row_count t
         go None f q = ordered a h q

@@ -25,7 +25,6 @@ use Rattle.frames.specs.Frames.{Frame, bad, letter, key, dump, frame_of, move, l
 use Rattle.frames.specs.declared.Decoded.{Decoded}
 use Rattle.frames.specs.declared.Decoded.TheVariants.{Bad, Letter, Key, Dump, Move, LetterRow}
 use Rattle.answers.specs.Answer.{smallest_buffer}
-use Rattle.protocol.specs.declared.Active.{Active}
 use Rattle.protocol.specs.declared.Desk.{Desk}
 use Rattle.protocol.specs.Triggers.{Sought, itself, action_at, calls_as, called, struck, matching}
 use Rattle.protocol.specs.Steps.{with_active, with_keys, by_action, call_on, desk_from, triggered, letter_step, pressed_in_turn, chord_on, if_moved, key_moved, move_step}
@@ -50,7 +49,7 @@ module _ (t : Tables) (v : valid_tables t ≡ true) where
   start_right = record { tuning = (start_state_valid, length_coded (start cents) start_valid.most); active = refl }
 
   -- what is active after a search is a logic
-  module _ (a : Active) (h : active_right t a ≡ true) (x : Sought) where
+  module _ (a : Option ℕ) (h : active_right t a ≡ true) (x : Sought) where
     called_right : (k : ℕ) (r : TableRow) → row_at t k ≡ r → k < row_count t → active_right t (calls_as a k (as_logic r)).active ≡ true
     called_right k Unused e l = h
     called_right k (Interval d) e l = h
@@ -137,3 +136,7 @@ pub valid_right : (t : Tables) (d : Desk) (h : valid_desk t d ≡ true) → leng
 valid_right t d h n =
     let a = both (valid_tables t && valid_state d.tuning) (active_right t d.active) h in
     record { tuning = ((both (valid_tables t) (valid_state d.tuning) a.0).1, n); active = a.1 }
+
+-- what is called from a valid desk is one of the rows
+pub desk_within : (t : Tables) (d : Desk) (h : valid_desk t d ≡ true) → length d.tuning.tones ≡ places → (x : Sought) → Within t (struck t d.active x).calls
+desk_within t d h n x = struck_within t (tables_right t d h) d.active (valid_right t d h n).active x

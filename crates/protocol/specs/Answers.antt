@@ -1,5 +1,5 @@
 -- What a frame does: the desk after it, the number, the calls that were made, and the answer's line. Document 01, "Frames", and "Numbers returned".
-use Rattle.std.specs.Prelude.{◌≡◌, Bool, true, cond, ◌&&◌, ℕ, ltb, ℤ, length}
+use Rattle.std.specs.Prelude.{◌≡◌, Bool, true, cond, ◌&&◌, ℕ, ltb, ℤ, length, Option, Some, None}
 use mathlib.Core.List.{List, [], get_last_d}
 use Rattle.status.specs.Status.{done, key_unplayable, buffer_too_small, key_silent, bad_frame, table_damaged}
 use Rattle.tuning.specs.Scale.{Sound, muted, sounds}
@@ -13,15 +13,13 @@ use Rattle.frames.specs.Frames.{Frame, bad, letter, key, dump, move, letter_row,
 use Rattle.frames.specs.declared.Way.{Way}
 use Rattle.hexadecimal.specs.Lines.{line_of, begun_with}
 use Rattle.answers.specs.Answer.{letter_bytes, move_bytes, letter_row_bytes, key_bytes, dump_bytes, bad_bytes, smallest_buffer}
-use Rattle.protocol.specs.declared.Active.{Active}
-use Rattle.protocol.specs.declared.Active.TheVariants as active
 use Rattle.protocol.specs.declared.Desk.{Desk}
 use Rattle.protocol.specs.declared.Answered.{Answered}
 use Rattle.protocol.specs.Steps.{Made, Step, letter_step, pressed_in_turn, move_step}
 
 -- "At the start: .. no logic active."; no key is held
 abbrev pub start_desk : Desk
-start_desk = record { tuning = coded (start cents); active = active.Nothing; keys = no_keys }
+start_desk = record { tuning = coded (start cents); active = None; keys = no_keys }
 
 -- ---- what a frame does, by its kind; the line is empty where nothing is written
 
@@ -90,9 +88,9 @@ frame_outcome t d bad = bad_outcome d
 -- ---- the whole answer
 
 -- "a state's number out of range": the state's numbers, and the active logic is none or a logic of the tables
-abbrev pub active_right : Tables → Active → Bool
-active_right t active.Nothing = true
-active_right t (active.Logic i) = refers_to is_logic t i
+abbrev pub active_right : Tables → Option ℕ → Bool
+active_right t None = true
+active_right t (Some i) = refers_to is_logic t i
 
 abbrev pub valid_desk : Tables → Desk → Bool
 valid_desk t d = valid_tables t && valid_state d.tuning && active_right t d.active

@@ -1,7 +1,7 @@
 -- What the contracts of private functions cite: no part of the rules.
-use Rattle.std.specs.Prelude.{◌≡◌, Bool, true, false, cond, ◌&&◌, ℕ, zero, suc, ◌+◌, ◌-◌, ◌^◌, ◌≤◌, ◌<◌, eqb, leb, ℤ, length, take, get_or, Option, Some, None}
+use Rattle.std.specs.Prelude.{◌≡◌, Bool, true, false, cond, ◌&&◌, ℕ, zero, suc, ◌-◌, ◌^◌, ◌≤◌, ◌<◌, eqb, leb, ℤ, length, take, get_or, Option, Some, None, Result, Ok, Err, All}
+use Rattle.std.specs.Option.{option_map}
 use mathlib.Core.List.{List, [], ◌∷◌, ◌++◌, map, zip_with, get_last_d}
-use Rattle.std.proofs.Math.Seq.{slice}
 use Rattle.orders.specs.declared.Kind.{Kind}
 use Rattle.orders.specs.declared.Kind.TheVariants as kind
 use Rattle.orders.specs.declared.Order.{Order}
@@ -16,7 +16,7 @@ use Rattle.tables.specs.declared.Row.{Row as TableRow}
 use Rattle.tables.specs.declared.Row.TheVariants.{Unused, Interval, Tone, System, Retuning, Logic, Harmony, Pattern}
 use Rattle.integers.specs.Parts.{up}
 use Rattle.tables.specs.declared.Numbers.{Numbers}
-use Rattle.tables.specs.Layout.{Tables, logic_form, most_rows, row_count, read_at, row_of, row_at, full, AsLogic, no_logic_holds, a_logic, as_logic, AsHarmony, no_harmony, a_harmony, as_harmony, harmony_base}
+use Rattle.tables.specs.Layout.{Tables, logic_form, row_count, triggers_in, calls_in, read_at, row_of, row_at, full, AsLogic, no_logic_holds, a_logic, as_logic, AsHarmony, no_harmony, a_harmony, as_harmony, harmony_base}
 use Rattle.tables.specs.Values.{FieldsFit}
 use Rattle.validity.specs.Valid.{valid_tables}
 use Rattle.validity.specs.Inner.{ValidSystem, ValidRetuning}
@@ -26,10 +26,6 @@ use Rattle.frames.specs.declared.Decoded.TheVariants.{Bad, Letter, Key, Dump, Mo
 use Rattle.keys.specs.Keys.{Place}
 use Rattle.hexadecimal.specs.Lines.{begun_with}
 use Rattle.answers.specs.Answer.{change_bytes, letter_row_bytes, smallest_buffer}
-use Rattle.protocol.specs.declared.Active.{Active}
-use Rattle.protocol.specs.declared.Active.TheVariants as active
-use Rattle.protocol.specs.declared.Callee.{Callee}
-use Rattle.protocol.specs.declared.Callee.TheVariants.{Nothing, Row}
 use Rattle.protocol.specs.declared.Desk.{Desk}
 use Rattle.protocol.specs.declared.Told.{Told}
 use Rattle.protocol.specs.declared.Stepped.{Stepped}
@@ -39,37 +35,18 @@ use Rattle.protocol.specs.declared.presses.PressedAll.{PressedAll}
 use Rattle.protocol.specs.declared.triggers.Press.{Press}
 use Rattle.protocol.specs.declared.triggers.Called.{Called}
 use Rattle.protocol.specs.declared.triggers.Called.TheVariants as called
-use Rattle.protocol.specs.declared.chords.Code.{Code}
-use Rattle.protocol.specs.declared.chords.Code.TheVariants as code
+use Rattle.protocol.specs.declared.board.Index.{Index}
 use Rattle.protocol.specs.declared.Chord.{Chord}
 use Rattle.limits.specs.Limits.{most_positions}
-use Rattle.protocol.specs.Triggers.{Sought, answers_to, action_at, Struck, first_logic, else_order, matches_as, start_calls}
-use Rattle.protocol.specs.Steps.{desk_from, made_from, last_number, Step, Pressed, with_active, with_keys, letter_step, move_step}
+use Rattle.protocol.specs.Triggers.{Sought, answers_to, action_at, first_logic, first_order, order_of, else_order, matches_as}
+use Rattle.protocol.specs.Steps.{call_on, Step, Pressed, with_active, with_keys, letter_step, move_step}
 use Rattle.protocol.specs.Answers.{active_right, Outcome, unchanged, key_outcome, dump_outcome, bad_outcome}
 
 -- ---- the code's values
 
--- a declaration's number, or none, as the code's enum
-abbrev pub found : Option ℕ → Callee
-found None = Nothing
-found (Some k) = Row k
-
--- a declaration in an index: 1 more than its number, or 0 for none
-abbrev pub one_more : Option ℕ → ℕ
-one_more None = 0
-one_more (Some k) = suc k
-
-abbrev pub decoded : ℕ → Option ℕ
-decoded zero = None
-decoded (suc k) = Some k
-
--- letters and harmonies have codes below this, which is no trigger
-abbrev pub trigger_codes : ℕ
-trigger_codes = harmony_base + most_rows
-
--- the trigger of a row that is a logic; what is no trigger, of any other row
-abbrev pub logic_trigger : Numbers → ℕ
-logic_trigger n = cond (eqb n.form logic_form) (up n.first) trigger_codes
+-- the trigger of a row that is a logic
+abbrev pub logic_trigger : Numbers → Option ℕ
+logic_trigger n = cond (eqb n.form logic_form) (Some (up n.first)) None
 
 -- the test for one trigger
 abbrev pub is_trigger : ℕ → ℕ → Bool
@@ -79,57 +56,45 @@ is_trigger trigger code = eqb code trigger
 abbrev pub is_harmonic : ℕ → Bool
 is_harmonic code = leb harmony_base code
 
--- an index of the logics: of each letter the first logic with it; and from 256 on, of each row and of the place behind the last, the first row from it on
--- that is a logic whose trigger is a harmony
-abbrev pub index_size : ℕ
-index_size = harmony_base + most_rows + 1
+-- an index of the logics: of each letter the first logic with it; and of each row, and of the place behind the last, the first row from it on that is a
+-- logic whose trigger is a harmony
+pub record Indexed (rows : List ℤ) (count : ℕ) (index : Index) : Type 0 where
+  pub letter : (trigger : ℕ) → trigger < harmony_base → get_or index.letters trigger None ≡ first_logic rows (is_trigger trigger) 0 count
+  pub chord : (i : ℕ) → i ≤ count → get_or index.chords i None ≡ first_logic rows is_harmonic i (count - i)
 
-pub record Lettered (rows : List ℤ) (count : ℕ) (index : List ℕ) : Type 0 where
-  pub size : length index ≡ index_size
-  pub first : (trigger : ℕ) → trigger < harmony_base → get_or index trigger 0 ≡ one_more (first_logic rows (is_trigger trigger) 0 count)
-  pub rest : (j : ℕ) → harmony_base ≤ j → get_or index j 0 ≡ 0
-
-pub record Indexed (rows : List ℤ) (count : ℕ) (index : List ℕ) : Type 0 where
-  pub first : (trigger : ℕ) → trigger < harmony_base → get_or index trigger 0 ≡ one_more (first_logic rows (is_trigger trigger) 0 count)
-  pub next : (i : ℕ) → i ≤ count → get_or index (harmony_base + i) 0 ≡ one_more (first_logic rows is_harmonic i (count - i))
-
-abbrev pub IndexOf : Tables → List ℕ → Type 0
+abbrev pub IndexOf : Tables → Index → Type 0
 IndexOf t index = Indexed t.rows (row_count t) index
 
 -- the first logic for what is looked for
-abbrev pub logic_for : Tables → Sought → Callee
-logic_for t x = found (first_logic t.rows (answers_to t x) 0 (row_count t))
+abbrev pub logic_for : Tables → Sought → Option ℕ
+logic_for t x = first_logic t.rows (answers_to t x) 0 (row_count t)
 
--- the kind of a declaration that is called
-abbrev pub kind_of : TableRow → Kind
-kind_of Unused = kind.Nothing
-kind_of (Interval d) = kind.Nothing
-kind_of (Tone p) = kind.Nothing
-kind_of (System a P from to) = kind.System
-kind_of (Retuning r from to) = kind.Retuning
-kind_of (Logic c s from to) = kind.Logic
-kind_of (Harmony needed named) = kind.Nothing
-kind_of Pattern = kind.Nothing
+-- the kind of a declaration that can be called
+abbrev pub kind_of : TableRow → Option Kind
+kind_of Unused = None
+kind_of (Interval d) = None
+kind_of (Tone p) = None
+kind_of (System a P from to) = Some kind.System
+kind_of (Retuning r from to) = Some kind.Retuning
+kind_of (Logic c s from to) = Some kind.Logic
+kind_of (Harmony needed named) = None
+kind_of Pattern = None
 
-abbrev pub kind_at : List ℤ → ℕ → Kind
+abbrev pub kind_at : List ℤ → ℕ → Option Kind
 kind_at rows k = kind_of (row_of (read_at rows k))
 
-abbrev pub is_logic_kind : Kind → Bool
-is_logic_kind kind.Nothing = false
-is_logic_kind kind.System = false
-is_logic_kind kind.Retuning = false
-is_logic_kind kind.Logic = true
+-- a declaration that is called, as the code's enum that tells logics from others
+abbrev pub by_kind : Option Kind → ℕ → Called
+by_kind None k = called.Other k
+by_kind (Some kind.System) k = called.Other k
+by_kind (Some kind.Retuning) k = called.Other k
+by_kind (Some kind.Logic) k = called.Logic k
 
--- a declaration's number, or none, as the code's enum that tells logics from others
-abbrev pub by_kind : Kind → ℕ → Called
-by_kind x k = cond (is_logic_kind x) (called.Logic k) (called.Other k)
-
-abbrev pub called_in : List ℤ → Option ℕ → Called
-called_in rows None = called.Nothing
-called_in rows (Some k) = by_kind (kind_at rows k) k
+abbrev pub called_in : List ℤ → Option ℕ → Option Called
+called_in rows = option_map (λ (k : ℕ). by_kind (kind_at rows k) k)
 
 -- what is found for what is looked for
-abbrev pub called_by : Tables → Active → Sought → Called
+abbrev pub called_by : Tables → Option ℕ → Sought → Option Called
 called_by t a x = let p = answers_to t x in called_in t.rows (else_order t a p (first_logic t.rows p 0 (row_count t)))
 
 -- orders as records: of each its trigger, the kind of the declaration that it calls, and that declaration's number
@@ -143,27 +108,28 @@ records_of rows triggers calls = zip_with (record_of rows) triggers calls
 abbrev pub part_size : ℕ
 part_size = 16
 
--- those of the orders from one place to another, and zeros after them
-abbrev pub gathered : List ℤ → List ℕ → List ℕ → ℕ → ℕ → List Order
-gathered rows triggers calls from to = full no_order part_size (records_of rows (slice from to triggers) (slice from to calls))
+-- those of no more than a part of the orders, and zeros after them
+abbrev pub gathered : List ℤ → List ℕ → List ℕ → List Order
+gathered rows triggers calls = full no_order part_size (records_of rows triggers calls)
 
 -- the declarations that are called: at most one
-abbrev pub calls_of : Callee → List ℕ
-calls_of Nothing = []
-calls_of (Row k) = k ∷ []
+abbrev pub calls_of : Result ℕ ℕ → List ℕ
+calls_of (Err number) = []
+calls_of (Ok k) = k ∷ []
 
--- what is found, as the code's struct has it
-abbrev pub struck_by : Press → Struck
-struck_by p = record { active = p.active; calls = calls_of p.called }
+-- a logic's start, as its row has it
+abbrev pub start_call : ℕ → ℕ → ℕ
+start_call k zero = k
+start_call k (suc j) = j
 
--- what comes of what is found, as the code's enum names it
-abbrev pub struck_as : List ℤ → Active → Called → Struck
-struck_as rows a called.Nothing = record { active = a; calls = [] }
-struck_as rows a (called.Other k) = record { active = a; calls = k ∷ [] }
-struck_as rows a (called.Logic k) = record { active = active.Logic k; calls = start_calls k (up (read_at rows k).second) }
+-- what comes of what is found, as the code's struct has it
+abbrev pub press_as : List ℤ → Option ℕ → Result Called ℕ → Press
+press_as rows a (Err number) = record { active = a; called = Err number }
+press_as rows a (Ok (called.Other k)) = record { active = a; called = Ok k }
+press_as rows a (Ok (called.Logic k)) = record { active = Some k; called = Ok (start_call k (up (read_at rows k).second)) }
 
-abbrev pub struck_in : Tables → Desk → Called → Struck
-struck_in t d f = struck_as t.rows d.active f
+abbrev pub called_after : Tables → Desk → Result Called ℕ → List ℕ
+called_after t d f = calls_of (press_as t.rows d.active f).called
 
 -- what a call does to the tuning
 abbrev pub tuned : State → Option (Action cents) → Reply
@@ -174,43 +140,28 @@ abbrev pub tuned_by : Tables → State → ℕ → Reply
 tuned_by t s k = tuned s (action_at t k)
 
 -- the same of what was found
-abbrev pub found_tuned : Tables → State → Callee → ℕ → Reply
-found_tuned t s Nothing unfound = record { state = s; number = unfound }
-found_tuned t s (Row k) unfound = tuned_by t s k
+abbrev pub found_tuned : Tables → State → Result ℕ ℕ → Reply
+found_tuned t s (Err number) = record { state = s; number = number }
+found_tuned t s (Ok k) = tuned_by t s k
 
--- what calls and a step leave, as the code's struct has it
-abbrev pub calls_leave : Tables → ℕ → Desk → List ℕ → ℕ → Stepped
-calls_leave t house d ks unfound = record { desk = desk_from t house d ks; number = last_number unfound (made_from t house d ks) }
+-- what a call and a step leave, as the code's struct has it
+abbrev pub calls_leave : Tables → ℕ → Desk → Result ℕ ℕ → Stepped
+calls_leave t house d (Err number) = record { desk = d; number = number }
+calls_leave t house d (Ok k) = let r = call_on t house d k in record { desk = r.desk; number = r.number }
 
-abbrev pub struck_leaves : Tables → ℕ → Desk → Struck → ℕ → Stepped
-struck_leaves t house d z unfound = calls_leave t house (with_active z.active d) z.calls unfound
+abbrev pub struck_leaves : Tables → ℕ → Desk → Result Called ℕ → Stepped
+struck_leaves t house d f = let p = press_as t.rows d.active f in calls_leave t house (with_active p.active d) p.called
 
 abbrev pub step_leaves : Step → Stepped
 step_leaves s = record { desk = s.desk; number = s.number }
 
 -- ---- what is required of the tables
 
--- from one place to another of the orders
-pub record OrderPart (cs ks : List ℕ) (from to : ℕ) : Type 0 where
-  pub order : from ≤ to
-  pub triggers : to ≤ length cs
-  pub calls : to ≤ length ks
-
--- the orders of a logic are all there
-abbrev pub OrdersThere : Tables → TableRow → Type 0
-OrdersThere t Unused = Unit
-OrdersThere t (Interval d) = Unit
-OrdersThere t (Tone p) = Unit
-OrdersThere t (System a P from to) = Unit
-OrdersThere t (Retuning r from to) = Unit
-OrdersThere t (Logic c s from to) = OrderPart t.triggers t.calls from to
-OrdersThere t (Harmony needed named) = Unit
-OrdersThere t Pattern = Unit
-
--- the active logic's row can be read, and its orders
-abbrev pub ActiveReadable : Tables → Active → Type 0
-ActiveReadable t active.Nothing = Unit
-ActiveReadable t (active.Logic i) = FieldsFit (read_at t.rows i) × OrdersThere t (row_at t i)
+-- each order has both of its codes
+abbrev pub Paired : List ℕ → Type 0
+Paired [] = Unit
+Paired (trigger ∷ []) = ⊥
+Paired (trigger ∷ call ∷ orders) = Paired orders
 
 -- a tone system or retuning has what a call of it needs
 abbrev pub CallableRow : Tables → TableRow → Type 0
@@ -227,9 +178,9 @@ pub record Callable (t : Tables) (k : ℕ) : Type 0 where
   pub fields : FieldsFit (read_at t.rows k)
   pub row : CallableRow t (row_at t k)
 
-abbrev pub CallableFound : Tables → Callee → Type 0
-CallableFound t Nothing = Unit
-CallableFound t (Row k) = Callable t k
+abbrev pub CallableFound : Tables → Result ℕ ℕ → Type 0
+CallableFound t (Err number) = Unit
+CallableFound t (Ok k) = Callable t k
 
 -- each of these is one of the rows
 abbrev pub Within : Tables → List ℕ → Type 0
@@ -246,10 +197,6 @@ sounds_in rows x code = leb harmony_base code && matches_as x (as_harmony (row_o
 unfoldable pub first_of : (ℕ → Bool) → List ℕ → Option ℕ
 first_of p [] = None
 first_of p (c ∷ cs) = elim (p c) [ true ↦ Some c | false ↦ first_of p cs ]
-
-abbrev pub code_of : Option ℕ → Code
-code_of None = code.Nothing
-code_of (Some c) = code.Trigger c
 
 -- a chord's positions and width are those of a state
 pub record ChordFits (x : Chord) : Type 0 where
@@ -272,6 +219,12 @@ AudibleLogic rows (a_logic c s from to) = Audible rows c
 -- and those of the triggers of logics
 abbrev pub AudibleRows : List ℤ → ℕ → Type 0
 AudibleRows rows count = (i : ℕ) → i < count → AudibleLogic rows (as_logic (row_of (read_at rows i)))
+
+-- the orders of the active logic
+pub record OrdersOf (t : Tables) (active : Option ℕ) (orders : List ℕ) : Type 0 where
+  pub paired : Paired orders
+  pub audible : All (Audible t.rows) (triggers_in orders)
+  pub first : (p : ℕ → Bool) → first_order p (triggers_in orders) (calls_in orders) ≡ order_of t p active
 
 -- ---- of frames
 
@@ -326,8 +279,8 @@ step_of t d (LetterRow house count) = still d
 
 -- what a search finds comes to a step once it is called, and can be called
 pub record Finds (t : Tables) (house : ℕ) (d : Desk) (s : Step) (r : Search) : Type 0 where
-  pub within : Within t (struck_in t (with_keys r.keys d) r.found).calls
-  pub leaves : struck_leaves t house (with_keys r.keys d) (struck_in t (with_keys r.keys d) r.found) r.unfound ≡ step_leaves s
+  pub within : Within t (called_after t (with_keys r.keys d) r.found)
+  pub leaves : struck_leaves t house (with_keys r.keys d) r.found ≡ step_leaves s
 
 -- ---- of presses
 

@@ -9,3 +9,4 @@ pub mod Fits
 pub mod KeysHeld
 pub mod Unplayable
 pub mod Inner
+pub mod OnBoard

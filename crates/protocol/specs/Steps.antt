@@ -11,7 +11,6 @@ use Rattle.harmonies.specs.Harmonies.{chord_of}
 use Rattle.tables.specs.Layout.{Tables}
 use Rattle.frames.specs.declared.Way.{Way}
 use Rattle.frames.specs.declared.Way.TheVariants.{Down, Up}
-use Rattle.protocol.specs.declared.Active.{Active}
 use Rattle.protocol.specs.declared.Desk.{Desk}
 use Rattle.protocol.specs.declared.Chord.{Chord}
 use Rattle.protocol.specs.Triggers.{Sought, itself, matching, action_at, struck}
@@ -21,7 +20,7 @@ use Rattle.protocol.specs.Triggers.{Sought, itself, matching, action_at, struck}
 abbrev pub with_tuning : State → Desk → Desk
 with_tuning s d = record { tuning = s; active = d.active; keys = d.keys }
 
-abbrev pub with_active : Active → Desk → Desk
+abbrev pub with_active : Option ℕ → Desk → Desk
 with_active a d = record { tuning = d.tuning; active = a; keys = d.keys }
 
 abbrev pub with_keys : HeldKeys → Desk → Desk

@@ -13,8 +13,6 @@ use Rattle.tables.specs.Layout.{Tables, row_count, row_of, read_at, row_at, AsLo
 use Rattle.tables.specs.Values as values
 use Rattle.tables.specs.Values.{listed}
 use Rattle.harmonies.specs.Harmonies.{matches}
-use Rattle.protocol.specs.declared.Active.{Active}
-use Rattle.protocol.specs.declared.Active.TheVariants as active
 use Rattle.protocol.specs.declared.Chord.{Chord}
 
 -- ---- what is looked for among triggers: a trigger itself, or any harmony that matches the chord of the held keys
@@ -74,19 +72,19 @@ order_in t p (a_logic c s from to) = first_order p (slice from to t.triggers) (s
 abbrev pub order_by : Tables → (ℕ → Bool) → Row → Option ℕ
 order_by t p r = order_in t p (as_logic r)
 
-abbrev pub order_of : Tables → (ℕ → Bool) → Active → Option ℕ
-order_of t p active.Nothing = None
-order_of t p (active.Logic i) = order_by t p (row_at t i)
+abbrev pub order_of : Tables → (ℕ → Bool) → Option ℕ → Option ℕ
+order_of t p None = None
+order_of t p (Some i) = order_by t p (row_at t i)
 
 -- a logic whose trigger passes, else an order of the active logic
-abbrev pub else_order : Tables → Active → (ℕ → Bool) → Option ℕ → Option ℕ
+abbrev pub else_order : Tables → Option ℕ → (ℕ → Bool) → Option ℕ → Option ℕ
 else_order t a p None = order_of t p a
 else_order t a p (Some i) = Some i
 
 -- ---- what is found: the logic that is active then, and the declarations that are called, in order; none where nothing is found
 
 pub record Struck : Type 0 where
-  pub active : Active
+  pub active : Option ℕ
   pub calls : List ℕ
 
 -- "start is a tone system or retuning name or nothing": 0, or 1 more than the declaration's number. "0 with no start": the logic itself is called,
@@ -96,13 +94,13 @@ start_calls k zero = k ∷ []
 start_calls k (suc j) = j ∷ []
 
 -- a called declaration: "a called logic becomes active, its start called"; a tone system or retuning leaves the active logic
-abbrev pub calls_as : Active → ℕ → AsLogic → Struck
+abbrev pub calls_as : Option ℕ → ℕ → AsLogic → Struck
 calls_as a k no_logic_holds = record { active = a; calls = k ∷ [] }
-calls_as a k (a_logic c s from to) = record { active = active.Logic k; calls = start_calls k s }
+calls_as a k (a_logic c s from to) = record { active = Some k; calls = start_calls k s }
 
-abbrev pub called : Tables → Active → Option ℕ → Struck
+abbrev pub called : Tables → Option ℕ → Option ℕ → Struck
 called t a None = record { active = a; calls = [] }
 called t a (Some k) = calls_as a k (as_logic (row_at t k))
 
-unfoldable pub struck : Tables → Active → Sought → Struck
+unfoldable pub struck : Tables → Option ℕ → Sought → Struck
 struck t a x = let p = answers_to t x in called t a (else_order t a p (first_logic t.rows p 0 (row_count t)))

@@ -1,45 +1,38 @@
 // The frame call: a frame, the tables, the desk and a lent buffer give an answer and the next desk.
 #![tactic(auto)]
 
+mod board;
 mod chords;
 mod presses;
 mod triggers;
 
-ghost use Rattle.std.specs.Prelude.{◌≡◌, true, ◌≤◌, ◌<◌, length, get_or};
+ghost use Rattle.std.specs.Prelude.{◌≡◌, true, ◌≤◌, length, Some};
 ghost use Rattle.tuning.specs.State.{heard, valid_state};
-ghost use Rattle.tables.specs.Layout.{tables_in, harmony_base};
-ghost use Rattle.tables.specs.Values.{Slices};
+ghost use Rattle.tables.specs.Layout.{tables_in};
+ghost use Rattle.tables.specs.Lent.{tables_of};
 ghost use Rattle.validity.specs.Valid.{valid_tables};
 ghost use Rattle.frames.specs.Frames.{frame_of, decoded_as};
 ghost use Rattle.answers.specs.Answer.{smallest_buffer};
 ghost use Rattle.protocol.specs.Steps.{with_tuning, with_active, with_keys};
 ghost use Rattle.protocol.specs.Answers.{start_desk, key_number, frame_outcome, active_right, valid_desk, answer_of, Gives};
-ghost use Rattle.protocol.specs.Inner.{found, decoded, IndexOf, Ready, FrameInside, may_change, told_outcome, Tells};
+ghost use Rattle.protocol.specs.Inner.{Ready, FrameInside, may_change, told_outcome, Tells};
+ghost use Rattle.protocol.specs.OnBoard.{tables_on};
 
 use answers::SMALLEST_BUFFER;
+pub use board::Board;
 use frames::Decoded;
 use keys::HeldKeys;
 use status::{BAD_FRAME, BUFFER_TOO_SMALL, DONE, KEY_SILENT, KEY_UNPLAYABLE, TABLE_DAMAGED};
-use tables::{Counts, HARMONY_BASE, LOGIC_FORM, ROWS, SOUNDING_AT, TONES_AT, decode};
+use tables::{LOGIC_FORM, Tables, decode};
 use triggers::Called;
 use tuning::{State, Tone, is_playable};
-use validity::valid_tables;
+use validity::are_valid;
 
-// The places of the index: 256 for letters, one for each row that a program can have, and one behind the last.
-pub const INDEX_SIZE: usize = HARMONY_BASE as usize + ROWS + 1;
-
-// The active logic, by the number of its declaration.
-#[derive(Clone, Copy)]
-pub enum Active {
-    Nothing,
-    Logic(u32),
-}
-
-// What the desk holds from frame to frame, for both houses.
+// What the desk holds from frame to frame, for both houses: the tuning, the active logic, by the number of its declaration, and the held keys.
 #[derive(Clone, Copy)]
 pub struct Desk {
     pub tuning: State,
-    pub active: Active,
+    pub active: Option<u32>,
     pub keys: HeldKeys,
 }
 
@@ -72,19 +65,11 @@ pub struct Stepped {
     pub number: u8,
 }
 
-// What a frame finds, before that is called: the keys that are held then, what is called, and the number where that is nothing.
+// What a frame finds, before that is called: the keys that are held then, and what is called, or the number where that is nothing.
 #[derive(Clone, Copy)]
 pub struct Search {
     pub keys: HeldKeys,
-    pub found: Called,
-    pub unfound: u8,
-}
-
-// A declaration's number, where there is one.
-#[derive(Clone, Copy)]
-pub enum Callee {
-    Nothing,
-    Row(u32),
+    pub found: Result<Called, u8>,
 }
 
 impl Desk {
@@ -94,7 +79,7 @@ impl Desk {
     {
         Desk {
             tuning: State::start(),
-            active: Active::Nothing,
+            active: None,
             keys: HeldKeys::none(),
         }
     }
@@ -103,91 +88,49 @@ impl Desk {
     fn with_tuning(self, tuning: State) -> Desk
         ensures { result ≡ with_tuning tuning self }
     {
-        let active = self.active;
-        let keys = self.keys;
-        Desk {
-            tuning,
-            active,
-            keys,
-        }
+        Desk { tuning, ..self }
     }
 
     // Another active logic, or none; all else as it was.
-    fn with_active(self, active: Active) -> Desk
+    fn with_active(self, active: Option<u32>) -> Desk
         ensures { result ≡ with_active active self }
     {
-        let tuning = self.tuning;
-        let keys = self.keys;
-        Desk {
-            tuning,
-            active,
-            keys,
-        }
+        Desk { active, ..self }
     }
 
     // Other held keys, all else as it was.
     fn with_keys(self, keys: HeldKeys) -> Desk
         ensures { result ≡ with_keys keys self }
     {
-        let tuning = self.tuning;
-        let active = self.active;
-        Desk {
-            tuning,
-            active,
-            keys,
-        }
+        Desk { keys, ..self }
     }
 }
 
 // Whether declaration i is a logic, and one of the rows that are used.
-fn has_logic(numbers: &[i32], codes: &[u16], i: u32) -> bool
-    requires { Slices numbers.now codes.now }
-    ensures { result ≡ active_right (tables_in numbers.now codes.now) (Active.Logic i) }
+fn has_logic(tables: Tables, i: u32) -> bool
+    ensures { result ≡ active_right (tables_of tables.entry) (Some i) }
 {
-    let used = Counts::read(&codes[0..SOUNDING_AT]);
-    let n = decode::numbers_at(&numbers[0..TONES_AT], i as usize);
-    (i < used.rows) & (n.form == LOGIC_FORM)
+    let n = decode::numbers_at(tables.rows(), i as usize);
+    (i < tables.counts().rows) & (n.form == LOGIC_FORM)
 }
 
 // Whether the tables and the desk are right.
 pub fn is_valid(numbers: &[i32], codes: &[u16], desk: Desk) -> bool
     ensures { result ≡ valid_desk (tables_in numbers.now codes.now) desk }
 {
-    if !valid_tables(numbers, codes) {
+    let Some(tables) = Tables::new(numbers, codes) else {
         return false;
-    }
-    let s = desk.tuning;
-    if !s.is_valid() {
-        return false;
-    }
-    let active = desk.active;
-    let Active::Logic(i) = active else {
-        return true;
     };
-    has_logic(numbers, codes, i)
-}
-
-// The index of the logics (`index_rows`, `chain_rows`). No frame changes it, so a stream makes it once.
-pub fn index_logics(numbers: &[i32], codes: &[u16]) -> [u32; INDEX_SIZE]
-    requires { valid_tables (tables_in numbers.now codes.now) ≡ true }
-    ensures { IndexOf (tables_in numbers.now codes.now) result }
-{
-    let used = Counts::read(&codes[0..SOUNDING_AT]);
-    let rows = &numbers[0..TONES_AT];
-    let letters = triggers::index_rows(rows, used.rows);
-    triggers::chain_rows(letters, rows, used.rows)
-}
-
-// The first logic with this letter, from the index.
-pub fn find_indexed(index: &[u32; INDEX_SIZE], trigger: u16) -> Callee
-    requires { trigger < harmony_base }
-    ensures { result ≡ found (decoded (get_or index.now trigger 0)) }
-{
-    let k = index[trigger as usize];
-    if k == 0 {
-        return Callee::Nothing;
+    if !are_valid(tables) {
+        return false;
     }
-    Callee::Row(k - 1)
+    if !desk.tuning.is_valid() {
+        return false;
+    }
+    match desk.active {
+        None => true,
+        Some(i) => has_logic(tables, i),
+    }
 }
 
 // Nothing is answered but a number.
@@ -205,51 +148,47 @@ fn refuse(desk: Desk, number: u8) -> Answered
 pub fn may_change(frame: Decoded) -> bool
     ensures { result ≡ may_change frame }
 {
-    match frame {
-        Decoded::Bad => false,
-        Decoded::Letter {
-            house: _,
-            letter: _,
-        } => true,
-        Decoded::Key { house: _, key: _ } => false,
-        Decoded::Dump { house: _ } => false,
-        Decoded::Move {
-            way: _,
-            house: _,
-            key: _,
-        } => true,
-        Decoded::LetterRow { house: _, count: _ } => true,
-    }
+    matches!(
+        frame,
+        Decoded::Letter { .. } | Decoded::Move { .. } | Decoded::LetterRow { .. }
+    )
 }
 
-// The answer to a line whose frame may change the desk.
-pub fn answer_changing(
-    numbers: &[i32],
-    codes: &[u16],
-    index: &[u32; INDEX_SIZE],
-    desk: Desk,
-    line: &[u8],
-    frame: Decoded,
-    buffer: &mut [u8],
-) -> Answered
-    requires ready { Ready (tables_in numbers.now codes.now) desk buffer.old }
-    requires index_of { IndexOf (tables_in numbers.now codes.now) index.now }
-    requires frame_value { (frame ≡ decoded_as (frame_of line.now)) × (may_change frame ≡ true) }
-    ensures gives { Gives (frame_outcome (tables_in numbers.now codes.now) desk (frame_of line.now)) result buffer.old buffer.new }
-    ensures stays { valid_desk (tables_in numbers.now codes.now) result.desk ≡ true }
-{
-    let letters = frames::letters_of(frame, line);
-    let pressed = presses::press_all(numbers, codes, index, desk, frame, letters);
-    let next = pressed.desk;
-    let tuning = next.tuning;
-    let number = pressed.number;
-    let all = pressed.numbers;
-    let n = presses::press_count(frame);
-    let length = presses::answer_presses(buffer, frame, &letters[..n], &all[..n], number, tuning);
-    Answered {
-        desk: next,
-        number,
-        length,
+impl Board<'_> {
+    // The answer to a line whose frame may change the desk.
+    pub fn answer_changing(
+        &self,
+        desk: Desk,
+        line: &[u8],
+        frame: Decoded,
+        buffer: &mut [u8],
+    ) -> Answered
+        requires desk_value { valid_desk (tables_on self.now) desk ≡ true }
+        requires room { smallest_buffer ≤ length buffer.old }
+        requires frame_value { (frame ≡ decoded_as (frame_of line.now)) × (may_change frame ≡ true) }
+        ensures gives { Gives (frame_outcome (tables_on self.now) desk (frame_of line.now)) result buffer.old buffer.new }
+        ensures stays { valid_desk (tables_on self.now) result.desk ≡ true }
+    {
+        let letters = frames::letters_of(frame, line);
+        let pressed = self.press_all(desk, frame, letters);
+        let next = pressed.desk;
+        let tuning = next.tuning;
+        let number = pressed.number;
+        let all = pressed.numbers;
+        let n = presses::press_count(frame);
+        let length = presses::answer_presses(
+            buffer,
+            frame,
+            &letters[..n],
+            &all[..n],
+            number,
+            tuning,
+        );
+        Answered {
+            desk: next,
+            number,
+            length,
+        }
     }
 }
 
@@ -276,10 +215,7 @@ pub fn tell(desk: Desk, frame: Decoded, buffer: &mut [u8]) -> Told
             number: BAD_FRAME,
             length: answers::answer_bad(buffer),
         },
-        Decoded::Letter {
-            house: _,
-            letter: _,
-        } => Told {
+        Decoded::Letter { .. } | Decoded::Move { .. } | Decoded::LetterRow { .. } => Told {
             number: DONE,
             length: 0,
         },
@@ -293,18 +229,6 @@ pub fn tell(desk: Desk, frame: Decoded, buffer: &mut [u8]) -> Told
         Decoded::Dump { house } => Told {
             number: DONE,
             length: answers::answer_dump(buffer, house, s),
-        },
-        Decoded::Move {
-            way: _,
-            house: _,
-            key: _,
-        } => Told {
-            number: DONE,
-            length: 0,
-        },
-        Decoded::LetterRow { house: _, count: _ } => Told {
-            number: DONE,
-            length: 0,
         },
     }
 }
@@ -322,8 +246,8 @@ fn take_frame(
 {
     let taken = frames::decode(frame);
     if may_change(taken) {
-        let index = index_logics(numbers, codes);
-        return answer_changing(numbers, codes, &index, desk, frame, taken, buffer);
+        let board = Board::new(numbers, codes);
+        return board.answer_changing(desk, frame, taken, buffer);
     }
     let told = tell(desk, taken, buffer);
     Answered {

@@ -11,9 +11,6 @@ sound_of-tone-requires c = let within = subst FrameInside c.in-Key.is c.requires
 pub returns-in-Bad : goal.returns-in-Bad
 returns-in-Bad c = let r = c.answer_bad.ensures in tells _ c.in-Bad.is (record { number = refl; size = r.0; buffer = r.1 })
 
-pub returns-in-Letter : goal.returns-in-Letter
-returns-in-Letter c = tells _ c.in-Letter.is (record { number = refl; size = refl; buffer = refl })
-
 pub returns-in-Key : goal.returns-in-Key
 returns-in-Key c =
     let r = c.answer_key-length.ensures in
@@ -25,9 +22,3 @@ returns-in-Key c =
 
 pub returns-in-Dump : goal.returns-in-Dump
 returns-in-Dump c = let r = c.answer_dump.ensures in tells _ c.in-Dump.is (record { number = refl; size = r.0; buffer = r.1 })
-
-pub returns-in-Move : goal.returns-in-Move
-returns-in-Move c = tells _ c.in-Move.is (record { number = refl; size = refl; buffer = refl })
-
-pub returns-in-LetterRow : goal.returns-in-LetterRow
-returns-in-LetterRow c = tells _ c.in-LetterRow.is (record { number = refl; size = refl; buffer = refl })

@@ -41,12 +41,12 @@ module _ (c : goal.After-set_of-named) where
   needed = c.set_of-needed.ensures ∙ ap₂ (λ (a b : ℕ). a + b * half_set) first_natural second_natural
 
   read : a_harmony c.set_of-needed.result c.set_of-named.result ≡ as_harmony (row_of row)
-  read = ap₂ a_harmony needed c.set_of-named.ensures ∙ is_harmony_holds row c.if-form-ne-HARMONY_FORM.false
+  read = ap₂ a_harmony needed c.set_of-named.ensures ∙ is_harmony_holds row c.if-n-ne-HARMONY_FORM.false
 
-pub returns-then-form-ne-HARMONY_FORM : goal.returns-then-form-ne-HARMONY_FORM
-returns-then-form-ne-HARMONY_FORM c =
+pub returns-then-n-ne-HARMONY_FORM : goal.returns-then-n-ne-HARMONY_FORM
+returns-then-n-ne-HARMONY_FORM c =
     let a = c.args in
-    ap (matches_as a.chord) (sym (ap (λ (b : Bool). cond b (harmony a.n) no_harmony) (ne_eqb a.n.form harmony_form c.if-form-ne-HARMONY_FORM.true)) ∙ harmony_by a.n)
+    ap (matches_as a.chord) (sym (ap (λ (b : Bool). cond b (harmony a.n) no_harmony) (ne_eqb a.n.form harmony_form c.if-n-ne-HARMONY_FORM.true)) ∙ harmony_by a.n)
 
 pub matches_chord-requires : goal.matches_chord-requires
 matches_chord-requires c =

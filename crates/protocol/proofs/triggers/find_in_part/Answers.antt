@@ -1,21 +1,24 @@
--- `protocol::triggers::find_in_part` meets its contract. Assumes nothing.
-use mathlib.Core.Path.{sym, ◌∙◌}
+-- What is found among the records is what is found among the orders.
+use mathlib.Core.Path.{sym, ◌∙◌, ap}
 use native.Mathlib.Omega.{arith}
-use Rattle.protocol.proofs.Records.{called_gathered, found_gathered, no_logic_holds}
-use Rattle.protocol.proofs.Others.{kind_else}
+use Rattle.std.specs.Prelude.{Some}
+use Rattle.protocol.proofs.Records.{called_gathered, found_gathered}
+use Rattle.protocol.proofs.triggers.find_in_part.Goals.{After-find_match}
 use Rattle.protocol.proofs.triggers.find_in_part.Goals as goal
 
-pub returns-in_default : goal.returns-in_default
-returns-in_default c = called_gathered c.args.rows.now c.args.trigger c.requires.order_part c.gather_orders-all.ensures (sym c.find_match_in.ensures ∙ c.in_default.is)
+pub returns-in_err-i : goal.returns-in_err-i
+returns-in_err-i c =
+    c.from_residual.ensures
+    ∙ called_gathered c.args.rows.now c.args.trigger c.args.orders.now c.requires.paired c.requires.part c.gather_orders-all.ensures (sym c.find_match.ensures ∙ c.in_err-i.was)
 
 pub offset_bounds-all-i : goal.offset_bounds-all-i
-offset_bounds-all-i c = omega (arith, found_gathered c.args.rows.now c.args.trigger c.requires.order_part c.gather_orders-all.ensures (sym c.find_match_in.ensures) c.requires.to_bound c.in-At.is)
+offset_bounds-all-i c =
+    omega (arith, found_gathered c.args.rows.now c.args.trigger c.args.orders.now c.requires.paired c.requires.part c.gather_orders-all.ensures (sym c.find_match.ensures) c.in_ok-i.was)
 
 pub bounds-all-i : goal.bounds-all-i
-bounds-all-i c = found_gathered c.args.rows.now c.args.trigger c.requires.order_part c.gather_orders-all.ensures (sym c.find_match_in.ensures) c.requires.to_bound c.in-At.is
-
-pub returns-in-Logic : goal.returns-in-Logic
-returns-in-Logic c = rw c.in-Logic.is at (called_gathered c.args.rows.now c.args.trigger c.requires.order_part c.gather_orders-all.ensures (sym c.find_match_in.ensures ∙ c.in-At.is))
+bounds-all-i c = found_gathered c.args.rows.now c.args.trigger c.args.orders.now c.requires.paired c.requires.part c.gather_orders-all.ensures (sym c.find_match.ensures) c.in_ok-i.was
 
 pub returns : goal.returns
-returns c = rw (no_logic_holds _ (kind_else _ c.in_default-kind.not-Logic)) at (called_gathered c.args.rows.now c.args.trigger c.requires.order_part c.gather_orders-all.ensures (sym c.find_match_in.ensures ∙ c.in-At.is))
+returns c =
+    ap Some c.by_kind.ensures
+    ∙ called_gathered c.args.rows.now c.args.trigger c.args.orders.now c.requires.paired c.requires.part c.gather_orders-all.ensures (sym c.find_match.ensures ∙ c.in_ok-i.was)

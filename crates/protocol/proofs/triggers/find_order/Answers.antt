@@ -1,39 +1,50 @@
--- `protocol::triggers::find_order` meets its contract. The loop's invariant: from the present order on the same is found as from the first on.
--- Assumes nothing.
+-- One part after the other.
 use mathlib.Core.Path.{refl, sym, ◌∙◌}
-use Prim.Native.Nat.{◌≤◌, ◌<◌}
 use native.Mathlib.Omega.{arith}
-use Rattle.protocol.proofs.Records.{searching_ends, searching_on, searching_found}
-use Rattle.protocol.proofs.triggers.find_order.Goals.{After-part_end-end}
+use Rattle.protocol.specs.Inner.{is_trigger, Paired}
+use Rattle.protocol.proofs.Records.{paired_part, none_of, among_on, among_found, searching_ends}
+use Rattle.protocol.proofs.triggers.find_order.Goals.{In-Some}
 use Rattle.protocol.proofs.triggers.find_order.Goals as goal
 
--- where the part ends
-module _ (c : goal.After-part_end-end) where
-  end_within : (c.loop-i.i < c.part_end-end.result) × (c.part_end-end.result ≤ c.args.to)
-  end_within = (omega (arith, c.loop-i-test.true, c.part_end-end.ensures), omega (arith, c.part_end-end.ensures))
+-- the part that comes, and what is left behind it
+parts : (c : goal.In-Some) → Paired c.in-Some.part.now × Paired c.next.new.self.rest.now
+parts c =
+    let h = c.in-Some.ensures.steps in
+    let g = c.loop-part.invariant in
+    paired_part c.loop-part.part-iterator.rest.now c.in-Some.part.now c.next.new.self.rest.now c.loop-part.part-iterator.size g.1.paired h.1.0 g.0 h.1.1
 
-pub loop-i-init : goal.loop-i-init
-loop-i-init c = record { part = c.requires; same = refl }
+pub loop-part-init : goal.loop-part-init
+loop-part-init c =
+    rw (c.into_iter-part-iterator.ensures.into_iter_gives, c.chunks-part-items.ensures.rest)
+    (c.chunks-part-items.ensures.size, record { paired = c.requires; same = refl })
 
 pub find_in_part-called-requires : goal.find_in_part-called-requires
 find_in_part-called-requires c =
-    let p = c.loop-i.invariant.part in
-    let e = end_within c in
-    record { order_part = record { order = omega (arith, e.0); triggers = omega (arith, e.1, p.triggers); calls = omega (arith, e.1, p.calls) }; to_bound = omega (arith, c.part_end-end.ensures) }
+    let h = c.in-Some.ensures.steps in
+    let g = c.loop-part.invariant in
+    record { paired = (parts (goal.at.find_in_part-called-requires c).In-Some).0; part = omega (arith, h.1.1, g.0) }
 
-pub returns-in_default : goal.returns-in_default
-returns-in_default c =
-    let e = end_within (goal.at.returns-in_default c).After-part_end-end in
-    searching_found c.args.rows.now c.loop-i.invariant (omega (arith, e.0)) e.1 c.find_in_part-called.result
-    c.in_default.not-Nothing c.find_in_part-called.ensures
+pub returns-then-is_some : goal.returns-then-is_some
+returns-then-is_some c =
+    let h = c.in-Some.ensures.steps in
+    let g = c.loop-part.invariant in
+    among_found c.args.rows.now (is_trigger c.args.trigger) c.args.orders.now c.in-Some.part.now c.next.new.self.rest.now (parts (goal.at.returns-then-is_some c).In-Some).0 h.1.0 g.1.same c.find_in_part-called.result
+    (sym c.if-is_some.ensures) c.find_in_part-called.ensures
 
-pub loop-i-smaller : goal.loop-i-smaller
-loop-i-smaller c = omega (arith, end_within (goal.at.loop-i-smaller c).After-part_end-end)
-
-pub loop-i-preserved : goal.loop-i-preserved
-loop-i-preserved c =
-    let e = end_within (goal.at.loop-i-preserved c).After-part_end-end in
-    searching_on c.args.rows.now c.loop-i.invariant (omega (arith, e.0)) e.1 (sym c.in-Nothing.is ∙ c.find_in_part-called.ensures)
+pub loop-part-preserved : goal.loop-part-preserved
+loop-part-preserved c =
+    let h = c.in-Some.ensures.steps in
+    let g = c.loop-part.invariant in
+    let w = parts (goal.at.loop-part-preserved c).In-Some in (
+      h.0 ∙ g.0,
+      record {
+        paired = w.1;
+        same = among_on c.args.rows.now (is_trigger c.args.trigger) c.args.orders.now c.in-Some.part.now c.next.new.self.rest.now w.0 h.1.0 g.1.same
+            (none_of (sym c.is_some.ensures ∙ c.if-is_some.false) ∙ c.find_in_part-called.ensures);
+      },
+    )
 
 pub returns : goal.returns
-returns c = searching_ends c.args.rows.now c.loop-i.invariant c.loop-i-test.false
+returns c =
+    let h = c.in-None.ensures.steps in
+    searching_ends c.args.rows.now (is_trigger c.args.trigger) c.args.orders.now c.loop-part.part-iterator.rest.now c.loop-part.invariant.1 h.1.0

@@ -1,13 +1,10 @@
--- `protocol::triggers::find_order` meets its contract. The loop's invariant: from the present order on the same is found as from the first on.
--- Assumes nothing.
-use Prim.Native.Nat.{◌-◌}
-use Rattle.tables.specs.Layout.{triggers_in, calls_in}
-use Rattle.protocol.specs.Inner.{is_trigger}
+-- From the present part on the same is found as among all.
+use mathlib.Core.Path.{◌≡◌}
+use Prim.Native.Nat.{◌*◌}
+use Rattle.tables.specs.Layout.{order_width}
+use Rattle.protocol.specs.Inner.{is_trigger, part_size}
 use Rattle.protocol.proofs.Records.{Searching}
 use Rattle.protocol.proofs.triggers.find_order.Given as goal
 
-abbrev pub invariant-loop-i : goal.invariant-loop-i
-invariant-loop-i l = Searching (is_trigger l.trigger) (triggers_in l.orders) (calls_in l.orders) l.from l.to l.i
-
-abbrev pub decreases-loop-i : goal.decreases-loop-i
-decreases-loop-i l = l.to - l.i
+abbrev pub invariant-loop-part : goal.invariant-loop-part
+invariant-loop-part l = (l.part-iterator.size ≡ order_width * part_size) × Searching (is_trigger l.trigger) l.orders l.part-iterator.rest.now

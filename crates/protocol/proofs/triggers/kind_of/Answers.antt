@@ -1,5 +1,6 @@
--- `protocol::triggers::kind_of` meets its contract. Assumes nothing.
+-- By the row's form.
 use mathlib.Core.Path.{◌≡◌, sym, ap, ◌∙◌}
+use Rattle.std.specs.Prelude.{Option}
 use native.Mathlib.Omega.{arith}
 use borrow.Author.Tests.{ne_eqb, le-leb, lt-leb}
 use Rattle.orders.specs.declared.Kind.{Kind}
@@ -11,7 +12,7 @@ use Rattle.protocol.proofs.triggers.kind_of.Goals.{After-numbers_at-n}
 use Rattle.protocol.proofs.triggers.kind_of.Goals as goal
 
 -- the kind by the form that was read is that of the definition
-kind_here_holds : (c : goal.After-numbers_at-n) {k : Kind} → kind_by c.numbers_at-n.result.form ≡ k → k ≡ kind_at c.args.rows.now c.args.k
+kind_here_holds : (c : goal.After-numbers_at-n) {k : Option Kind} → kind_by c.numbers_at-n.result.form ≡ k → k ≡ kind_at c.args.rows.now c.args.k
 kind_here_holds c e = sym e ∙ kind_by_step c.numbers_at-n.result ∙ ap (λ (n : Numbers). kind_of (row_of n)) c.numbers_at-n.ensures
 
 pub returns-in-3 : goal.returns-in-3

@@ -1,6 +1,6 @@
--- `protocol::triggers::make_call` meets its contract. Assumes nothing.
+-- A call changes the desk's tuning alone.
 use mathlib.Core.Path.{ap, ◌∙◌}
-use Rattle.tables.specs.Layout.{tables_in}
+use Rattle.tables.specs.Lent.{tables_of}
 use Rattle.protocol.specs.declared.Desk.{Desk}
 use Rattle.protocol.proofs.Calls.{found_leaves}
 use Rattle.protocol.proofs.triggers.make_call.Goals as goal
@@ -9,5 +9,4 @@ pub returns : goal.returns
 returns c =
     let a = c.args in
     let called = c.call_found-reply in
-    ap (λ (d : Desk). record { desk = d; number = called.result.number }) c.with_tuning.ensures
-    ∙ found_leaves (tables_in a.numbers.now a.codes.now) a.house a.desk a.called a.unfound called.ensures
+    ap (λ (d : Desk). record { desk = d; number = called.result.number }) c.with_tuning.ensures ∙ found_leaves (tables_of a.tables) a.house a.desk a.called called.ensures
