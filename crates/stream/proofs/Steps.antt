@@ -1,13 +1,15 @@
 -- One byte further in a stream: a byte that is held, and a line that is answered.
-use Prim.Native.Nat.{ℕ, ◌+◌, ◌≤◌, ◌<◌}
-use mathlib.Core.Path.{◌≡◌, refl, sym, ap, ◌∙◌}
-use mathlib.Core.Bool.{true, false}
+use Prim.Native.Nat.{ℕ, suc, ◌+◌, ◌≤◌, ◌<◌}
+use mathlib.Core.Path.{◌≡◌, refl, sym, ap, ◌∙◌, subst}
+use mathlib.Core.Bool.{Bool, true, false, cond}
 use mathlib.Core.List.{List, [], ◌∷◌, ◌++◌, append_assoc, append-nil}
 use native.Mathlib.Numerals.{add-one}
 use native.Mathlib.Omega.{arith}
-use borrow.Author.Tests.{le-ltb, eq-eqb, ne_eqb}
-use lib.ListN.{length, get_or, take, drop, set, take-append-drop, length-append, length-take, length-drop}
-use lib.Seq.{drop-cons, take-suc-set, take_all, take_at, drop_at, drop-drop, drop-append-le, length-take-le}
+use borrow.Author.Tests.{le-ltb}
+use lib.Dec.{eqb}
+use lib.ListN.{length, take, drop, take-append-drop, length-append, length-drop}
+use lib.Seq.{take_at, drop_at, drop-drop, drop-append-le, length-take-le}
+use Rattle.std.proofs.lemmas.Option.{none-some, same_Some}
 use Rattle.hexadecimal.specs.Lines.{line_feed}
 use Rattle.frames.specs.Frames.{frame_of, decoded_as, enough}
 use Rattle.frames.specs.declared.Decoded.{Decoded}
@@ -19,29 +21,16 @@ use Rattle.protocol.specs.declared.Told.{Told}
 use Rattle.protocol.specs.Answers.{Outcome, frame_outcome, valid_desk, answer_of, Gives}
 use Rattle.protocol.specs.Inner.{may_change, told_outcome, Tells}
 use Rattle.protocol.proofs.Ways.{gives, damaged, taken, told_by, told_gives}
-use Rattle.stream.specs.Feed.{Fed, feed, fed_byte, fed, finished, streamed, SameStream}
-use Rattle.stream.specs.Inner.{SameLine, SameSkipped}
-use Rattle.stream.proofs.Whole.{enough_held}
+use Rattle.stream.specs.Feed.{Fed, feed, line_ended, fed_byte, fed, finished, streamed, SameStream}
+use Rattle.std.specs.Prelude.{Some, None}
+use Rattle.std.specs.List.{position_from}
+use Rattle.stream.proofs.Whole.{ended_long, enough_held}
 
 -- at the end of a stream a line feed behind a line that is not empty changes nothing
 pub last_line_holds : (t : Tables) (d : Desk) (b : ℕ) (line out : List ℕ)
     → streamed t (feed d (b ∷ line) out) (line_feed ∷ []) ≡ streamed t (feed d (b ∷ line) out) []
 unfolding fed fed_byte finished
 last_line_holds t d b line out = refl
-
--- ---- the bytes that are held of a line
-
--- one more
-pub held_more : (l : List ℕ) (n b : ℕ) → n < enough → length l ≡ enough → take (n + 1) (set l n b) ≡ take enough (take n l ++ b ∷ [])
-held_more l n b h k =
-    let m : length (take n l ++ b ∷ []) ≤ enough = simp (length-append, length-take) (omega arith) in
-    rw (add-one n, take-suc-set l n b (omega arith)) (sym (take_all enough (take n l ++ b ∷ []) m))
-
--- no more
-pub held_full : (l : List ℕ) (n b : ℕ) → enough ≤ n → n ≤ enough → length l ≡ enough → take n l ≡ take enough (take n l ++ b ∷ [])
-held_full l n b h k e =
-    let m : n ≡ enough = omega arith in
-    rw m (sym (take_at (take enough l) (b ∷ []) enough (length-take-le enough l (omega arith))))
 
 -- ---- the answers that are written
 
@@ -87,45 +76,92 @@ rest_kept {o} {r} {after} out used k h g e =
     ∙ ap (drop n) (take-append-drop k rest)
     ∙ drop-drop n used out
 
--- ---- the byte at place i of a chunk
+-- ---- the lines of a chunk
 
-module _ (chunk : List ℕ) (i : ℕ) (k : i < length chunk) where
-  fed_on : (t : Tables) (f : Fed) (more : List ℕ) → fed t f (drop i chunk ++ more) ≡ fed t (fed_byte t f (get_or chunk i 0)) (drop (i + 1) chunk ++ more)
-  unfolding fed
-  fed_on t f more = rw (add-one i, drop-cons chunk i 0 k)
+abbrev pub is_feed : ℕ → Bool
+is_feed b = eqb b line_feed
 
-  -- it is held, and of the line no more than what matters
-  pub on_byte : (l l' : List ℕ) → (get_or chunk i 0 ≡ line_feed → ⊥) → l' ≡ take enough (l ++ get_or chunk i 0 ∷ [])
-      → SameLine l (drop i chunk) l' (drop (i + 1) chunk)
-  unfolding fed_byte
-  on_byte l l' b e t d out more =
-      let rest = drop (i + 1) chunk ++ more in
-      ap (λ (w : List ℕ). streamed t (feed d w out) rest) e
-      ∙ enough_held t d (l ++ get_or chunk i 0 ∷ []) out rest
-      ∙ sym (ap (finished t) (fed_on t (feed d l out) more ∙ rw (ne_eqb (get_or chunk i 0) line_feed b)))
+-- bytes of which none is a line feed belong to the line
+pub no_feed : (t : Tables) (d : Desk) (l out rest more : List ℕ) (i : ℕ) → position_from is_feed i rest ≡ None
+    → fed t (feed d l out) (rest ++ more) ≡ fed t (feed d (l ++ rest) out) more
+unfolding fed fed_byte
+no_feed t d l out [] more i e = ap (λ (k : List ℕ). fed t (feed d k out) more) (sym (append-nil l))
+no_feed t d l out (b ∷ rest) more i e = go (is_feed b) (no_feed t d (l ++ b ∷ []) out rest more (i + 1)) e
+  where
+    go : (x : Bool) → (position_from is_feed (i + 1) rest ≡ None → fed t (feed d (l ++ b ∷ []) out) (rest ++ more) ≡ fed t (feed d ((l ++ b ∷ []) ++ rest) out) more)
+        → cond x (Some i) (position_from is_feed (i + 1) rest) ≡ None
+        → fed t (cond x (line_ended t (feed d l out)) (feed d (l ++ b ∷ []) out)) (rest ++ more) ≡ fed t (feed d (l ++ b ∷ rest) out) more
+    go true later q = absurd (none-some i (sym q))
+    go false later q = later q ∙ ap (λ (k : List ℕ). fed t (feed d k out) more) (append_assoc l (b ∷ []) rest)
 
-  -- it is a line feed, and the line is answered behind the answers before it
-  pub on_line : (t : Tables) (d : Desk) (l out post : List ℕ) (used room : ℕ) {r : Answered} {before after : List ℕ} → get_or chunk i 0 ≡ line_feed
-      → smallest_buffer ≤ room → used ≤ length out → Gives (answer_of t d l room) r before after
-      → SameStream t (feed d l (take used out)) (drop i chunk)
-      (feed r.desk [] (take (used + r.length) (take used out ++ (after ++ post)))) (drop (i + 1) chunk)
-  unfolding fed_byte
-  on_line t d l out post used room {r} {before} {after} b m u g more =
-      let o = answer_of t d l room in
-      let rest = drop (i + 1) chunk ++ more in
-      ap (λ (f : Fed). streamed t f rest)
-      (λ x. feed (g.desk x) [] (out_law out after o.line (drop (length o.line) before) post used r.length u g.buffer g.size x))
-      ∙ ap (λ (q : Outcome). streamed t (feed q.desk [] (take used out ++ q.line)) rest) (room_law t d l room m)
-      ∙ sym (ap (finished t) (fed_on t (feed d l (take used out)) more ∙ rw (eq-eqb (get_or chunk i 0) line_feed b)))
+-- the line that ends first
+pub record Ended (t : Tables) (d : Desk) (l out rest : List ℕ) (k : ℕ) : Type 0 where
+  pub within : k < length rest
+  pub on : (more : List ℕ) → fed t (feed d l out) (rest ++ more) ≡ fed t (line_ended t (feed d (l ++ take k rest) out)) (drop (suc k) rest ++ more)
 
-  -- it is a line feed, and the line gets no answer, since the tables or the desk are damaged
-  pub on_skip : (l : List ℕ) → get_or chunk i 0 ≡ line_feed → SameSkipped l (drop i chunk) [] (drop (i + 1) chunk)
-  unfolding fed_byte
-  on_skip l b t d v out more =
-      let rest = drop (i + 1) chunk ++ more in
-      ap (λ (w : List ℕ). streamed t (feed d [] w) rest) (sym (append-nil out))
-      ∙ ap (λ (o : Outcome). streamed t (feed o.desk [] (out ++ o.line)) rest) (damaged t d l smallest_buffer (omega arith) refl v)
-      ∙ sym (ap (finished t) (fed_on t (feed d l out) more ∙ rw (eq-eqb (get_or chunk i 0) line_feed b)))
+ended_at : (t : Tables) (d : Desk) (l out rest : List ℕ) (i m : ℕ) → position_from is_feed i rest ≡ Some m → (k : ℕ) × (m ≡ i + k) × Ended t d l out rest k
+unfolding fed fed_byte
+ended_at t d l out [] i m e = absurd (none-some m e)
+ended_at t d l out (b ∷ rest) i m e = go (is_feed b) refl (ended_at t d (l ++ b ∷ []) out rest (i + 1) m) e
+  where
+    go : (x : Bool) → is_feed b ≡ x → (position_from is_feed (i + 1) rest ≡ Some m → (k : ℕ) × (m ≡ i + 1 + k) × Ended t d (l ++ b ∷ []) out rest k)
+        → cond x (Some i) (position_from is_feed (i + 1) rest) ≡ Some m → (k : ℕ) × (m ≡ i + k) × Ended t d l out (b ∷ rest) k
+    go true h later q = (
+      0,
+      omega (arith, same_Some i m q),
+      record {
+        within = omega arith;
+        on = λ more. ap (λ (x : Bool). fed t (cond x (line_ended t (feed d l out)) (feed d (l ++ b ∷ []) out)) (rest ++ more)) h
+            ∙ ap (λ (k : List ℕ). fed t (line_ended t (feed d k out)) (rest ++ more)) (sym (append-nil l));
+      },
+    )
+    go false h later q =
+        let w = later q in (
+          suc w.0,
+          omega (arith, w.1),
+          record {
+            within = omega (arith, w.2.within);
+            on = λ more. ap (λ (x : Bool). fed t (cond x (line_ended t (feed d l out)) (feed d (l ++ b ∷ []) out)) (rest ++ more)) h
+                ∙ w.2.on more
+                ∙ ap (λ (k : List ℕ). fed t (line_ended t (feed d k out)) (drop (suc w.0) rest ++ more)) (append_assoc l (b ∷ []) (take w.0 rest));
+          },
+        )
+
+pub ended_first : (t : Tables) (d : Desk) (l out rest : List ℕ) {k : ℕ} → position_from is_feed 0 rest ≡ Some k → Ended t d l out rest k
+ended_first t d l out rest {k} e = let w = ended_at t d l out rest 0 k e in subst (Ended t d l out rest) (omega (arith, w.1)) w.2
+
+-- an answered line behind the answers before it
+pub on_line : (t : Tables) (d : Desk) (line out post : List ℕ) (used room : ℕ) {r : Answered} {before after : List ℕ} → smallest_buffer ≤ room → used ≤ length out
+    → Gives (answer_of t d line room) r before after
+    → feed r.desk [] (take (used + r.length) (take used out ++ (after ++ post))) ≡ line_ended t (feed d line (take used out))
+on_line t d line out post used room {r} {before} {after} m u g =
+    let o = answer_of t d line room in
+    (λ x. feed (g.desk x) [] (out_law out after o.line (drop (length o.line) before) post used r.length u g.buffer g.size x))
+    ∙ ap (λ (q : Outcome). feed q.desk [] (take used out ++ q.line)) (room_law t d line room m)
+
+-- a line gets no answer where the tables or the desk are damaged
+pub on_skip : (t : Tables) (d : Desk) → valid_desk t d ≡ false → (line out : List ℕ) → line_ended t (feed d line out) ≡ feed d [] out
+on_skip t d v line out =
+    sym (ap (λ (o : Outcome). feed o.desk [] (out ++ o.line)) (damaged t d line smallest_buffer (omega arith) refl v))
+    ∙ ap (feed d []) (append-nil out)
+
+module _ (t : Tables) (d : Desk) (l out rest : List ℕ) where
+  -- no line ends: what of it matters is held
+  pub same_held : {held : List ℕ} → position_from is_feed 0 rest ≡ None → held ≡ take enough (l ++ rest) → SameStream t (feed d l out) rest (feed d held out) []
+  same_held {held} e h more =
+      ap (λ (k : List ℕ). streamed t (feed d k out) more) h
+      ∙ enough_held t d (l ++ rest) out more
+      ∙ sym (ap (finished t) (no_feed t d l out rest more 0 e))
+
+  -- a line ends, and comes to this
+  pub same_ended : {k : ℕ} {held : List ℕ} {f : Fed} → position_from is_feed 0 rest ≡ Some k → held ≡ take enough (l ++ take k rest) → f ≡ line_ended t (feed d held out)
+      → SameStream t (feed d l out) rest f (drop (k + 1) rest)
+  same_ended {k} {held} {f} e h q more =
+      let w = ended_first t d l out rest e in
+      let line = l ++ take k rest in
+      ap (λ (g : Fed). streamed t g (drop (k + 1) rest ++ more)) (q ∙ ap (λ (x : List ℕ). line_ended t (feed d x out)) h ∙ ended_long t d line out)
+      ∙ ap (λ (n : ℕ). streamed t (line_ended t (feed d line out)) (drop n rest ++ more)) (add-one k)
+      ∙ sym (ap (finished t) (w.on more))
 
 -- ---- the answer to a frame, whether it may change the desk or not
 

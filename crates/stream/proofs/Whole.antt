@@ -30,7 +30,7 @@ module _ (t : Tables) where
   unfolding answer_of
   answer_long d l room = rw (long_line l)
 
-  ended_long : (d : Desk) (l out : List ℕ) → line_ended t (feed d (take enough l) out) ≡ line_ended t (feed d l out)
+  pub ended_long : (d : Desk) (l out : List ℕ) → line_ended t (feed d (take enough l) out) ≡ line_ended t (feed d l out)
   ended_long d l out = rw (answer_long d l smallest_buffer)
 
   pub enough_held : (d : Desk) (l out bs : List ℕ) → streamed t (feed d (take enough l) out) bs ≡ streamed t (feed d l out) bs

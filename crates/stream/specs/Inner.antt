@@ -5,10 +5,7 @@ use Rattle.protocol.specs.declared.Desk.{Desk}
 use Rattle.protocol.specs.Answers.{valid_desk}
 use Rattle.stream.specs.Feed.{feed, SameStream}
 
--- with l of a line and the bytes bs a stream comes to the same as with k of it and the bytes cs, and nothing is answered between
-abbrev pub SameLine : List ℕ → List ℕ → List ℕ → List ℕ → Type 0
-SameLine l bs k cs = (t : Tables) (d : Desk) (out : List ℕ) → SameStream t (feed d l out) bs (feed d k out) cs
-
--- the same where the tables or the desk are damaged, lines that end between them
+-- with l of a line and the bytes bs a stream comes to the same as with k of it and the bytes cs, and nothing is answered between, where the tables or the
+-- desk are damaged
 abbrev pub SameSkipped : List ℕ → List ℕ → List ℕ → List ℕ → Type 0
 SameSkipped l bs k cs = (t : Tables) (d : Desk) → valid_desk t d ≡ false → (out : List ℕ) → SameStream t (feed d l out) bs (feed d k out) cs

@@ -1,212 +1,139 @@
--- `stream::fill_ready` meets its contract. The loop's invariant: what is left to do is what was to be done.
-use mathlib.Core.Logic.{inl, inr, ⊎_elim}
-use mathlib.Core.Path.{◌≡◌, refl, sym, ap, ◌∙◌}
+-- One line after the other.
+use mathlib.Core.Logic.{inl, inr}
+use mathlib.Core.Path.{◌≡◌, refl, sym, ap, ◌∙◌, subst}
 use mathlib.Core.Bool.{true, false}
 use mathlib.Core.List.{List, [], ◌++◌}
 use Prim.Native.Nat.{ℕ, ◌+◌, ◌-◌, ◌≤◌, ◌<◌}
 use native.Mathlib.Omega.{arith}
-use borrow.Author.Rules.{rules}
 use borrow.Rule.Slice.PartMut.{same_len_mid}
-use lib.ListN.{length, take, drop, length-take, length-drop}
+use lib.ListN.{length, take, drop, length-take, length-drop, drop_of_length-le}
+use lib.Seq.{drop-drop}
+use Rattle.std.specs.Prelude.{Option, Some, IfSome}
+use Rattle.std.proofs.lemmas.List.{take_rest}
 use Rattle.frames.specs.Frames.{frame_of}
 use Rattle.answers.specs.Answer.{smallest_buffer}
-use Rattle.tables.specs.Layout.{Tables, tables_in}
+use Rattle.tables.specs.Layout.{Tables}
 use Rattle.protocol.specs.declared.Desk.{Desk}
 use Rattle.protocol.specs.declared.Answered.{Answered}
 use Rattle.protocol.specs.declared.Told.{Told}
 use Rattle.protocol.specs.Answers.{frame_outcome, valid_desk, answer_of, Gives}
-use Rattle.protocol.specs.Inner.{Ready, FrameInside, may_change, told_outcome, Tells}
-use Rattle.protocol.proofs.Ways.{desk_ready, frame_inside, told_by}
-use Rattle.stream.specs.Feed.{Fed, feed, streamed, SameStream}
-use Rattle.stream.proofs.Steps.{answer_fits, rest_kept, drop_more, on_line, change_answered, told_answered}
+use Rattle.protocol.specs.Inner.{may_change, told_outcome, Tells}
+use Rattle.protocol.specs.OnBoard.{tables_on}
+use Rattle.protocol.proofs.Ways.{told_by}
+use Rattle.stream.specs.Feed.{feed}
+use Rattle.stream.specs.Line.{held_in}
+use Rattle.stream.proofs.Steps.{answer_fits, drop_more, rest_kept, on_line, same_held, same_ended, change_answered, told_answered}
 use Rattle.stream.proofs.fill_ready.Invariants.{Going}
-use Rattle.stream.proofs.fill_ready.Goals.{After-decode-frame, After-gather-read, then-may_change, else-may_change}
+use Rattle.stream.proofs.fill_ready.Goals.{After-decode-frame, then-may_change, else-may_change}
 use Rattle.stream.proofs.fill_ready.Goals as goal
 
--- once a line is read: the stream still comes to the same, and the bytes held are there
-module _ (c : goal.After-gather-read) where
-  abbrev tables : Tables
-  tables = tables_in c.args.numbers.now c.args.codes.now
+ended : {o : Option ℕ} {n k : ℕ} → IfSome o (λ (i : ℕ). i < n) → o ≡ Some k → k < n
+ended {o} {n} w e = subst (λ (x : Option ℕ). IfSome x (λ (i : ℕ). i < n)) e w
 
-  abbrev start : Fed
-  start = feed c.args.desk (take c.args.start.held c.args.held.now) []
+-- what is left of the chunk is no longer than it
+left_most : (rest chunk : List ℕ) → rest ≡ drop (length chunk - length rest) chunk → length rest ≤ length chunk
+left_most rest chunk e = omega (arith, ap length e, length-drop (length chunk - length rest) chunk)
 
-  line_same : SameStream tables start (drop c.args.start.next c.args.chunk.now)
-      (feed c.loop-i.d (take c.gather-read.result.held c.gather-read.new.held) (take c.loop-i.used c.loop-i.out))
-      (drop c.gather-read.result.next c.args.chunk.now)
-  line_same more =
-      c.gather-read.ensures.same tables c.loop-i.d (take c.loop-i.used c.loop-i.out) more ∙ c.loop-i.invariant.same more
-
-  line_held : c.gather-read.result.held ≤ length c.gather-read.new.held
-  line_held = omega (arith, c.gather-read.ensures.within.0, c.gather-read.auto.held, c.loop-i.invariant.held_length, c.requires.held_le_enough)
-
--- once the frame is read: the line feed stands within the chunk, and all is ready for its answer
+-- once a line is read
 module _ (c : goal.After-decode-frame) where
   abbrev t : Tables
-  t = tables_in c.args.numbers.now c.args.codes.now
+  t = tables_on c.args.board.now
 
   abbrev d₁ : Desk
-  d₁ = c.loop-i.d
+  d₁ = c.loop-end.d
 
   abbrev o : List ℕ
-  o = c.loop-i.out
+  o = c.loop-end.out
 
   abbrev u : ℕ
-  u = c.loop-i.used
+  u = c.loop-end.used
 
   abbrev bytes : List ℕ
-  bytes = take c.gather-read.result.held c.gather-read.new.held
+  bytes = c.as_slice-bytes.result.now
 
   -- the part of the output that is lent
   abbrev part : List ℕ
   part = take (length o - u) (drop u o)
 
-  feed_within : c.gather-read.result.next < length c.args.chunk.now
-  feed_within = omega (arith, c.gather-read.ensures.within.2, c.if-i-chunk.false)
-
   room_here : smallest_buffer ≤ length part
   room_here = simp (length-take, length-drop) (omega (arith, c.if-out-used-lt-SMALLEST_BUFFER.false))
 
-  ready : Ready t d₁ part
-  ready = desk_ready t d₁ part c.loop-i.invariant.known room_here
-
-  inside_here : FrameInside c.decode-frame.result
-  inside_here = frame_inside (frame_of bytes) c.decode-frame.ensures.0 c.decode-frame.ensures.1
-
   change_here : {r : Answered} {written : List ℕ} → Gives (frame_outcome t d₁ (frame_of bytes)) r part written → Gives (answer_of t d₁ bytes (length part)) r part written
-  change_here g = change_answered bytes c.decode-frame.ensures.0 t d₁ (length part) room_here c.loop-i.invariant.known g
+  change_here g = change_answered bytes c.decode-frame.ensures.0 t d₁ (length part) room_here c.loop-end.invariant.known g
 
   told_here : {r : Told} {written : List ℕ} → may_change c.decode-frame.result ≡ false
       → Tells (told_outcome d₁ c.decode-frame.result) r part written → Gives (answer_of t d₁ bytes (length part)) (told_by d₁ r) part written
-  told_here h r = told_answered bytes c.decode-frame.ensures.0 t d₁ (length part) room_here c.loop-i.invariant.known h r
+  told_here h r = told_answered bytes c.decode-frame.ensures.0 t d₁ (length part) room_here c.loop-end.invariant.known h r
 
   -- an answer ends within the output
   module _ {r : Answered} {written : List ℕ} (g : Gives (answer_of t d₁ bytes (length part)) r part written) (k : length written ≡ length part) where
     answer_within : u + r.length ≤ length o
     answer_within =
-        let v = c.loop-i.invariant in
+        let v = c.loop-end.invariant in
         let fits = answer_fits g k in
         omega (arith, fits, v.room, v.out_length, length-take (length o - u) (drop u o), length-drop u o)
 
     -- the next line
     next : valid_desk t r.desk ≡ true → {out : List ℕ} {d : Desk} {used : ℕ} → out ≡ take u o ++ (written ++ drop (length o - u) (drop u o))
         → d ≡ r.desk → used ≡ u + r.length
-        → Going t (feed c.args.desk (take c.args.start.held c.args.held.now) []) c.args.held.now c.args.out.now c.args.chunk.now c.args.start.next
-        c.gather-read.new.held out d 0 (c.gather-read.result.next + 1) used
+        → Going t (feed c.args.desk (held_in c.args.line.now) []) c.args.chunk.now c.args.out.now d [] (drop (c.in-Some.end + 1) c.loop-end.rest.now) out used
     next valid {out} {d} {used} e f h =
-        let v = c.loop-i.invariant in
+        let v = c.loop-end.invariant in
+        let rest = c.loop-end.rest.now in
+        let chunk = c.args.chunk.now in
+        let end = c.in-Some.end in
+        let most = left_most rest chunk v.left in
         let room : u ≤ length o = omega (arith, v.room, v.out_length) in
         let within = answer_within in
-        let since : c.args.start.next ≤ c.gather-read.result.next = omega (arith, c.gather-read.ensures.within.1, v.since) in
+        let inside : end < length rest = ended c.find_end.ensures.within c.in-Some.is in
+        let size : length (drop (end + 1) rest) ≡ length rest - (end + 1) = length-drop (end + 1) rest in
         record {
           known = ap (valid_desk t) f ∙ valid;
-          few = omega arith;
-          held_length = c.gather-read.auto.held ∙ v.held_length;
           out_length = ap length e ∙ same_len_mid u (length o - u) o written k ∙ v.out_length;
-          inside = omega (arith, feed_within);
           room = omega (arith, within, v.out_length, h);
-          first = inr (omega (arith, since));
-          since = omega (arith, since);
+          first = inr (omega (arith, size, inside, most));
+          left =
+              let at : length chunk - length rest + (end + 1) ≡ length chunk - length (drop (end + 1) rest) = omega (arith, size, inside, most) in
+              ap (drop (end + 1)) v.left ∙ drop-drop (end + 1) (length chunk - length rest) chunk ∙ ap (λ (n : ℕ). drop n chunk) at;
           kept =
               (λ x. drop (h x) (e x))
               ∙ rest_kept o u (length o - u) room g k
               ∙ drop_more r.length u o _ v.kept
               ∙ ap (λ (n : ℕ). drop n c.args.out.now) (sym h);
           same = λ more.
-              (λ x. streamed t (feed (f x) [] (take (h x) (e x))) (drop (c.gather-read.result.next + 1) c.args.chunk.now ++ more))
-              ∙ on_line c.args.chunk.now c.gather-read.result.next feed_within t d₁ bytes o _ u _
-              (c.gather-read.ensures.ended feed_within) room_here room g more
-              ∙ c.gather-read.ensures.same t d₁ (take u o) more
+              same_ended t d₁ (held_in c.loop-end.line) (take u o) rest (sym c.find_end.ensures.first ∙ c.in-Some.is) (c.as_slice-bytes.ensures ∙ c.hold.ensures)
+              ((λ x. feed (f x) [] (take (h x) (e x))) ∙ on_line t d₁ bytes o _ u _ room_here room g) more
               ∙ v.same more;
         }
 
-pub loop-i-init : goal.loop-i-init
-loop-i-init c =
+pub loop-end-init : goal.loop-end-init
+loop-end-init c =
     record {
-      known = c.requires.desk_value.0;
-      few = search rules;
-      held_length = refl;
+      known = c.requires;
       out_length = refl;
-      inside = search rules;
-      room = search rules;
+      room = omega arith;
       first = inl refl;
-      since = search rules;
+      left = let z : length c.args.chunk.now - length c.args.chunk.now ≡ 0 = omega arith in rw z;
       kept = refl;
       same = λ more. refl;
     }
 
-pub slice_bounds-line-end : goal.slice_bounds-line-end
-slice_bounds-line-end c = line_held (goal.at.slice_bounds-line-end c).After-gather-read
-
-pub answer_changing-r-requires : goal.answer_changing-r-requires
-answer_changing-r-requires c =
-    let here = (goal.at.answer_changing-r-requires c).After-decode-frame in
-    record {
-      ready = ready here;
-      index_of = c.requires.desk_value.1;
-      frame_value = (c.decode-frame.ensures.0, sym c.may_change.ensures ∙ c.if-may_change.true);
-    }
-
-pub overflow_add-used : goal.overflow_add-used
-overflow_add-used c =
-    let here = (goal.at.overflow_add-used c).After-decode-frame in
-    omega (arith, answer_within here (change_here here c.answer_changing-r.ensures.gives) c.answer_changing-r.auto.buffer, c.loop-i.invariant.out_length)
-
-pub tell-r-requires : goal.tell-r-requires
-tell-r-requires c =
-    let here = (goal.at.tell-r-requires c).After-decode-frame in
-    ((ready here).state, (ready here).room, inside_here here)
-
-pub overflow_add-used-else-may_change : goal.overflow_add-used-else-may_change
-overflow_add-used-else-may_change c =
-    let here = (goal.at.overflow_add-used-else-may_change c).After-decode-frame in
-    let g = told_here here (sym c.may_change.ensures ∙ c.if-may_change.false) c.tell-r.ensures in
-    omega (arith, answer_within here g c.tell-r.auto.buffer, c.loop-i.invariant.out_length)
-
-pub overflow_add-i : goal.overflow_add-i
-overflow_add-i c = omega (arith, feed_within (goal.at.overflow_add-i c).After-decode-frame)
-
-pub loop-i-smaller : goal.loop-i-smaller
-loop-i-smaller c = omega (arith, feed_within (goal.at.loop-i-smaller c).After-decode-frame, c.gather-read.ensures.within.1)
-
-pub loop-i-preserved : goal.loop-i-preserved
-loop-i-preserved c =
-    let here = (goal.at.loop-i-preserved c).After-decode-frame in
-    elim c.if-may_change.branch [
+pub loop-end-preserved : goal.loop-end-preserved
+loop-end-preserved c =
+    let here = (goal.at.loop-end-preserved c).After-decode-frame in
+    rw (take_rest c.loop-end.rest.now (c.in-Some.end + 1), c.clear.ensures)
+    (elim c.if-may_change.branch [
       | then-may_change w ↦
           next here (change_here here w.answer_changing-r.ensures.gives) w.answer_changing-r.auto.buffer w.answer_changing-r.ensures.stays w.out-is w.d-is w.used-is
       | else-may_change w ↦
-          next here (told_here here (sym c.may_change.ensures ∙ w.if-may_change.false) w.tell-r.ensures) w.tell-r.auto.buffer c.loop-i.invariant.known w.out-is w.d-is w.used-is
-    ]
+          next here (told_here here (sym c.may_change.ensures ∙ w.if-may_change.false) w.tell-r.ensures) w.tell-r.auto.buffer c.loop-end.invariant.known w.out-is w.d-is w.used-is
+    ])
 
-pub returns-after-loop-i : goal.returns-after-loop-i
-returns-after-loop-i c =
-    let v = c.loop-i.invariant in
-    record { within = (v.few, v.inside, v.room); onward = λ a b. omega arith; kept = v.kept; same = v.same; stays = v.known }
-
-pub returns-then-i-chunk : goal.returns-then-i-chunk
-returns-then-i-chunk c =
-    let l = (goal.at.returns-then-i-chunk c).After-gather-read in
-    let v = c.loop-i.invariant in
-    let g = c.gather-read.ensures.within in
-    record {
-      within = (g.0, g.2, v.room);
-      onward = λ a b. omega (arith, b, c.if-i-chunk.true);
-      kept = v.kept;
-      same = line_same l;
-      stays = v.known;
-    }
-
--- with no room for one more answer something was written, and so a byte was served
-pub returns-then-out-used-lt-SMALLEST_BUFFER : goal.returns-then-out-used-lt-SMALLEST_BUFFER
-returns-then-out-used-lt-SMALLEST_BUFFER c =
-    let l = (goal.at.returns-then-out-used-lt-SMALLEST_BUFFER c).After-gather-read in
-    let v = c.loop-i.invariant in
-    let g = c.gather-read.ensures.within in
-    record {
-      within = (g.0, g.2, v.room);
-      onward = λ a b. ⊎_elim (λ z. absurd (omega arith)) (λ z. omega (arith, z, g.1)) v.first;
-      kept = v.kept;
-      same = line_same l;
-      stays = v.known;
-    }
+pub returns-clause-same : goal.returns-clause-same
+returns-clause-same c = λ more.
+    let t = tables_on c.args.board.now in
+    let chunk = c.args.chunk.now in
+    let gone : drop (length chunk) chunk ≡ [] = drop_of_length-le chunk (omega arith) in
+    rw gone
+    (same_held t c.loop-end.d (held_in c.loop-end.line) (take c.loop-end.used c.loop-end.out) c.loop-end.rest.now (sym c.find_end.ensures.first ∙ c.in_default.is) c.hold-2.ensures more
+    ∙ c.loop-end.invariant.same more)

@@ -1,55 +1,29 @@
--- The loop's invariant: what is held of the line and what is left of the chunk come to the same as before.
-use mathlib.Core.Path.{◌≡◌, refl, ◌∙◌, subst}
-use Prim.Native.Nat.{ℕ}
+-- One line after the other.
+use mathlib.Core.Path.{refl, sym, ◌∙◌}
+use mathlib.Core.List.{◌++◌}
+use Prim.Native.Nat.{◌+◌}
 use native.Mathlib.Omega.{arith}
-use borrow.Author.Rules.{rules}
-use lib.ListN.{length, take, drop}
-use Rattle.stream.specs.Inner.{SameSkipped}
-use Rattle.stream.proofs.Steps.{on_skip}
-use Rattle.stream.proofs.skip_lines.Goals.{After-gather-line}
+use lib.ListN.{take, length-drop}
+use Rattle.std.proofs.lemmas.List.{take_rest}
+use Rattle.frames.specs.Frames.{enough}
+use Rattle.stream.specs.Line.{held_in}
+use Rattle.stream.proofs.Steps.{on_skip, same_held, same_ended}
 use Rattle.stream.proofs.skip_lines.Goals as goal
 
--- once a line is read: the stream still comes to the same
-line_same : (c : goal.After-gather-line)
-    → let l = c.before.before.before in
-    let a = l.args in
-    SameSkipped (take a.count a.held.now) (drop a.from a.chunk.now)
-    (take c.gather-line.result.held c.gather-line.new.held) (drop c.gather-line.result.next a.chunk.now)
-line_same c t d v out more = c.gather-line.ensures.same t d out more ∙ c.loop-i.invariant.3 t d v out more
+pub loop-end-init : goal.loop-end-init
+loop-end-init c = (omega arith, λ t d v out more. refl)
 
-pub loop-i-init : goal.loop-i-init
-loop-i-init c = (search rules, refl, search rules, λ t d v out more. refl)
-
-pub loop-i-smaller-then-i-chunk : goal.loop-i-smaller-then-i-chunk
-loop-i-smaller-then-i-chunk c = let g = (goal.at.loop-i-smaller-then-i-chunk c).After-gather-line in omega (arith, g.gather-line.ensures.within.1, c.if-i-chunk.true)
-
-pub loop-i-preserved-then-i-chunk : goal.loop-i-preserved-then-i-chunk
-loop-i-preserved-then-i-chunk c =
-    let g = (goal.at.loop-i-preserved-then-i-chunk c).After-gather-line in
-    let v = g.loop-i.invariant in (
-      omega arith,
-      g.gather-line.auto.held ∙ v.1,
-      omega (arith, c.if-i-chunk.true),
-      λ t d w out more.
-          on_skip _ _ c.if-i-chunk.true _ (g.gather-line.ensures.ended c.if-i-chunk.true) t d w out more ∙ line_same g t d w out more,
+pub loop-end-preserved : goal.loop-end-preserved
+loop-end-preserved c =
+    let rest = c.loop-end.rest.now in
+    let l = held_in c.loop-end.line in
+    rw (take_rest rest (c.in-Some.end + 1), c.clear.ensures) (
+      omega (arith, length-drop (c.in-Some.end + 1) rest, c.loop-end.invariant.0),
+      λ t d v out more.
+          same_ended t d l out rest (sym c.find_end.ensures.first ∙ c.in-Some.is) refl (sym (on_skip t d v (take enough (l ++ take c.in-Some.end rest)) out)) more
+          ∙ c.loop-end.invariant.1 t d v out more,
     )
 
-pub loop-i-smaller : goal.loop-i-smaller
-loop-i-smaller c = let g = (goal.at.loop-i-smaller c).After-gather-line in omega (arith, c.if-i-chunk.false, g.loop-i-test.true)
-
-pub loop-i-preserved : goal.loop-i-preserved
-loop-i-preserved c =
-    let g = (goal.at.loop-i-preserved c).After-gather-line in
-    (g.gather-line.ensures.within.0, g.gather-line.auto.held ∙ g.loop-i.invariant.1, g.gather-line.ensures.within.2, line_same g)
-
 pub returns : goal.returns
-returns c =
-    let v = c.loop-i.invariant in
-    let a = c.args in
-    let e : c.loop-i.i ≡ length a.chunk.now = omega (arith, v.2, c.loop-i-test.false) in
-    record {
-      within = v.0;
-      same =
-          subst (λ (i : ℕ). SameSkipped (take a.count a.held.now) (drop a.from a.chunk.now) (take c.loop-i.n c.loop-i.held) (drop i a.chunk.now))
-          e v.3;
-    }
+returns c = λ t d v out more.
+    same_held t d (held_in c.loop-end.line) out c.loop-end.rest.now (sym c.find_end.ensures.first ∙ c.in_default.is) c.hold.ensures more ∙ c.loop-end.invariant.1 t d v out more

@@ -1,14 +1,12 @@
--- The loop's invariant: what is held of the line and what is left of the chunk come to the same as before.
-use mathlib.Core.Path.{◌≡◌}
-use Prim.Native.Nat.{◌-◌, ◌≤◌}
-use lib.ListN.{length, take, drop}
-use Rattle.frames.specs.Frames.{enough}
+-- What is held of the line and what is left of the chunk come to the same as before.
+use Prim.Native.Nat.{◌≤◌}
+use lib.ListN.{length}
+use Rattle.stream.specs.Line.{held_in}
 use Rattle.stream.specs.Inner.{SameSkipped}
 use Rattle.stream.proofs.skip_lines.Given as goal
 
-abbrev pub invariant-loop-i : goal.invariant-loop-i
-invariant-loop-i l =
-    (l.n ≤ enough) × (length l.held ≡ length l.initial.held) × (l.i ≤ length l.chunk) × SameSkipped (take l.initial.n l.initial.held) (drop l.initial.i l.chunk) (take l.n l.held) (drop l.i l.chunk)
+abbrev pub invariant-loop-end : goal.invariant-loop-end
+invariant-loop-end l = (length l.rest ≤ length l.chunk) × SameSkipped (held_in l.fn.line) l.chunk (held_in l.line) l.rest
 
-abbrev pub decreases-loop-i : goal.decreases-loop-i
-decreases-loop-i l = length l.chunk - l.i
+abbrev pub decreases-loop-end : goal.decreases-loop-end
+decreases-loop-end l = length l.rest
