@@ -48,6 +48,12 @@ not_nothing t n = go (is_nothing t) refl
 pub at_each : (f : Node → Bool) → T (each f nodes) → T (f Finish) → (n : Node) → T (f n)
 at_each f h k n = subst (λ (q : Node). T (f q)) (node_back n) (read_of f nodes Finish h k (node_number n))
 
+pub node_below : (n : Node) → node_number n < node_count
+node_below n = ltb→lt _ _ (at_each low tt tt n)
+  where
+    low : Node → Bool
+    low m = ltb (node_number m) node_count
+
 -- ---- the rule that is picked for a terminal is one of the list, and is for that terminal
 
 pub picked_of : (f : Rule → Bool) (rs : List Rule) (t : Terminal) {r : Rule} → T (each f rs) → picked rs t ≡ Some r → T (f r) × (t ≡ r.symbol)
@@ -108,11 +114,7 @@ end_at_finish n t {r} e f = go (same_terminal r.symbol end) refl
     go true q = p.1 ∙ same_terminal_holds r.symbol end q
     go false q = let w = rw (q, f) at (both_right (cond (is_nothing r.symbol) false true) _ p.0) in absurd w
 
--- ---- where there is no move
-
-pub past_nodes : (k t : ℕ) → node_count ≤ k → None ≡ move_of k t
-unfolding move_of picked rules
-past_nodes k t h = ap (λ (q : Node). move_by (picked (rules q) (terminal_at t))) (sym (get_or-eq_default nodes Finish h))
+-- ---- where a rule leads to
 
 -- no rule leads to the first node
 leaves : Rule → Bool

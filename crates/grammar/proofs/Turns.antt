@@ -38,12 +38,12 @@ use Rattle.status.specs.declared.Refusal.{Refusal}
 use Rattle.status.specs.Reasons.{number_of}
 use Rattle.grammar.specs.Syntax.{Terminal, end, nothing, Node, Begin, Finish, Rule, rules}
 use Rattle.grammar.specs.Terminals.{terminal_number, picked, of_letter, terminal_of, start_of, end_of, span_of}
-use Rattle.grammar.specs.Moves.{Move, node_number, move_by, move_of}
+use Rattle.grammar.specs.Moves.{Move, node_number, node_count, move_by, move_of}
 use Rattle.grammar.specs.Reading.{Outcome, refusal, Answered, Read, limit, most_terms, most_positions, so_far, one_more, with_counts, with_positions, no_term, next_term, unless_full, counted, positioned, judged, used, if_allowed, numbered, acted, standing, Moved, then_at, not_allowed, by_rule, stepped, begun, with, refused_at, read_whole, read_from, most_bytes, read_items, with_keys, with_key, with_bracketed, in_brackets, key_counted, key_named, order_counted}
 use Rattle.grammar.specs.Reading as reading
 use Rattle.grammar.specs.Items.{holding, most_items}
 use Rattle.grammar.proofs.Numbered.{word_apart, mark_apart}
-use Rattle.grammar.proofs.Diagrams.{moves_by_name, same_node, none_at_nothing, finish_at_end, end_at_finish}
+use Rattle.grammar.proofs.Diagrams.{node_below, moves_by_name, same_node, none_at_nothing, finish_at_end, end_at_finish}
 use Rattle.grammar.proofs.Rows.{holding_more, length_holding}
 
 -- ---- a step by its move
@@ -441,6 +441,9 @@ walks_first text before h k {s} e = record {
 }
 
 module _ {text : List ℕ} {before items : List Item} {s : Progress} {node at count : ℕ} (w : Walking text before items s node at count) (n : node ≡ node_number Finish → ⊥) where
+  pub node_small : node < node_count
+  node_small = rw w.number (node_below w.stands)
+
   pub enough_room : (s.term.before + 1 < 2 ^ 32) × (count + 1 < 2 ^ 32)
   enough_room = let m = w.midway n in (omega (arith, m.terms, m.within, m.short), omega (arith, m.few, m.within, m.short))
 

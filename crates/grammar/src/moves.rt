@@ -1,12 +1,10 @@
 // The moves of the syntax diagrams.
-ghost use Rattle.std.specs.Prelude.{◌≡◌, get_or};
+ghost use Rattle.std.specs.Prelude.{◌≡◌, ◌<◌, get_or};
 ghost use Rattle.grammar.specs.Terminals.{terminal_number};
-ghost use Rattle.grammar.specs.Moves.{action_at, move_of, Moves};
+ghost use Rattle.grammar.specs.Moves.{action_at, move_of, node_count, Moves};
 
 use crate::terminals::Terminal;
 use crate::{Action, Form, Kind, MarkUse, NameUse, NumberUse};
-
-const NODES: u8 = 83;
 
 const TERMINALS: usize = 31;
 
@@ -188,12 +186,10 @@ pub const ACTIONS: [u8; 2573] = *b"\
 
 // What is done at a node on a terminal, and then the next node, by the tables `NEXT` and `ACTIONS`.
 pub fn move_at(next: &[u8], acts: &[u8], node: u8, terminal: Terminal) -> Option<(Action, u8)>
-    requires { Moves next.now acts.now }
+    requires moves { Moves next.now acts.now }
+    requires node { node < node_count }
     ensures { result ≡ move_of node (terminal_number terminal) }
 {
-    if NODES <= node {
-        return None;
-    }
     let place = node as usize * TERMINALS + terminal.number();
     let then = next[place];
     if then == 0 {

@@ -36,7 +36,7 @@ pub fn read_whole(text: &[u8], start: usize, end: usize, low: u32, high: u32) ->
     match bytes::part(text, start, end) {
         [] => None,
         [b'#', digits @ ..] => within_range(low as u64, high as u64, value_of(16, digits)),
-        number if number.contains(&b'.') => None,
+        number if number.iter().any(|&b| b == b'.') => None,
         number => within_range(low as u64, high as u64, value_of(10, number)),
     }
 }

@@ -6,7 +6,7 @@ mod runs;
 pub mod spelling;
 pub mod words;
 
-ghost use Rattle.std.specs.Prelude.{◌≡◌, List, [], ◌∷◌, ℕ, ◌+◌, ◌<◌, length, get_or, drop};
+ghost use Rattle.std.specs.Prelude.{◌≡◌, List, [], ◌∷◌, ℕ, ◌+◌, ◌<◌, ◌^◌, length, get_or, drop};
 ghost use Rattle.symbols.specs.Symbols.{marks, mark_in, mark_or, mark_at, decimal_at, hex_at, symbol_at, next_symbol};
 ghost use Rattle.symbols.specs.declared.Symbol.TheVariants.{Bad};
 
@@ -135,11 +135,12 @@ fn mark_at(text: &[u8], at: usize) -> Symbol
     requires { at < length text.now }
     ensures { result ≡ mark_at at (drop at text.now) }
 {
+    let first = text[at];
     let Some(&second) = text.get(at + 1) else {
-        return short_mark(text, at);
+        return short_mark(first, at);
     };
-    let Some(kind) = double_mark(text[at], second) else {
-        return short_mark(text, at);
+    let Some(kind) = double_mark(first, second) else {
+        return short_mark(first, at);
     };
     Symbol::Mark {
         kind,
@@ -148,12 +149,12 @@ fn mark_at(text: &[u8], at: usize) -> Symbol
     }
 }
 
-// The mark of one byte at `at`.
-fn short_mark(text: &[u8], at: usize) -> Symbol
-    requires { at < length text.now }
-    ensures { result ≡ mark_or at (get_or text.now at 0 ∷ []) (Bad at) }
+// The mark of one byte, which stands at `at`.
+fn short_mark(b: u8, at: usize) -> Symbol
+    requires { at + 1 < 2 ^ 64 }
+    ensures { result ≡ mark_or at (b ∷ []) (Bad at) }
 {
-    let Some(kind) = single_mark(text[at]) else {
+    let Some(kind) = single_mark(b) else {
         return Symbol::Bad(at);
     };
     Symbol::Mark {

@@ -4,7 +4,7 @@
 use mathlib.Core.Path.{refl, ◌∙◌, sym, ap}
 use native.Mathlib.Omega.{arith}
 use Rattle.grammar.specs.Terminals.{terminal_number}
-use Rattle.grammar.proofs.Turns.{walks_first, enough_room, fits, walk_unruled, walk_refused, handed_on, walks_on, walks_with}
+use Rattle.grammar.proofs.Turns.{walks_first, node_small, enough_room, fits, walk_unruled, walk_refused, handed_on, walks_on, walks_with}
 use Rattle.grammar.proofs.reading.read_symbols.Goals as goal
 
 pub loop-node-init : goal.loop-node-init
@@ -15,6 +15,9 @@ span_of-x-requires c = fits c.loop-node.invariant c.loop-node-test.true c.find_s
 
 pub shape_of-items-in_default : goal.shape_of-items-in_default
 shape_of-items-in_default c = c.loop-node.invariant.same_size
+
+pub move_at-requires : goal.move_at-requires
+move_at-requires c = record { moves = c.requires.moves; node = node_small c.loop-node.invariant c.loop-node-test.true }
 
 pub returns-in_default : goal.returns-in_default
 returns-in_default c =
