@@ -1,15 +1,12 @@
--- `protocol::is_valid` meets its contract, one test after the other. Assumes nothing.
-use mathlib.Core.Path.{sym, ◌∙◌}
-use Rattle.tables.specs.Layout.{tables_in}
-use Rattle.validity.proofs.Laws.{slices_valid}
-use Rattle.protocol.proofs.Ways.{desk_tables, desk_state}
+-- Tables that are not of full size are not right.
+use Rattle.std.proofs.Common.{◌≡◌, true, false, sym}
+use Rattle.tables.specs.Layout.{tables_in, full_size}
+use Rattle.validity.proofs.Runs.{differs}
+use Rattle.validity.proofs.Sizes.{unsized}
+use Rattle.protocol.proofs.Ways.{desk_tables}
 use Rattle.protocol.proofs.is_valid.Goals as goal
 
-pub returns-then-not-valid_tables : goal.returns-then-not-valid_tables
-returns-then-not-valid_tables c = desk_tables (tables_in c.args.numbers.now c.args.codes.now) c.args.desk (sym c.valid_tables.ensures ∙ c.if-not-valid_tables.true)
-
-pub returns-then-not-is_valid : goal.returns-then-not-is_valid
-returns-then-not-is_valid c = desk_state (tables_in c.args.numbers.now c.args.codes.now) c.args.desk (sym c.valid_tables.ensures ∙ c.if-not-valid_tables.false) (sym c.is_valid.ensures ∙ c.if-not-is_valid.true)
-
-pub invariant_of-has_logic : goal.invariant_of-has_logic
-invariant_of-has_logic c = record { full = slices_valid c.args.numbers.now c.args.codes.now (sym c.valid_tables.ensures ∙ c.if-not-valid_tables.false) }
+pub returns-in_default : goal.returns-in_default
+returns-in_default c =
+    let t = tables_in c.args.numbers.now c.args.codes.now in
+    desk_tables t c.args.desk (sym (unsized t (differs (full_size t) (λ h. let e : false ≡ true = c.in_default.ensures.full.1 h in cc))))

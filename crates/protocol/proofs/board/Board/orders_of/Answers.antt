@@ -1,14 +1,11 @@
 -- Where no logic is active there are no orders; else they are a part of all.
-use mathlib.Core.Path.{◌≡◌, sym, ap, ◌∙◌, subst}
+use mathlib.Core.Path.{◌≡◌, sym, ap, ◌∙◌}
 use native.Mathlib.Omega.{arith}
-use mathlib.Core.List.{List}
-use lib.IntN.{ℤ}
 use lib.ListN.{length}
 use Prim.Native.Nat.{◌*◌, ◌≤◌}
 use Rattle.std.specs.Prelude.{Some, true}
 use Rattle.tables.specs.declared.Row.TheVariants.{Logic}
-use Rattle.tables.specs.Values.{FieldsFit}
-use Rattle.tables.specs.Layout.{read_at, row_of, row_at, order_width}
+use Rattle.tables.specs.Layout.{row_at, order_width}
 use Rattle.protocol.specs.Triggers.{order_of}
 use Rattle.protocol.specs.Answers.{active_right}
 use Rattle.protocol.specs.OnBoard.{tables_on}
@@ -21,7 +18,7 @@ active : (c : goal.In-Some) → active_right (tables_on c.args.self.now) (Some c
 active c = ap (active_right (tables_on c.args.self.now)) (sym c.in-Some.is) ∙ c.requires
 
 row_is : (c : goal.After-orders-orders) → row_at (tables_on c.args.self.now) c.in-Some.i ≡ Logic c.in-Logic.trigger c.in-Logic.start c.in-Logic.from c.in-Logic.to
-row_is c = ap (λ (rows : List ℤ). row_of (read_at rows c.in-Some.i)) (sym c.rows.ensures) ∙ sym c.row_at.ensures ∙ c.in-Logic.is
+row_is c = sym c.row.ensures ∙ c.in-Logic.is
 
 -- a logic's orders stand in their order, and among all
 order : (c : goal.After-orders-orders) → c.in-Logic.from ≤ c.in-Logic.to
@@ -37,9 +34,8 @@ end_within c =
 pub returns-in_default : goal.returns-in_default
 returns-in_default c = none_active (tables_on c.args.self.now) (λ p. ap (order_of (tables_on c.args.self.now) p) (sym c.in_default.is))
 
-pub row_at-requires : goal.row_at-requires
-row_at-requires c =
-    subst (λ (rows : List ℤ). FieldsFit (read_at rows c.in-Some.i)) (sym c.rows.ensures) (active_fields (tables_on c.args.self.now) c.args.self.now.right c.in-Some.i (active (goal.at.row_at-requires c).In-Some))
+pub row-requires : goal.row-requires
+row-requires c = active_fields (tables_on c.args.self.now) c.args.self.now.right c.in-Some.i (active (goal.at.row-requires c).In-Some)
 
 pub slice_bounds-result-count : goal.slice_bounds-result-count
 slice_bounds-result-count c = let w = order (goal.at.slice_bounds-result-count c).After-orders-orders in omega (arith, w)

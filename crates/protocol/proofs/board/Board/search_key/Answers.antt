@@ -1,9 +1,9 @@
 -- A key that could not move finds nothing, else its chord is looked for.
-use mathlib.Core.Path.{◌≡◌, sym, ap, ◌∙◌}
+use mathlib.Core.Path.{◌≡◌, ap, ◌∙◌}
 use lib.ListN.{length}
 use Rattle.status.specs.Status.{done}
 use Rattle.tuning.proofs.Lists.{length_mapped}
-use Rattle.std.specs.Prelude.{Result}
+use Rattle.std.specs.Prelude.{ℕ, Result}
 use Rattle.keys.specs.declared.HeldKeys.{HeldKeys}
 use Rattle.protocol.specs.declared.Chord.{Chord}
 use Rattle.protocol.specs.declared.Stepped.{Stepped}
