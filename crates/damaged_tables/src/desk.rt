@@ -13,23 +13,24 @@ use tuning::{PLACES, State, Tone};
 const WIDTH_AT_START: u8 = 12;
 
 fn start_at(key: u8) -> State {
-    let mut s = State::start();
-    let anchor = KeyNumber(key);
-    s.anchor = anchor;
-    s
+    State {
+        anchor: KeyNumber(key),
+        ..State::start()
+    }
 }
 
 fn start_of_width(width: u8) -> State {
-    let mut s = State::start();
-    s.width = width;
-    s
+    State {
+        width,
+        ..State::start()
+    }
 }
 
 fn start_of_period(thousandths: i32) -> State {
-    let mut s = State::start();
-    let period = Interval(thousandths);
-    s.period = period;
-    s
+    State {
+        period: Interval(thousandths),
+        ..State::start()
+    }
 }
 
 // One position, and the longest period.
@@ -56,7 +57,7 @@ pub fn report_unplayable(rt: &impl Print) -> io::Result<()> {
         .try_unplayable(far_state(last, low), b"010200")
         .try_unplayable(far_state(first, low), b"020200")
         .try_unplayable(far_state(last, high), b"02027F");
-    report(rt, b"unplayable keys", keys)
+    report(rt, "unplayable keys", keys)
 }
 
 // At width 11 the last tone of the start is one past the width.
@@ -79,11 +80,11 @@ pub fn report_state(rt: &impl Print) -> io::Result<()> {
         .try_tones(0, used, Tone::At(Pitch(BELOW_TONES)))
         .try_tones(0, used, Tone::At(Pitch(ABOVE_TONES)));
     let past = Tally::new().try_tones(used, PLACES, Tone::At(Pitch(0)));
-    report(rt, b"state, anchor out of range", anchors)?;
-    report(rt, b"state, width out of range", widths)?;
-    report(rt, b"state, period out of range", periods)?;
-    report(rt, b"state, tone out of range", tones)?;
-    report(rt, b"state, tone past the width", past)
+    report(rt, "state, anchor out of range", anchors)?;
+    report(rt, "state, width out of range", widths)?;
+    report(rt, "state, period out of range", periods)?;
+    report(rt, "state, tone out of range", tones)?;
+    report(rt, "state, tone past the width", past)
 }
 
 // A row that is no logic, the first one past the count, and the greatest number.
@@ -92,7 +93,7 @@ pub fn report_active(rt: &impl Print) -> io::Result<()> {
         .try_first_active(LOGIC as u32)
         .try_active(USED_ROWS as u32)
         .try_active(u32::MAX);
-    report(rt, b"active logic", active)
+    report(rt, "active logic", active)
 }
 
 // All keys of a house go down.
@@ -115,7 +116,7 @@ pub fn report_keys(rt: &impl Print) -> io::Result<()> {
         .try_held(first)
         .try_held(press_all(none, 2))
         .try_held(press_all(first, 2));
-    report(rt, b"held keys", held)
+    report(rt, "held keys", held)
 }
 
 // "For a frame: 19, 23, 22, then the rest." With the keys of house 1 held, one of either house goes down or up: 23 before 17 and 18, and the same
@@ -123,12 +124,12 @@ pub fn report_keys(rt: &impl Print) -> io::Result<()> {
 pub fn report_order_of_checks(rt: &impl Print) -> io::Result<()> {
     report(
         rt,
-        b"damaged tables, buffer under 512 bytes",
+        "damaged tables, buffer under 512 bytes",
         Tally::new().try_buffers(),
     )?;
     report(
         rt,
-        b"damaged tables, bad frame",
+        "damaged tables, bad frame",
         Tally::new().try_beginnings(b"010245"),
     )?;
     let first = press_all(HeldKeys::none(), 1);
@@ -137,7 +138,7 @@ pub fn report_order_of_checks(rt: &impl Print) -> io::Result<()> {
         .try_move(first, b"01063C")
         .try_move(first, b"02053C")
         .try_move(first, b"02063C");
-    report(rt, b"damaged tables, key down or up", moves)
+    report(rt, "damaged tables, key down or up", moves)
 }
 
 // Rows of one letter and of 32, from either house. M is the sample's logic and U its order: a row that is bad behind them has pressed neither.
@@ -161,6 +162,6 @@ pub fn report_letter_rows(rt: &impl Print) -> io::Result<()> {
         .try_bad_letter_row(
             b"0104214D5555555555555555555555555555555555555555555555555555555555555555",
         );
-    report(rt, b"rows of letters, damage or a small buffer", rows)?;
-    report(rt, b"rows of letters, bad", bad)
+    report(rt, "rows of letters, damage or a small buffer", rows)?;
+    report(rt, "rows of letters, bad", bad)
 }

@@ -108,10 +108,8 @@ fn store_added(rows: &mut [i32], kind: Kind, n: usize)
 fn store_more(rows: &mut [i32], kind: Kind, more: usize)
     requires { more ≤ most_rows }
 {
-    let mut n: usize = 0;
-    while n < more {
+    for n in 0..more {
         store_added(rows, kind, n);
-        n += 1;
     }
 }
 
@@ -129,24 +127,16 @@ fn added_tones(kind: Kind, more: usize) -> usize
 fn with_rows(kind: Kind, more: usize) -> Lent
     requires { more ≤ most_rows }
 {
-    let t = Lent::sample();
-    let mut numbers = t.numbers;
-    store_more(&mut numbers, kind, more);
-    let codes = t.codes;
-    let sizes = t.sizes;
+    let mut t = Lent::sample();
+    store_more(&mut t.numbers, kind, more);
     let rows = (USED_ROWS + more) as i32;
     let tones = (POSITIONS + added_tones(kind, more)) as i32;
-    Lent {
-        numbers,
-        codes,
-        sizes,
-    }
-    .with_number(Table::Counts, ROW_COUNT, rows)
-    .with_number(Table::Counts, TONE_COUNT, tones)
+    t.with_number(Table::Counts, ROW_COUNT, rows)
+        .with_number(Table::Counts, TONE_COUNT, tones)
 }
 
 // So many more are right, and one more than that is damage.
-fn report_kind(rt: &impl Print, name: &[u8], kind: Kind, more: usize) -> io::Result<()>
+fn report_kind(rt: &impl Print, name: &str, kind: Kind, more: usize) -> io::Result<()>
     requires { more < most_rows }
 {
     let tally = Tally::new()
@@ -158,27 +148,27 @@ fn report_kind(rt: &impl Print, name: &[u8], kind: Kind, more: usize) -> io::Res
 pub fn report_kinds(rt: &impl Print) -> io::Result<()> {
     report_kind(
         rt,
-        b"intervals, 256 and 257",
+        "intervals, 256 and 257",
         Kind::Interval,
         MOST_INTERVALS - INTERVALS,
     )?;
-    report_kind(rt, b"tones, 256 and 257", Kind::Tone, MOST_TONES - TONES)?;
+    report_kind(rt, "tones, 256 and 257", Kind::Tone, MOST_TONES - TONES)?;
     report_kind(
         rt,
-        b"tone systems, 32 and 33",
+        "tone systems, 32 and 33",
         Kind::System,
         MOST_SYSTEMS - SYSTEMS,
     )?;
     report_kind(
         rt,
-        b"retunings, 672 and 673",
+        "retunings, 672 and 673",
         Kind::Retuning,
         MOST_RETUNINGS - RETUNINGS,
     )?;
-    report_kind(rt, b"logics, 32 and 33", Kind::Logic, MOST_LOGICS - LOGICS)?;
+    report_kind(rt, "logics, 32 and 33", Kind::Logic, MOST_LOGICS - LOGICS)?;
     report_kind(
         rt,
-        b"harmonies, 64 and 65",
+        "harmonies, 64 and 65",
         Kind::Harmony,
         MOST_HARMONIES - HARMONIES,
     )
@@ -214,17 +204,17 @@ fn with_shared_orders() -> Lent {
 pub fn report_parts(rt: &impl Print) -> io::Result<()> {
     report(
         rt,
-        b"tone systems, positions shared or left over",
+        "tone systems, positions shared or left over",
         try_parts(LONG_SYSTEM),
     )?;
     report(
         rt,
-        b"tones retunings, positions shared or left over",
+        "tones retunings, positions shared or left over",
         try_parts(LONG_TONES),
     )?;
     let orders = Tally::new()
         .try_damaged(with_shared_orders())
         .try_damaged(with_part(LOGIC, 1, USED_ORDERS))
         .try_damaged(with_part(LOGIC, 0, USED_ORDERS - 1));
-    report(rt, b"logics, orders shared or left over", orders)
+    report(rt, "logics, orders shared or left over", orders)
 }

@@ -1,11 +1,11 @@
 // Tables to be lent, as one value, so that what is damaged is a copy.
-ghost use Rattle.std.specs.Prelude.{◌≡◌, ◌≤◌, length};
+ghost use Rattle.std.specs.Prelude.{◌≡◌, length};
 
 use cents::{Interval, KeyNumber, Pitch};
 use hexadecimal::bits_of;
 use tables::{
-    CHANGES, CHANGES_AT, CODES, COUNTS, Counts, HARMONY_BASE, KINDS_AT, NUMBERS, ORDER_WIDTH,
-    ORDERS, ORDERS_AT, ROW_WIDTH, ROWS, Row, SOUNDING_AT, TONES, TONES_AT, encode,
+    CHANGES_AT, CODES, Counts, HARMONY_BASE, KINDS_AT, NUMBERS, ORDER_WIDTH, ORDERS_AT, ROW_WIDTH,
+    ROWS, Row, SOUNDING_AT, TONES_AT, encode,
 };
 use tuning::{Amount, Operator, PeriodChange, Retuning, Tone, ToneChange};
 
@@ -71,16 +71,9 @@ pub enum Table {
     Counts,
 }
 
-pub const SLICES: usize = 2;
+const SLICES: usize = 2;
 
-const FULL_SIZES: [usize; SLICES] = [NUMBERS, CODES];
-
-pub const TOO_SHORT: [usize; SLICES] = [NUMBERS - 1, CODES - 1];
-
-pub const TOO_LONG: [usize; SLICES] = [NUMBERS + 1, CODES + 1];
-
-// A place past both slices.
-const NOWHERE: usize = 20_000;
+pub const FULL_SIZES: [usize; SLICES] = [NUMBERS, CODES];
 
 // Each slice has a place more than its full size, so that it can be lent too long: `sizes` says how much of each is lent.
 #[derive(Clone, Copy)]
@@ -162,19 +155,15 @@ fn store_lists(rows: &mut [i32]) {
 }
 
 fn store_tones(sounding: &mut [u16], tones: &mut [i32]) {
-    let mut i: usize = 0;
-    while i < MUTED {
+    for i in 0..MUTED {
         encode::store_tone(sounding, tones, i, Tone::At(Pitch(A)));
-        i += 1;
     }
 }
 
 fn store_changes(kinds: &mut [u16], changes: &mut [i32]) {
     encode::store_change(kinds, changes, 0, ToneChange::Set(Pitch(A)));
-    let mut i: usize = 1;
-    while i < MUTED {
+    for i in 1..MUTED {
         encode::store_change(kinds, changes, i, ToneChange::Move(Interval(FIFTH)));
-        i += 1;
     }
 }
 
@@ -196,51 +185,37 @@ fn store_used(counts: &mut [u16])
     encode::store_counts(counts, used);
 }
 
-// Each lends its tables' sections.
-fn lend_tones(numbers: &mut [i32], codes: &mut [u16])
+// What belongs to the rows, each list in its section.
+fn store_positions(numbers: &mut [i32], codes: &mut [u16])
     requires { (length numbers.old ≡ 16_161) × (length codes.old ≡ 10_629) }
 {
-    let sounding = &mut codes[SOUNDING_AT..KINDS_AT];
-    store_tones(sounding, &mut numbers[TONES_AT..CHANGES_AT]);
+    store_tones(
+        &mut codes[SOUNDING_AT..KINDS_AT],
+        &mut numbers[TONES_AT..CHANGES_AT],
+    );
+    store_changes(
+        &mut codes[KINDS_AT..ORDERS_AT],
+        &mut numbers[CHANGES_AT..NUMBERS],
+    );
 }
 
-fn lend_changes(numbers: &mut [i32], codes: &mut [u16])
-    requires { (length numbers.old ≡ 16_161) × (length codes.old ≡ 10_629) }
-{
-    let kinds = &mut codes[KINDS_AT..ORDERS_AT];
-    store_changes(kinds, &mut numbers[CHANGES_AT..NUMBERS]);
-}
-
-fn lend_orders(codes: &mut [u16])
+fn store_codes(codes: &mut [u16])
     requires { length codes.old ≡ 10_629 }
 {
     store_orders(&mut codes[ORDERS_AT..CODES]);
-}
-
-fn lend_counts(codes: &mut [u16])
-    requires { length codes.old ≡ 10_629 }
-{
     store_used(&mut codes[0..SOUNDING_AT]);
 }
 
-// Where number `at` of a table stands, whose section begins at `base`.
-fn place_in(base: usize, size: usize, at: usize) -> usize
-    requires { (base ≤ 20_000) × (size ≤ 20_000) }
-{
-    if at < size {
-        return base + at;
+// Past the end nothing is put.
+fn put<T: Copy>(table: &mut [T], at: usize, x: T) {
+    if at < table.len() {
+        table[at] = x;
     }
-    NOWHERE
 }
 
-// Where code k of order `at` stands.
-fn place_of_order(k: usize, at: usize) -> usize
-    requires { k ≤ 1 }
-{
-    if at < ORDERS {
-        return ORDERS_AT + ORDER_WIDTH * at + k;
-    }
-    NOWHERE
+// Where code k of an order stands among the codes of orders.
+fn place_of_order(at: usize, k: usize) -> usize {
+    at.saturating_mul(ORDER_WIDTH).saturating_add(k)
 }
 
 impl Lent {
@@ -251,10 +226,8 @@ impl Lent {
         store_scales(&mut numbers);
         store_retunings(&mut numbers);
         store_lists(&mut numbers);
-        lend_tones(&mut numbers, &mut codes);
-        lend_changes(&mut numbers, &mut codes);
-        lend_orders(&mut codes);
-        lend_counts(&mut codes);
+        store_positions(&mut numbers, &mut codes);
+        store_codes(&mut codes);
         Lent {
             numbers,
             codes,
@@ -262,41 +235,34 @@ impl Lent {
         }
     }
 
-    fn with_number_at(mut self, at: usize, wrong: i32) -> Lent {
-        if at < NUMBERS {
-            self.numbers[at] = wrong;
-        }
-        self
-    }
-
-    fn with_code_at(mut self, at: usize, wrong: u16) -> Lent {
-        if at < CODES {
-            self.codes[at] = wrong;
-        }
-        self
-    }
-
     // A slice of another size.
-    pub fn with_size(mut self, at: usize, wrong: usize) -> Lent {
-        if at < SLICES {
-            self.sizes[at] = wrong;
-        }
+    pub fn with_size(mut self, slice: usize, wrong: usize) -> Lent {
+        put(&mut self.sizes, slice, wrong);
         self
     }
 
     // One number of a table replaced, a code by the lowest bits of `wrong` in two's complement.
-    pub fn with_number(self, table: Table, at: usize, wrong: i32) -> Lent {
+    pub fn with_number(mut self, table: Table, at: usize, wrong: i32) -> Lent {
         let code = (bits_of(wrong) % 0x1_0000) as u16;
         match table {
-            Table::Rows => self.with_number_at(place_in(0, ROW_NUMBERS, at), wrong),
-            Table::Sounding => self.with_code_at(place_in(SOUNDING_AT, TONES, at), code),
-            Table::Tones => self.with_number_at(place_in(TONES_AT, TONES, at), wrong),
-            Table::Kinds => self.with_code_at(place_in(KINDS_AT, CHANGES, at), code),
-            Table::Changes => self.with_number_at(place_in(CHANGES_AT, CHANGES, at), wrong),
-            Table::Triggers => self.with_code_at(place_of_order(0, at), code),
-            Table::Calls => self.with_code_at(place_of_order(1, at), code),
-            Table::Counts => self.with_code_at(place_in(0, COUNTS, at), code),
+            Table::Rows => put(&mut self.numbers[0..TONES_AT], at, wrong),
+            Table::Sounding => put(&mut self.codes[SOUNDING_AT..KINDS_AT], at, code),
+            Table::Tones => put(&mut self.numbers[TONES_AT..CHANGES_AT], at, wrong),
+            Table::Kinds => put(&mut self.codes[KINDS_AT..ORDERS_AT], at, code),
+            Table::Changes => put(&mut self.numbers[CHANGES_AT..NUMBERS], at, wrong),
+            Table::Triggers => put(
+                &mut self.codes[ORDERS_AT..CODES],
+                place_of_order(at, 0),
+                code,
+            ),
+            Table::Calls => put(
+                &mut self.codes[ORDERS_AT..CODES],
+                place_of_order(at, 1),
+                code,
+            ),
+            Table::Counts => put(&mut self.codes[0..SOUNDING_AT], at, code),
         }
+        self
     }
 
     // The sample with its first number wrong: a used row of no form.

@@ -32,10 +32,10 @@ pub fn report_tones(rt: &impl Print) -> io::Result<()> {
     let unused = Tally::new()
         .try_places(Table::Sounding, POSITIONS, TONES, 1)
         .try_places(Table::Tones, POSITIONS, TONES, 1);
-    report(rt, b"tones, neither muted nor sounding", codes)?;
-    report(rt, b"tones, pitch out of range", pitches)?;
-    report(rt, b"tones, muted with a pitch", muted)?;
-    report(rt, b"tones, unused places", unused)
+    report(rt, "tones, neither muted nor sounding", codes)?;
+    report(rt, "tones, pitch out of range", pitches)?;
+    report(rt, "tones, muted with a pitch", muted)?;
+    report(rt, "tones, unused places", unused)
 }
 
 pub fn report_changes(rt: &impl Print) -> io::Result<()> {
@@ -50,10 +50,10 @@ pub fn report_changes(rt: &impl Print) -> io::Result<()> {
     let unused = Tally::new()
         .try_places(Table::Kinds, POSITIONS, CHANGES, 1)
         .try_places(Table::Changes, POSITIONS, CHANGES, 1);
-    report(rt, b"changes, kind out of range", kinds)?;
-    report(rt, b"changes, sum out of range", sums)?;
-    report(rt, b"changes, muted with a number", muted)?;
-    report(rt, b"changes, unused places", unused)
+    report(rt, "changes, kind out of range", kinds)?;
+    report(rt, "changes, sum out of range", sums)?;
+    report(rt, "changes, muted with a number", muted)?;
+    report(rt, "changes, unused places", unused)
 }
 
 pub fn report_orders(rt: &impl Print) -> io::Result<()> {
@@ -73,14 +73,14 @@ pub fn report_orders(rt: &impl Print) -> io::Result<()> {
     let unused = Tally::new()
         .try_places(Table::Triggers, USED_ORDERS, ORDERS, 1)
         .try_places(Table::Calls, USED_ORDERS, ORDERS, 1);
-    report(rt, b"orders, letter out of range", letters)?;
-    report(rt, b"orders, trigger of no letter and no harmony", triggers)?;
+    report(rt, "orders, letter out of range", letters)?;
+    report(rt, "orders, trigger of no letter and no harmony", triggers)?;
     report(
         rt,
-        b"orders, call of nothing, of an interval, a tone, a harmony or a retuning with a placeholder",
+        "orders, call of nothing, of an interval, a tone, a harmony or a retuning with a placeholder",
         calls,
     )?;
-    report(rt, b"orders, unused places", unused)
+    report(rt, "orders, unused places", unused)
 }
 
 // One more than there is room for, one less than is referred to, and the greatest number; a row or an order more than there are is an unused one.
@@ -97,10 +97,6 @@ pub fn report_counts(rt: &impl Print) -> io::Result<()> {
         .try_number(Table::Counts, ORDER_COUNT, USED_ORDERS as i32 - 1)
         .try_number(Table::Counts, ORDER_COUNT, USED_ORDERS as i32 + 1)
         .try_places(Table::Counts, 0, COUNTS, -1);
-    report(rt, b"counts", counts)?;
-    report(
-        rt,
-        b"slices too short or too long",
-        Tally::new().try_sizes(),
-    )
+    report(rt, "counts", counts)?;
+    report(rt, "slices too short or too long", Tally::new().try_sizes())
 }

@@ -61,7 +61,7 @@ fn try_right() -> Tally {
 }
 
 fn main(rt: HostRuntime) -> io::Result<()> {
-    report(&rt, b"right tables", try_right())?;
+    report(&rt, "right tables", try_right())?;
     report_values(&rt)?;
     report_systems(&rt)?;
     report_retunings(&rt)?;

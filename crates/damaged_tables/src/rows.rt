@@ -24,8 +24,8 @@ const TO: usize = 4;
 
 pub fn report_values(rt: &impl Print) -> io::Result<()> {
     let wrong = [BELOW_TONES, ABOVE_TONES, -1, 1, -1, 1, -1, 1];
-    report_row(rt, b"interval", INTERVAL, wrong)?;
-    report_row(rt, b"tone", TONE, wrong)
+    report_row(rt, "interval", INTERVAL, wrong)?;
+    report_row(rt, "tone", TONE, wrong)
 }
 
 // Bounds of lists: below 0, at no positions, at 61 of them, and past the used ones.
@@ -50,8 +50,8 @@ pub fn report_systems(rt: &impl Print) -> io::Result<()> {
         SHORT_END,
         LONG_END + 1,
     ];
-    report_row(rt, b"tone system of 2 tones", SHORT_SYSTEM, short)?;
-    report_row(rt, b"tone system of 60 tones", LONG_SYSTEM, long)
+    report_row(rt, "tone system of 2 tones", SHORT_SYSTEM, short)?;
+    report_row(rt, "tone system of 60 tones", LONG_SYSTEM, long)
 }
 
 pub fn report_retunings(rt: &impl Print) -> io::Result<()> {
@@ -69,11 +69,11 @@ pub fn report_retunings(rt: &impl Print) -> io::Result<()> {
         SHORT_END,
         LONG_END + 1,
     ];
-    report_row(rt, b"anchor retuning", ANCHOR, anchor)?;
-    report_row(rt, b"width retuning", WIDTH, width)?;
-    report_row(rt, b"period retuning", PERIOD, period)?;
-    report_row(rt, b"tones retuning of 2 positions", SHORT_TONES, short)?;
-    report_row(rt, b"tones retuning of 60 positions", LONG_TONES, long)
+    report_row(rt, "anchor retuning", ANCHOR, anchor)?;
+    report_row(rt, "width retuning", WIDTH, width)?;
+    report_row(rt, "period retuning", PERIOD, period)?;
+    report_row(rt, "tones retuning of 2 positions", SHORT_TONES, short)?;
+    report_row(rt, "tones retuning of 60 positions", LONG_TONES, long)
 }
 
 // A retuning whose n is a placeholder has no numbers. Where a call hands 0 to `/`, the width's row has it, and the call gets 25.
@@ -81,8 +81,8 @@ pub fn report_placeholders(rt: &impl Print) -> io::Result<()> {
     let wrong = [-1, 1, -1, 1, -1, 1, -1, 1];
     let n = ROW_WIDTH * WIDTH + SECOND;
     let divided = Tally::new().try_right_places(Table::Rows, n, n + 1, 0);
-    report_row(rt, b"retuning with a placeholder", PATTERN, wrong)?;
-    report(rt, b"width divided by 0", divided)
+    report_row(rt, "retuning with a placeholder", PATTERN, wrong)?;
+    report(rt, "width divided by 0", divided)
 }
 
 // A harmony's four numbers are its needed key numbers, and all that it names, each in two halves: one with a number past the half's last.
@@ -94,8 +94,8 @@ pub fn report_harmony(rt: &impl Print) -> io::Result<()> {
     let all = Tally::new()
         .try_right_places(Table::Rows, at, at + 4, 0)
         .try_right_places(Table::Rows, at, at + 4, ABOVE_SETS - 1);
-    report_row(rt, b"harmony", HARMONY, wrong)?;
-    report(rt, b"harmony, sets with no key number and with all", all)
+    report_row(rt, "harmony", HARMONY, wrong)?;
+    report(rt, "harmony, sets with no key number and with all", all)
 }
 
 // A start past the count; orders turned round, and past the used ones.
@@ -111,7 +111,7 @@ pub fn report_logic(rt: &impl Print) -> io::Result<()> {
         -1,
         past,
     ];
-    report_row(rt, b"logic", LOGIC, wrong)
+    report_row(rt, "logic", LOGIC, wrong)
 }
 
 // Bounds turned round.
@@ -152,14 +152,14 @@ pub fn report_rows(rt: &impl Print) -> io::Result<()> {
         .try_places(Table::Rows, 0, used, i32::MIN)
         .try_places(Table::Rows, 0, used, i32::MAX);
     let unused = Tally::new().try_places(Table::Rows, used, ROW_NUMBERS, 1);
-    report(rt, b"rows, least and greatest number", extremes)?;
-    report(rt, b"rows, bounds turned round", try_turned())?;
-    report(rt, b"rows, start at what no start may call", try_starts())?;
+    report(rt, "rows, least and greatest number", extremes)?;
+    report(rt, "rows, bounds turned round", try_turned())?;
+    report(rt, "rows, start at what no start may call", try_starts())?;
     report(
         rt,
-        b"rows, trigger of no letter and no harmony",
+        "rows, trigger of no letter and no harmony",
         try_logic_triggers(),
     )?;
-    report(rt, b"rows, bare @ with a number", try_bare())?;
-    report(rt, b"rows, unused places", unused)
+    report(rt, "rows, bare @ with a number", try_bare())?;
+    report(rt, "rows, unused places", unused)
 }

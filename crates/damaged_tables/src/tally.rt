@@ -1,16 +1,16 @@
 // Damages tried, and how many of them were answered as they must be. Each is made in the sample, one number at a time.
 ghost use Rattle.std.specs.Prelude.{◌≤◌};
+ghost use Rattle.tuning.specs.State.{places};
 ghost use Rattle.tables.specs.Layout.{most_rows};
 
-use crate::lent::{HARMONY, Lent, SLICES, TOO_LONG, TOO_SHORT, Table};
+use crate::lent::{FULL_SIZES, HARMONY, Lent, Table};
 use crate::trial::send_frame;
 use answers::SMALLEST_BUFFER;
 use keys::HeldKeys;
-use protocol::{Active, Desk};
+use protocol::Desk;
 use status::{BAD_FRAME, BUFFER_TOO_SMALL, DONE, KEY_UNPLAYABLE, TABLE_DAMAGED};
-use std::num::wrapping_add_u64;
 use tables::{HARMONY_BASE, PATTERN_FORM, ROW_WIDTH, ROWS, UNUSED_FORM};
-use tuning::{PLACES, State, Tone};
+use tuning::{State, Tone};
 
 // The forms go from 1 to 10.
 const BELOW_FORMS: i32 = UNUSED_FORM as i32;
@@ -26,29 +26,19 @@ pub struct Tally {
     pub tried: u64,
 }
 
-fn one_if(right: bool) -> u64 {
-    if right { 1 } else { 0 }
-}
-
 // Such a tuning, no logic active, no key held.
 fn tuned(tuning: State) -> Desk {
-    let active = Active::Nothing;
-    let keys = HeldKeys::none();
     Desk {
         tuning,
-        active,
-        keys,
+        ..Desk::start()
     }
 }
 
 // The start, with such keys held.
 fn holding(keys: HeldKeys) -> Desk {
-    let tuning = State::start();
-    let active = Active::Nothing;
     Desk {
-        tuning,
-        active,
         keys,
+        ..Desk::start()
     }
 }
 
@@ -60,8 +50,8 @@ impl Tally {
     // One more; no run comes near 2^64.
     pub fn add(self, right: bool) -> Tally {
         Tally {
-            right: wrapping_add_u64(self.right, one_if(right)),
-            tried: wrapping_add_u64(self.tried, 1),
+            right: self.right.wrapping_add(u64::from(right)),
+            tried: self.tried.wrapping_add(1),
         }
     }
 
@@ -92,35 +82,21 @@ impl Tally {
 
     // The same wrong number at each place from `from` to `to`.
     pub fn try_places(self, table: Table, from: usize, to: usize, wrong: i32) -> Tally {
-        let mut tally = self;
-        let mut at = from;
-        while at < to {
-            tally = tally.try_number(table, at, wrong);
-            at += 1;
-        }
-        tally
+        (from..to).fold(self, |tally, at| tally.try_number(table, at, wrong))
     }
 
     // Another number at each place from `from` to `to` that is right there.
     pub fn try_right_places(self, table: Table, from: usize, to: usize, number: i32) -> Tally {
-        let mut tally = self;
-        let mut at = from;
-        while at < to {
-            tally = tally.try_right(Lent::sample().with_number(table, at, number));
-            at += 1;
-        }
-        tally
+        (from..to).fold(self, |tally, at| {
+            tally.try_right(Lent::sample().with_number(table, at, number))
+        })
     }
 
     // Each number from `from` to `to` at one place.
     fn try_numbers(self, table: Table, at: usize, from: u16, to: u16) -> Tally {
-        let mut tally = self;
-        let mut wrong = from;
-        while wrong < to {
-            tally = tally.try_number(table, at, wrong as i32);
-            wrong += 1;
-        }
-        tally
+        (from..to).fold(self, |tally, wrong| {
+            tally.try_number(table, at, i32::from(wrong))
+        })
     }
 
     // Triggers that are no letter and name no harmony: the one below those of all rows, each but the harmony's, the one above, and the greatest.
@@ -140,10 +116,8 @@ impl Tally {
         let mut tally = self
             .try_number(Table::Rows, form, BELOW_FORMS)
             .try_number(Table::Rows, form, ABOVE_FORMS);
-        let mut k: usize = 0;
-        while k < WRONG {
-            tally = tally.try_number(Table::Rows, form + 1 + k / 2, wrong[k]);
-            k += 1;
+        for (k, number) in wrong.into_iter().enumerate() {
+            tally = tally.try_number(Table::Rows, form + 1 + k / 2, number);
         }
         tally
     }
@@ -155,10 +129,8 @@ impl Tally {
     // Each slice a number shorter, and a number longer.
     pub fn try_sizes(self) -> Tally {
         let mut tally = self;
-        let mut k: usize = 0;
-        while k < SLICES {
-            tally = tally.try_size(k, TOO_SHORT[k]).try_size(k, TOO_LONG[k]);
-            k += 1;
+        for (slice, size) in FULL_SIZES.into_iter().enumerate() {
+            tally = tally.try_size(slice, size - 1).try_size(slice, size + 1);
         }
         tally
     }
@@ -212,70 +184,56 @@ impl Tally {
     }
 
     // The start with another tone at each position from `from` to `to`.
-    pub fn try_tones(self, from: usize, to: usize, tone: Tone) -> Tally {
+    pub fn try_tones(self, from: usize, to: usize, tone: Tone) -> Tally
+        requires { to ≤ places }
+    {
         let mut tally = self;
-        let mut i = from;
-        while i < to {
+        for i in from..to {
             let mut s = State::start();
-            if i < PLACES {
-                s.tones[i] = tone;
-            }
+            s.tones[i] = tone;
             tally = tally.try_tuning(s);
-            i += 1;
         }
         tally
     }
 
     // Declaration i as the active logic.
     pub fn try_active(self, i: u32) -> Tally {
-        let tuning = State::start();
-        let active = Active::Logic(i);
-        let keys = HeldKeys::none();
         let desk = Desk {
-            tuning,
-            active,
-            keys,
+            active: Some(i),
+            ..Desk::start()
         };
         self.try_key(Lent::sample(), desk)
     }
 
     // Each of the first `n` declarations as the active logic.
     pub fn try_first_active(self, n: u32) -> Tally {
-        let mut tally = self;
-        let mut i: u32 = 0;
-        while i < n {
-            tally = tally.try_active(i);
-            i += 1;
-        }
-        tally
+        (0..n).fold(self, |tally, i| tally.try_active(i))
     }
 
     // Damaged tables with buffers of less than 512 bytes: 19.
     pub fn try_buffers(self) -> Tally {
-        let mut tally = self;
-        let mut room: usize = 0;
-        while room < SMALLEST_BUFFER {
-            let t = Lent::damaged();
-            tally = tally.try_frame(t, Desk::start(), b"010245", room, BUFFER_TOO_SMALL);
-            room += 1;
-        }
-        tally
+        (0..SMALLEST_BUFFER).fold(self, |tally, room| {
+            tally.try_frame(
+                Lent::damaged(),
+                Desk::start(),
+                b"010245",
+                room,
+                BUFFER_TOO_SMALL,
+            )
+        })
     }
 
     // Damaged tables with the beginnings of a frame, which are bad frames: 23.
     pub fn try_beginnings(self, frame: &[u8]) -> Tally {
         let mut tally = self;
-        let mut n: usize = 0;
-        while n < frame.len() {
-            let t = Lent::damaged();
+        for n in 0..frame.len() {
             tally = tally.try_frame(
-                t,
+                Lent::damaged(),
                 Desk::start(),
                 &frame[..n],
                 SMALLEST_BUFFER,
                 TABLE_DAMAGED,
             );
-            n += 1;
         }
         tally
     }

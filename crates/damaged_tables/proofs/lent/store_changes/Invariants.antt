@@ -1,6 +1,0 @@
--- The measure is what is left of the positions.
-use Rattle.std.proofs.Common.{◌-◌}
-use Rattle.damaged_tables.proofs.lent.store_changes.Given as goal
-
-abbrev pub decreases-loop-i : goal.decreases-loop-i
-decreases-loop-i l = 61 - l.i
