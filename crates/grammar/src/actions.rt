@@ -297,13 +297,13 @@ fn range_of_amount(form: Form) -> NumberRange
     ensures { result ≡ allowed_amount form }
 {
     match form {
-        Form::AnchorTo => NumberRange::Whole(0, MOST_AMOUNT),
-        Form::AnchorUp => NumberRange::Whole(0, MOST_AMOUNT),
-        Form::AnchorDown => NumberRange::Whole(0, MOST_AMOUNT),
-        Form::WidthTo => NumberRange::Whole(0, MOST_AMOUNT),
-        Form::WidthUp => NumberRange::Whole(0, MOST_AMOUNT),
-        Form::WidthDown => NumberRange::Whole(0, MOST_AMOUNT),
-        Form::WidthTimes => NumberRange::Whole(0, MOST_AMOUNT),
+        Form::AnchorTo
+        | Form::AnchorUp
+        | Form::AnchorDown
+        | Form::WidthTo
+        | Form::WidthUp
+        | Form::WidthDown
+        | Form::WidthTimes => NumberRange::Whole(0, MOST_AMOUNT),
         Form::WidthOver => NumberRange::Whole(LEAST_DIVISOR, MOST_AMOUNT),
     }
 }
@@ -312,17 +312,15 @@ fn range_of(purpose: NumberUse) -> NumberRange
     ensures { result ≡ allowed purpose }
 {
     match purpose {
-        NumberUse::RatioFirst => NumberRange::Decimal,
-        NumberUse::RatioSecond => NumberRange::Decimal,
+        NumberUse::RatioFirst
+        | NumberUse::RatioSecond
+        | NumberUse::Radicand
+        | NumberUse::Frequency => NumberRange::Decimal,
         NumberUse::Degree => NumberRange::Whole(LEAST_DEGREE, MOST_DEGREE),
-        NumberUse::Radicand => NumberRange::Decimal,
-        NumberUse::FirstFactor => NumberRange::Whole(0, MOST_FACTOR),
-        NumberUse::Factor => NumberRange::Whole(0, MOST_FACTOR),
-        NumberUse::Frequency => NumberRange::Decimal,
+        NumberUse::FirstFactor | NumberUse::Factor => NumberRange::Whole(0, MOST_FACTOR),
         NumberUse::AnchorKey => NumberRange::Whole(0, MOST_ANCHOR_KEY),
         NumberUse::Amount(form) => range_of_amount(form),
-        NumberUse::Key => NumberRange::Whole(0, LAST_KEY),
-        NumberUse::StarredKey => NumberRange::Whole(0, LAST_KEY),
+        NumberUse::Key | NumberUse::StarredKey => NumberRange::Whole(0, LAST_KEY),
         NumberUse::Argument => NumberRange::Whole(0, MOST_AMOUNT),
     }
 }

@@ -146,6 +146,7 @@ pub enum Item {
 }
 
 // How many declarations and orders there are so far.
+// Kept as it is: an array by kind is no plainer, since every statement about counts would have to carry its length.
 #[derive(Clone, Copy)]
 pub struct Counts {
     pub intervals: u16,

@@ -13,6 +13,7 @@ const CLASS_SIZE: u8 = 32;
 
 // For each node (row) and terminal (column) the number of the next node, 0 where the symbol is not allowed. `tools/moves` prints both tables from the rules.
 // A constant is built anew wherever it is read: who reads many entries keeps the two tables in locals, and lends them.
+// Kept as it is: the tables are bytes, which `tools/moves` prints and compares, so nodes and actions are numbers there.
 pub const NEXT: [u8; 2573] = *b"\
     \x02\x0c\x13\x1e\x38\x00\x00\x43\x00\x00\x00\x00\x00\x00\x00\x00\x00\x00\x00\x00\x00\x00\x00\x00\x00\x00\x00\x00\x00\x01\x00\
     \x00\x00\x00\x00\x00\x00\x00\x00\x00\x00\x00\x00\x00\x00\x00\x00\x00\x00\x00\x00\x00\x00\x00\x00\x00\x00\x00\x00\x00\x00\x00\

@@ -6,6 +6,7 @@ ghost use Rattle.symbols.specs.Symbols.{next_symbol};
 
 use symbols::Symbol;
 
+// Kept as it is: a rule of the project wants a thin reader that holds the text and a place.
 #[derive(Clone, Copy)]
 pub struct Reader<'a> {
     pub text: &'a [u8],

@@ -9,14 +9,6 @@ pub const DONE: u8 = 0;
 // Of a text.
 pub const TEXT_TOO_LONG: u8 = 1;
 
-pub const NO_SYMBOL: u8 = 2;
-
-pub const SYMBOL_NOT_ALLOWED: u8 = 3;
-
-pub const NUMBER_OUT_OF_RANGE: u8 = 4;
-
-pub const ITEM_TOO_MANY: u8 = 9;
-
 pub const NAME_TWICE: u8 = 5;
 
 pub const NAME_NOT_DECLARED: u8 = 6;
