@@ -377,6 +377,7 @@ fn read_number(
 }
 
 // What an action does at the symbol `x`.
+#[tactic(auto, unfolding(crate::specs::Reading::acted))]
 pub fn act(text: &[u8], s: Progress, action: Action, x: Span) -> Outcome
     requires { room_for_term s }
     ensures { result ≡ acted text.now s action x }

@@ -27,6 +27,7 @@ fn terminal_of_name(text: &[u8], start: usize, end: usize) -> Terminal
     Terminal::from(words::word_at(text, start, end))
 }
 
+#[tactic(auto, unfolding(crate::specs::Terminals::terminal_of))]
 fn terminal_of(text: &[u8], symbol: Symbol) -> Terminal
     ensures { result ≡ terminal_of text.now symbol }
 {
