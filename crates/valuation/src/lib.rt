@@ -1,10 +1,10 @@
 // The values of a text's declarations: what each value starts from and its terms are gathered from the items, then resolved.
 #![tactic(auto)]
 
-ghost use Rattle.std.specs.Prelude.{◌≡◌, ◌+◌, ◌<◌, length, get_or, IfSome};
+ghost use Rattle.std.specs.Prelude.{◌≡◌, ◌+◌, ◌<◌, length, get_or, replicate, None, IfSome};
 ghost use Rattle.names.specs.Parts.{part};
 ghost use Rattle.limits.specs.Limits.{most_rows};
-ghost use Rattle.values.specs.Rows.{meant, row_terms, row_own, Resolved};
+ghost use Rattle.values.specs.Rows.{terms_per_row, meant, row_terms, row_own, Resolved};
 ghost use Rattle.program.specs.Program.{terms_of, form_of, unnamed, declaration_of, program_of};
 ghost use Rattle.program.specs.Meaning.{declaration_at, own_of, own};
 ghost use Rattle.valuation.specs.Inner.{Ready, content_of, content_at, range_by, origin_by, has_terms, term_in, Measurable, Small, Holdable, Gatherable, Gathered};
@@ -63,7 +63,7 @@ fn origin_of(content: Option<Content>) -> Origin
         Some(Content::Ratio(p, q)) => Origin::Interval(measure_ratio(p, q)),
         Some(Content::Root(a, b)) => Origin::Interval(measure_root(a, b)),
         Some(Content::Frequency(f)) => Origin::Pitch(measure_frequency(f)),
-        Some(Content::Tone(of)) => Origin::Base(of as usize),
+        Some(Content::Tone(of)) => Origin::Base(of as u16),
         _ => Origin::Interval(Interval(0)),
     }
 }
@@ -103,21 +103,20 @@ fn term_of(item: Item) -> Option<Term>
     })
 }
 
-// The terms among the items, one after the other in the places of a row.
-fn gather_terms(items: &[Item]) -> [Option<Term>; TERMS_PER_ROW]
-    requires { Holdable (terms_of items.now) }
-    ensures { row_terms result ≡ terms_of items.now }
+// Puts the terms among the items into the empty places of a row, one after the other.
+fn gather_terms(items: &[Item], places: &mut [Option<Term>])
+    requires holdable { Holdable (terms_of items.now) }
+    requires empty { places.old ≡ replicate terms_per_row None }
+    ensures { row_terms places.new ≡ terms_of items.now }
 {
-    let mut terms = [None; TERMS_PER_ROW];
     let mut next = 0;
     for item in items {
         let Some(term) = term_of(*item) else {
             continue;
         };
-        terms[next] = Some(term);
+        places[next] = Some(term);
         next += 1;
     }
-    terms
 }
 
 // The parts of a declaration: its items after the names of its placeholders.
@@ -131,21 +130,17 @@ pub fn skip_names(items: &[Item]) -> &[Item]
     &items[names..]
 }
 
-// The row of the declaration that has these parts.
-fn gather_parts(items: &[Item]) -> Row
+// Puts the declaration that has these parts into a row: in its place, since a row handed over by value is copied term by term.
+fn gather_parts(items: &[Item], row: &mut Row)
     requires { Gatherable items.now }
-    ensures { row_own result ≡ own_of (form_of items.now) }
+    ensures { row_own row.new ≡ own_of (form_of items.now) }
 {
     let content = content_at(items);
-    let terms = if has_terms(content) {
-        gather_terms(items)
-    } else {
-        [None; TERMS_PER_ROW]
-    };
-    Row {
-        range: range_of(content),
-        origin: origin_of(content),
-        terms,
+    row.range = range_of(content);
+    row.origin = origin_of(content);
+    row.terms = [None; TERMS_PER_ROW];
+    if has_terms(content) {
+        gather_terms(items, &mut row.terms);
     }
 }
 
@@ -179,7 +174,7 @@ fn gather_all(items: &[Item], starts: &[u32], rows: &mut [Row])
 {
     for d in 0..starts.len() {
         let parts = skip_names(body_at(items, starts, d));
-        rows[d] = gather_parts(parts);
+        gather_parts(parts, &mut rows[d]);
     }
 }
 

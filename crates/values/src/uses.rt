@@ -8,7 +8,7 @@ use crate::{Origin, Row, Term};
 // One that a value refers to: the tone that it starts from, or a term.
 #[derive(Clone, Copy)]
 pub enum Use {
-    Base(usize),
+    Base(u16),
     Term(Term),
 }
 
@@ -18,7 +18,7 @@ impl Use {
         ensures { result ≡ used_in self }
     {
         match self {
-            Use::Base(k) => k,
+            Use::Base(k) => k as usize,
             Use::Term(term) => term.of as usize,
         }
     }

@@ -4,4 +4,4 @@ use Rattle.valuation.proofs.Terms.{Gathering}
 use Rattle.valuation.proofs.gather_terms.Given as goal
 
 abbrev pub invariant-loop-item : goal.invariant-loop-item
-invariant-loop-item l = Gathering l.items l.terms l.next l.item-index
+invariant-loop-item l = Gathering l.items l.places l.next l.item-index
