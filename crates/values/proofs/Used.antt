@@ -1,5 +1,5 @@
 -- The uses of a value: their declarations are its references, and gathered one by one they give what the definition says.
-use Prim.Native.Nat.{ℕ, zero, suc, ◌+◌, ◌<◌, ◌≤◌}
+use Prim.Native.Nat.{ℕ, zero, suc, ◌+◌, ◌<◌}
 use mathlib.Core.Path.{◌≡◌, refl, sym, ◌∙◌, ap}
 use mathlib.Core.List.{List, [], ◌∷◌, ◌++◌, map}
 use native.Mathlib.Omega.{arith}
@@ -9,11 +9,10 @@ use Rattle.std.specs.Prelude.{Option, Some, None, option_map, option_to_list}
 use Rattle.values.specs.declared.Row.{Row}
 use Rattle.values.specs.declared.uses.Use.{Use}
 use Rattle.values.specs.declared.uses.Use.TheVariants as use'
-use Rattle.values.specs.declared.sums.Parts.{Parts}
 use Rattle.values.specs.Values as values
 use Rattle.values.specs.Values.{Term, Origin, interval, pitch, Own, Value, plus, total, summed, start_of, shifted, of_origin, references}
 use Rattle.values.specs.Rows.{row_terms, row_own}
-use Rattle.values.specs.Inner.{used_in, base_of, use_in, uses_of, begun, taken, gathered, joined}
+use Rattle.values.specs.Inner.{used_in, base_of, use_in, uses_of, begun, gathered, joined}
 
 -- ---- one by one
 

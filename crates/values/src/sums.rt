@@ -26,18 +26,17 @@ impl Range {
         ensures { result ≡ within self z }
     {
         match self {
-            Range::Tone => LOWEST_TONE <= z && z <= HIGHEST_TONE,
-            Range::Period => 0 <= z && z <= HIGHEST_PERIOD,
+            Range::Tone => (LOWEST_TONE..=HIGHEST_TONE).contains(&z),
+            Range::Period => (0..=HIGHEST_PERIOD).contains(&z),
         }
     }
 
     // The value, unless it is out of range.
     #[tactic(auto, unfolding(crate::specs::Values::ranged))]
-    pub fn limit(self, value: Value) -> Value
+    pub(crate) fn limit(self, value: Value) -> Value
         ensures { result ≡ ranged self value }
     {
-        let z = value?;
-        if self.contains(z) { Some(z) } else { None }
+        value.filter(|z| self.contains(*z))
     }
 }
 

@@ -35,14 +35,14 @@ fn base_of(origin: Origin) -> Option<Use>
 
 impl Row {
     // The places that its uses have: one for the base, and one for each term.
-    pub fn count_places(&self) -> usize
+    pub(crate) fn count_places(&self) -> usize
         ensures { (result ≡ suc (length self.now.terms)) × (result ≤ suc terms_per_row) }
     {
         1 + self.terms.len()
     }
 
     // The use at a place, where there is one: the base is at place 0.
-    pub fn use_at(&self, place: usize) -> Option<Use>
+    pub(crate) fn use_at(&self, place: usize) -> Option<Use>
         requires { place ≤ length self.now.terms }
         ensures { result ≡ use_in self.now place }
     {

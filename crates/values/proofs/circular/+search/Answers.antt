@@ -1,14 +1,14 @@
 -- The measure is `left`. The loop's invariant: all that the uses before `place` are of was gone through.
 use Prim.Native.Nat.{ℕ, ◌+◌, ◌<◌}
-use mathlib.Core.Path.{◌≡◌, refl, sym, ◌∙◌, ap}
+use mathlib.Core.Path.{sym, ◌∙◌, ap}
 use mathlib.Core.Bool.{true}
-use mathlib.Core.List.{List, [], ◌∷◌, map}
+use mathlib.Core.List.{[], ◌∷◌, map}
 use native.Mathlib.Omega.{arith}
 use lib.ListN.{length, get_or, set, length-set}
 use Rattle.values.specs.Rows.{no_row, own_in}
 use Rattle.values.specs.Inner.{used_in, refs_of, here, marked}
 use Rattle.values.proofs.Chains.{counted_lt}
-use Rattle.values.proofs.Used.{uses_from, place_passed, place_used, uses_out, refs_all}
+use Rattle.values.proofs.Used.{uses_from, place_used, uses_out, refs_all}
 use Rattle.values.proofs.Marks.{Scanning, scan_same, passed_seen, searched_no, searched_yes, scan_start, one_more_marked, scan_on, scan_end, leads_here, leads_there}
 use Rattle.values.proofs.circular.+search.Goals.{After-of-of}
 use Rattle.values.proofs.circular.+search.Goals as goal

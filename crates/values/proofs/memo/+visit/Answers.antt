@@ -1,7 +1,7 @@
 -- The measure is `left`. The loop's invariant: the uses before `place` are gathered in `parts`, and the memo has grown.
 use Prim.Native.Nat.{ℕ, ◌+◌, ◌<◌}
-use mathlib.Core.Path.{◌≡◌, refl, sym, ◌∙◌, ap, subst}
-use mathlib.Core.List.{List, ◌∷◌}
+use mathlib.Core.Path.{◌≡◌, ◌∙◌, ap}
+use mathlib.Core.List.{◌∷◌}
 use native.Mathlib.Omega.{arith}
 use borrow.Author.Rules.{rules}
 use lib.ListN.{length, get_or}
@@ -9,7 +9,7 @@ use Rattle.values.specs.Values.{ranged}
 use Rattle.values.specs.Rows.{no_row, own_in}
 use Rattle.values.specs.Inner.{used_in}
 use Rattle.values.proofs.Used.{uses_from, place_passed, place_used, uses_out}
-use Rattle.values.proofs.Visits.{Going, visited_zero, visited_known, going_start, going_same, going_used, used_small, going_on_step, going_out, going_end}
+use Rattle.values.proofs.Visits.{Going, visited_zero, going_start, going_same, going_used, used_small, going_on_step, going_out, going_end}
 use Rattle.values.proofs.memo.+visit.Goals.{After-of}
 use Rattle.values.proofs.memo.+visit.Goals as goal
 

@@ -1,13 +1,13 @@
 -- Neither the product nor the sum leaves the range of an `i64`.
 use Prim.Native.Nat.{◌+◌, ◌≤◌}
-use mathlib.Core.Path.{◌≡◌, refl, sym, ap, subst, ◌∙◌}
+use mathlib.Core.Path.{◌≡◌}
 use borrow.Author.Rules.{rules}
 use lib.IntN.{ℤ, nat_abs, ◌+ℤ◌, ◌*ℤ◌}
 use mir.Facts.{to_z-of_z}
 use mir.Syntax.{w64}
 use mir.Val.{SFits, to_z, of_z}
 use Rattle.integers.proofs.Signed.{signed, sum, mul_size, mul_bound}
-use Rattle.std.specs.Prelude.{Option, Some}
+use Rattle.std.specs.Prelude.{Some}
 use Rattle.values.specs.Values.{Term, Value, farthest_tone, plus, weight}
 use Rattle.values.specs.Inner.{size, largest_factor, largest_product, largest_sum}
 use Rattle.values.proofs.sums.add_term.Goals as goal
