@@ -1,7 +1,6 @@
 -- The invariant: the terms that are in the row, and those that are left, make the whole (`Gathering`).
 -- Assumes nothing.
 use mathlib.Core.Path.{sym, ◌∙◌}
-use native.Mathlib.Omega.{arith}
 use Rattle.valuation.proofs.Terms.{gathering_none, gathering_all, small_here, gathering_on, has_room, gathering_more}
 use Rattle.valuation.proofs.gather_terms.Goals as goal
 
