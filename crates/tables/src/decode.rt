@@ -2,8 +2,8 @@
 ghost use Rattle.std.specs.Prelude.{◌≡◌, ◌+◌, ◌*◌, ◌≤◌, ℕ, ℤ, pos, length, get_or};
 ghost use Rattle.integers.specs.Parts.{up};
 ghost use Rattle.tuning.specs.State.{coded, places};
-ghost use Rattle.tables.specs.Layout.{half_set, amount_of, period_of, row_of, read_at, tone_of, change_of, joined, joined_from, full};
-ghost use Rattle.tables.specs.Values.{system, listed, FieldsFit, Part};
+ghost use Rattle.tables.specs.Layout.{half_set, amount_of, period_of, row_of, read_at, tone_of, change_of, joined, full};
+ghost use Rattle.tables.specs.Values.{system, listed, FieldsFit};
 
 use crate::{
     ABSOLUTE_CODE, ANCHOR_FORM, FRESH_CODE, HALF_SET, HARMONY_FORM, INTERVAL_FORM, KEPT_CODE,
@@ -84,7 +84,7 @@ pub fn set_of(low: u32, high: u32) -> u64
 
 // A row by its form.
 #[tactic(auto, unfolding(crate::specs::Layout::row_of))]
-fn row_of(n: Numbers) -> Row
+pub(crate) fn row_of(n: Numbers) -> Row
     requires { FieldsFit n }
     ensures { result ≡ row_of n }
 {
@@ -125,14 +125,6 @@ fn row_of(n: Numbers) -> Row
     }
 }
 
-// The row of declaration i.
-pub fn row_at(rows: &[i32], i: usize) -> Row
-    requires { FieldsFit (read_at rows.now i) }
-    ensures { result ≡ row_of (read_at rows.now i) }
-{
-    row_of(numbers_at(rows, i))
-}
-
 fn tone_of(code: u16, z: i32) -> Tone
     ensures { result ≡ tone_of code z }
 {
@@ -171,7 +163,12 @@ fn places_of<T: Copy, F: Fn(u16, i32) -> T>(
 }
 
 // The state of a tone system with these tones.
-pub fn system_of(anchor: KeyNumber, period: Interval, sounding: &[u16], tones: &[i32]) -> State
+pub(crate) fn system_of(
+    anchor: KeyNumber,
+    period: Interval,
+    sounding: &[u16],
+    tones: &[i32],
+) -> State
     requires { (length sounding.now ≡ length tones.now) × (length tones.now ≤ places) }
     ensures { result ≡ coded (system anchor.0 (joined tone_of sounding.now tones.now) period.0) }
 {
@@ -184,7 +181,7 @@ pub fn system_of(anchor: KeyNumber, period: Interval, sounding: &[u16], tones: &
 }
 
 // The positions of a tones retuning with these changes.
-pub fn changes_of(kinds: &[u16], changes: &[i32]) -> ToneChanges
+pub(crate) fn changes_of(kinds: &[u16], changes: &[i32]) -> ToneChanges
     requires { (length kinds.now ≡ length changes.now) × (length changes.now ≤ places) }
     ensures { result ≡ listed (joined change_of kinds.now changes.now) }
 {
@@ -192,27 +189,4 @@ pub fn changes_of(kinds: &[u16], changes: &[i32]) -> ToneChanges
         count: changes.len() as u8,
         positions: places_of(kinds, changes, ToneChange::Mute, change_of),
     }
-}
-
-// The state of a tone system whose tones are those from `from` to `to`.
-pub fn system_at(
-    sounding: &[u16],
-    tones: &[i32],
-    anchor: KeyNumber,
-    period: Interval,
-    from: usize,
-    to: usize,
-) -> State
-    requires { Part sounding.now tones.now from to }
-    ensures { result ≡ coded (system anchor.0 (joined_from tone_of sounding.now tones.now from to) period.0) }
-{
-    system_of(anchor, period, &sounding[from..to], &tones[from..to])
-}
-
-// The positions of a tones retuning whose changes are those from `from` to `to`.
-pub fn changes_from(kinds: &[u16], changes: &[i32], from: usize, to: usize) -> ToneChanges
-    requires { Part kinds.now changes.now from to }
-    ensures { result ≡ listed (joined_from change_of kinds.now changes.now from to) }
-{
-    changes_of(&kinds[from..to], &changes[from..to])
 }

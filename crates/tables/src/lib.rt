@@ -276,7 +276,7 @@ impl<'a> Tables<'a> {
         requires { FieldsFit (read_at (tables_of self).rows i) }
         ensures { result ≡ row_at (tables_of self.entry) i }
     {
-        decode::row_at(self.rows(), i)
+        decode::row_of(decode::numbers_at(self.rows(), i))
     }
 
     // The state of a tone system whose tones are those from `from` to `to`.
@@ -284,7 +284,8 @@ impl<'a> Tables<'a> {
         requires { Part (tables_of self).sounding (tables_of self).tones from to }
         ensures { result ≡ coded (system anchor.0 (tones_from (tables_of self.entry) from to) period.0) }
     {
-        decode::system_at(self.sounding(), self.tones(), anchor, period, from, to)
+        let sounding = &self.sounding()[from..to];
+        decode::system_of(anchor, period, sounding, &self.tones()[from..to])
     }
 
     // The positions of a tones retuning whose changes are those from `from` to `to`.
@@ -292,6 +293,6 @@ impl<'a> Tables<'a> {
         requires { Part (tables_of self).kinds (tables_of self).changes from to }
         ensures { result ≡ listed (changes_from (tables_of self.entry) from to) }
     {
-        decode::changes_from(self.kinds(), self.changes(), from, to)
+        decode::changes_of(&self.kinds()[from..to], &self.changes()[from..to])
     }
 }
