@@ -4,14 +4,14 @@ use mathlib.Core.Bool.{Bool, true, false, cond}
 use mathlib.Core.List.{List, [], ◌∷◌, ◌++◌, append-nil}
 use Rattle.std.specs.Prelude.{Option, Some, None, Result, Ok, Err, IsErrAnd}
 use mathlib.Core.Path.{◌≡◌, refl, sym, ◌∙◌, ap, subst}
-use Prim.Native.Nat.{ℕ, ◌+◌, ◌-◌, ◌*◌, ◌^◌, ◌≤◌, ◌<◌}
+use Prim.Native.Nat.{ℕ, ◌+◌, ◌-◌, ◌^◌, ◌≤◌, ◌<◌}
 use native.Mathlib.Omega.{arith}
 use Rattle.std.proofs.lemmas.Option.{same_Some, none-some}
 use borrow.Author.Tests.{eq-eqb, ne_eqb, le-leb, lt-leb}
 use lib.Dec.{leb, eqb}
 use lib.ListN.{length, set, length-append}
 use lib.Seq.{slice, append_snoc}
-use Rattle.status.specs.Status.{done, text_too_long, no_symbol, symbol_not_allowed, item_too_many}
+use Rattle.status.specs.Status.{no_symbol, symbol_not_allowed}
 use Rattle.limits.specs.Limits.{most_harmony_keys, most_placeholders}
 use Rattle.sets.specs.Sets.{has}
 use Rattle.symbols.specs.declared.Symbol.{Symbol}

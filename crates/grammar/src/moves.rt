@@ -276,6 +276,7 @@ fn entry<T: Copy + Drop>(list: &[T], index: u8, default: T) -> T
 }
 
 // An action by its number: 32 for each class, and its place there.
+#[tactic(auto, unfolding(crate::specs::Moves::action_at))]
 pub fn action_at(number: u8) -> Action
     ensures { result ≡ action_at number }
 {

@@ -12,7 +12,6 @@ use borrow.Author.Tests.{lt-leb, le-leb, lt-ltb, le-ltb, eq-eqb, ne_eqb}
 use lib.ListN.{length, get_or, take, drop, drop_of_length-le}
 use lib.Seq.{take_all}
 use lib.Dec.{ltb, leb, eqb}
-use Rattle.ascii.specs.Ascii.{byte}
 use Rattle.symbols.specs.Bytes.{is_digit, is_hex_digit, is_capital, small, hash, point, take_while}
 use Rattle.symbols.proofs.Scan.{drop_here, while_front}
 use Rattle.symbols.proofs.Parts.{rest_whole}

@@ -6,7 +6,6 @@ use mathlib.Core.Path.{◌≡◌, refl, sym, ◌∙◌, ap}
 use mathlib.Core.Logic.{◌↔◌}
 use mathlib.Core.List.{List, [], ◌∷◌, map}
 use mathlib.Core.Bool.{Bool, true, false, cond, ◌&&◌, and-eq-true_iff, false≢true}
-use native.Mathlib.Omega.{arith}
 use lib.ListN.{length, get_or, get_or-map, get_or-eq_default, length-map}
 use denote.Ref.{Bor}
 use Rattle.std.specs.Bool.{IsTrue}

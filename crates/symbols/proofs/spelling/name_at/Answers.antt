@@ -1,5 +1,4 @@
 -- The name is the bytes of names from the place on, or from the end of the text.
-use mathlib.Core.Bool.{true, false}
 use Rattle.symbols.specs.Bytes.{in_name}
 use Rattle.symbols.proofs.Parts.{run_part, run_within}
 use Rattle.symbols.proofs.Scan.{run_from}
