@@ -13,8 +13,7 @@ use lib.ListN.{length, get_or, take, drop, set, replicate, length-map, length-se
 use lib.Seq.{take-suc, take-length, split_at, length-take-le, get_or-take, get_or-set_same, get_or-set_other}
 use Rattle.symbols.specs.Bytes.{same}
 use Rattle.symbols.specs.Names.{name_at}
-use Rattle.names.specs.declared.Bearer.{Bearer}
-use Rattle.names.specs.declared.Bearer.TheVariants.{Nothing, Row}
+use Rattle.std.specs.Prelude.{Option, Some, None}
 use Rattle.grammar.specs.declared.Kind.{Kind}
 use Rattle.names.specs.Names.{bearer_from, bearer_of, twice_from}
 use Rattle.names.specs.Inner.{mark_of, mark_room, unpacked, named_of, Kept, buckets, bucket_of, last_in, Chained, most_declarations}
@@ -120,7 +119,7 @@ module _ (l : List ℕ) {n : ℕ} (h : n < length l) (few : n < most_declaration
 -- ---- the search
 
 -- what is found below row n
-abbrev found_below : List ℕ → List ℕ → Kind → List ℕ → ℕ → Bearer
+abbrev found_below : List ℕ → List ℕ → Kind → List ℕ → ℕ → Option ℕ
 found_below text l k name n = bearer_of text (named_of (take n l)) k name
 
 -- one row more
@@ -132,12 +131,12 @@ module _ {text l : List ℕ} (w : Kept text l) (k : Kind) (name : List ℕ) wher
       → found_below text l k name (suc row) ≡ found_below text l k name row
   row_past row h e = rw (more_taken l row h) (number_past text (unpacked (get_or l row 0)) k name e 0 (named_of (take row l)))
 
-  row_hit : (row : ℕ) → row < length l → is_named text (unpacked (get_or l row 0)) k name ≡ true → found_below text l k name (suc row) ≡ Row row
+  row_hit : (row : ℕ) → row < length l → is_named text (unpacked (get_or l row 0)) k name ≡ true → found_below text l k name (suc row) ≡ Some row
   row_hit row h e =
       let s = ap named_of (split_at l row 0 h) ∙ map-append unpacked (take row l) (get_or l row 0 ∷ drop (suc row) l) in
       let o = ap (twice_from text []) (sym s) ∙ w.once in
       let m = length-map (take row l) unpacked ∙ length-take-le row l (omega arith) in
-      rw (more_taken l row h) (number_once text (unpacked (get_or l row 0)) k name (named_of (take row l)) (named_of (drop (suc row) l)) o e ∙ ap Row m)
+      rw (more_taken l row h) (number_once text (unpacked (get_or l row 0)) k name (named_of (take row l)) (named_of (drop (suc row) l)) o e ∙ ap Some m)
 
   -- a row of another bucket is of another kind or name
   other_bucket : (row : ℕ) → row < length l → (bucket_of (get_or l row 0) ≡ bucket_of (mark_of k name) → ⊥)
@@ -179,7 +178,7 @@ module _ {text l heads links : List ℕ} (w : Kept text l) (c : Chained l heads 
   pub ahead_first : Ahead text l name mark (get_or heads (bucket_of mark) 0)
   ahead_first = ahead_at (length l) (omega arith) (λ k q. rw take-length) (c.head (bucket_of mark) (omega arith))
 
-  pub ahead_end : {next : ℕ} → Ahead text l name mark next → next ≡ 0 → (k : Kind) → mark ≡ mark_of k name → Nothing ≡ bearer_of text (named_of l) k name
+  pub ahead_end : {next : ℕ} → Ahead text l name mark next → next ≡ 0 → (k : Kind) → mark ≡ mark_of k name → None ≡ bearer_of text (named_of l) k name
   unfolding bearer_from
   ahead_end a z k q = ap (found_below text l k name) (sym z) ∙ a.found k q
 
@@ -204,7 +203,7 @@ module _ {text l heads links : List ℕ} (w : Kept text l) (c : Chained l heads 
       row_told : {t : Bool} → b ≡ t → (k : Kind) → mark ≡ mark_of k name → is_named text (unpacked (get_or l (next - 1) 0)) k name ≡ t
       row_told z k q = sym (kept_told text w (next - 1) row_kept k name q e) ∙ z
 
-      pub ahead_hit : b ≡ true → (k : Kind) → mark ≡ mark_of k name → Row (next - 1) ≡ bearer_of text (named_of l) k name
+      pub ahead_hit : b ≡ true → (k : Kind) → mark ≡ mark_of k name → Some (next - 1) ≡ bearer_of text (named_of l) k name
       ahead_hit t k q = sym (row_hit w k name (next - 1) row_kept (row_told t k q)) ∙ present.found k q
 
       pub ahead_on : b ≡ false → Ahead text l name mark (get_or links (next - 1) 0)

@@ -8,8 +8,7 @@ use native.Mathlib.Omega.{arith}
 use lib.ListN.{length, get_or, take, drop, set, length-set, drop_of_length-le}
 use Rattle.status.specs.Status.{done, name_twice}
 use Rattle.symbols.specs.Names.{name_at}
-use Rattle.names.specs.declared.Bearer.{Bearer}
-use Rattle.names.specs.declared.Bearer.TheVariants.{Nothing, Row}
+use Rattle.std.specs.Prelude.{Option, Some, None}
 use Rattle.grammar.specs.declared.Kind.{Kind}
 use Rattle.grammar.specs.declared.Item.{Item}
 use Rattle.grammar.specs.Reading.{most_bytes}
@@ -43,22 +42,22 @@ role_other (says m) h = (λ ds. refl, λ i xs. refl)
 
 -- ---- the declarations before the n-th, and those from it on
 
-module _ (text : List ℕ) (ds : List Named) (n : ℕ) {d : Named} {rest : List Named} (e : drop n ds ≡ d ∷ rest) {f : Bearer}
+module _ (text : List ℕ) (ds : List Named) (n : ℕ) {d : Named} {rest : List Named} (e : drop n ds ≡ d ∷ rest) {f : Option ℕ}
     (q : f ≡ bearer_of text (take n ds) d.kind (name_at text d.place)) where
-  twice_on : f ≡ Nothing → twice_from text (take (n + 1) ds) (drop (n + 1) ds) ≡ twice_from text (take n ds) (drop n ds)
+  twice_on : f ≡ None → twice_from text (take (n + 1) ds) (drop (n + 1) ds) ≡ twice_from text (take n ds) (drop n ds)
   unfolding twice_from
   twice_on z = rw (e, head_rest ds n e, head_taken ds n e, twice_from, ← q, z)
 
-  twice_stop : {m : ℕ} → f ≡ Row m → twice_from text (take n ds) (drop n ds) ≡ repeat_at d.place
+  twice_stop : {m : ℕ} → f ≡ Some m → twice_from text (take n ds) (drop n ds) ≡ repeat_at d.place
   unfolding twice_from
   twice_stop z = rw (e, twice_from, ← q, z)
 
-  distinct_on : f ≡ Nothing
+  distinct_on : f ≡ None
       → distinct_from text (take n ds) (drop n ds) ≡ suc (distinct_from text (take (n + 1) ds) (drop (n + 1) ds))
   unfolding distinct_from
   distinct_on z = rw (e, head_rest ds n e, head_taken ds n e, distinct_from, ← q, z)
 
-  distinct_stop : {m : ℕ} → f ≡ Row m → distinct_from text (take n ds) (drop n ds) ≡ 0
+  distinct_stop : {m : ℕ} → f ≡ Some m → distinct_from text (take n ds) (drop n ds) ≡ 0
   unfolding distinct_from
   distinct_stop z = rw (e, distinct_from, ← q, z)
 
@@ -68,21 +67,21 @@ unfolding distinct_from
 distinct_few text before [] = omega arith
 distinct_few text before (d ∷ ds) = go (bearer_of text before d.kind (name_at text d.place)) (distinct_few text (before ++ d ∷ []) ds)
   where
-    go : (f : Bearer) → distinct_from text (before ++ d ∷ []) ds ≤ length ds
-        → elim f [ Row n ↦ 0 | Nothing ↦ suc (distinct_from text (before ++ d ∷ []) ds) ] ≤ suc (length ds)
-    go (Row n) h = omega arith
-    go Nothing h = omega arith
+    go : (f : Option ℕ) → distinct_from text (before ++ d ∷ []) ds ≤ length ds
+        → elim f [ Some n ↦ 0 | None ↦ suc (distinct_from text (before ++ d ∷ []) ds) ] ≤ suc (length ds)
+    go (Some n) h = omega arith
+    go None h = omega arith
 
 pub distinct_all : (text : List ℕ) (before ds : List Named) → twice_from text before ds ≡ no_repeat → distinct_from text before ds ≡ length ds
 unfolding distinct_from twice_from
 distinct_all text before [] e = refl
 distinct_all text before (d ∷ ds) e = go (bearer_of text before d.kind (name_at text d.place)) (distinct_all text (before ++ d ∷ []) ds) e
   where
-    go : (f : Bearer) → (twice_from text (before ++ d ∷ []) ds ≡ no_repeat → distinct_from text (before ++ d ∷ []) ds ≡ length ds)
-        → elim f [ Row n ↦ repeat_at d.place | Nothing ↦ twice_from text (before ++ d ∷ []) ds ] ≡ no_repeat
-        → elim f [ Row n ↦ 0 | Nothing ↦ suc (distinct_from text (before ++ d ∷ []) ds) ] ≡ suc (length ds)
-    go (Row n) later q = absurd (no_repeat_at (sym q))
-    go Nothing later q = ap suc (later q)
+    go : (f : Option ℕ) → (twice_from text (before ++ d ∷ []) ds ≡ no_repeat → distinct_from text (before ++ d ∷ []) ds ≡ length ds)
+        → elim f [ Some n ↦ repeat_at d.place | None ↦ twice_from text (before ++ d ∷ []) ds ] ≡ no_repeat
+        → elim f [ Some n ↦ 0 | None ↦ suc (distinct_from text (before ++ d ∷ []) ds) ] ≡ suc (length ds)
+    go (Some n) later q = absurd (no_repeat_at (sym q))
+    go None later q = ap suc (later q)
 
 -- and among those that are kept none does
 pub distinct_once : (text : List ℕ) (before ds : List Named) (n : ℕ) → n ≤ distinct_from text before ds → twice_from text before (take n ds) ≡ no_repeat
@@ -92,11 +91,11 @@ distinct_once text before [] (suc n) h = absurd (omega arith)
 distinct_once text before (d ∷ ds) (suc n) h =
     go (bearer_of text before d.kind (name_at text d.place)) (distinct_once text (before ++ d ∷ []) ds n) h
   where
-    go : (f : Bearer) → (n ≤ distinct_from text (before ++ d ∷ []) ds → twice_from text (before ++ d ∷ []) (take n ds) ≡ no_repeat)
-        → suc n ≤ elim f [ Row m ↦ 0 | Nothing ↦ suc (distinct_from text (before ++ d ∷ []) ds) ]
-        → elim f [ Row m ↦ repeat_at d.place | Nothing ↦ twice_from text (before ++ d ∷ []) (take n ds) ] ≡ no_repeat
-    go (Row m) later q = absurd (omega arith)
-    go Nothing later q = later (omega arith)
+    go : (f : Option ℕ) → (n ≤ distinct_from text (before ++ d ∷ []) ds → twice_from text (before ++ d ∷ []) (take n ds) ≡ no_repeat)
+        → suc n ≤ elim f [ Some m ↦ 0 | None ↦ suc (distinct_from text (before ++ d ∷ []) ds) ]
+        → elim f [ Some m ↦ repeat_at d.place | None ↦ twice_from text (before ++ d ∷ []) (take n ds) ] ≡ no_repeat
+    go (Some m) later q = absurd (omega arith)
+    go None later q = later (omega arith)
 
 -- ---- the pass
 
@@ -197,12 +196,12 @@ module _ (text : List ℕ) (is : List Item) (names₀ starts₀ : List ℕ) wher
         pub one_more_holds : n < length (declared is)
         one_more_holds = head_fits (declared is) n names_here
 
-        module _ {f : Bearer} (found : f ≡ bearer_of text (named_of (take n l)) k (name_at text q)) where
+        module _ {f : Option ℕ} (found : f ≡ bearer_of text (named_of (take n l)) k (name_at text q)) where
           found_before : f ≡ bearer_of text (take n (declared is)) k (name_at text q)
           found_before = found ∙ ap (λ ds. bearer_of text ds k (name_at text q)) (kept_names text (declared is) names₀ n p.few p.kept)
 
           -- the name stood before in its kind
-          pub passed_stop : {j : ℕ} → f ≡ Row j → FirstPass text is names₀ starts₀ (record { number = name_twice; place = q; declarations = n }) l m
+          pub passed_stop : {j : ℕ} → f ≡ Some j → FirstPass text is names₀ starts₀ (record { number = name_twice; place = q; declarations = n }) l m
           passed_stop z =
               let t : twice_from text [] (declared is) ≡ repeat_at q = sym p.twice ∙ twice_stop text (declared is) n names_here found_before z in
               let s = distinct_stop text (declared is) n names_here found_before z in
@@ -211,7 +210,7 @@ module _ (text : List ℕ) (is : List Item) (names₀ starts₀ : List ℕ) wher
               record { number = rw t; place = rw t; count = sym e; kept = rw e p.kept; begun = rw e p.begun }
 
           -- it is kept
-          pub passed_more : f ≡ Nothing → {v : ℕ} → v ≡ packed text (record { kind = k; place = q }) → n < length l → n < length m
+          pub passed_more : f ≡ None → {v : ℕ} → v ≡ packed text (record { kind = k; place = q }) → n < length l → n < length m
               → Passed (set l n v) (set m n i) (n + 1) (i + 1)
           passed_more z {v} w a b =
               let s = distinct_on text (declared is) n names_here found_before z in

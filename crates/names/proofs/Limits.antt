@@ -13,7 +13,7 @@ use lib.ListN.{length, length-append}
 use lib.Seq.{slice}
 use Rattle.limits.specs.Limits.{most_harmony_keys, most_placeholders}
 use Rattle.sets.specs.Sets.{has}
-use Rattle.status.specs.Status.{symbol_not_allowed, item_too_many, text_too_long}
+use Rattle.status.specs.Status.{text_too_long}
 use Rattle.symbols.specs.declared.Symbol.{Symbol}
 use Rattle.symbols.specs.declared.Symbol.TheVariants as symbol
 use Rattle.symbols.specs.Symbols.{next_symbol, after, cut, symbols_from, symbols}

@@ -7,8 +7,7 @@ use native.Mathlib.Omega.{arith}
 use lib.ListN.{length, get_or}
 use Rattle.status.specs.Status.{done}
 use Rattle.symbols.specs.Names.{name_at}
-use Rattle.names.specs.declared.Bearer.{Bearer}
-use Rattle.names.specs.declared.Bearer.TheVariants.{Nothing, Row}
+use Rattle.std.specs.Prelude.{Option, Some, None}
 use Rattle.grammar.specs.declared.Item.{Item}
 use Rattle.names.specs.Parts.{Part, declares, gives, uses, says, part, Use, add, subtract, base, position, start, order, trigger}
 use Rattle.names.specs.Names.{Named, named_by, declared, Repeat, no_repeat, repeat_at, twice_from, called_in, meant, numbered, Resolved, all, missing, and_then, if_found, resolved_by, resolved, unless_missing, unless_twice, meanings}
@@ -82,10 +81,10 @@ module _ (text : List ℕ) (ds : List Named) where
   stays i is m e (missing p) w = tt
 
   -- an item that uses a name
-  becomes : (i : Item) (is : List Item) (u : Use) (a p : ℕ) → part i ≡ uses u a p → (f : Bearer) → called_in text ds (meant u) (name_at text p) ≡ f
+  becomes : (i : Item) (is : List Item) (u : Use) (a p : ℕ) → part i ≡ uses u a p → (f : Option ℕ) → called_in text ds (meant u) (name_at text p) ≡ f
       → (r : Resolved) → SettledBy is r → SettledBy (i ∷ is) (if_found u a p f r)
   unfolding SettledBy declared beginnings_from rewritten
-  becomes i is u a p e (Row n) c (all js) w =
+  becomes i is u a p e (Some n) c (all js) w =
       record {
         means = (rw (part_numbered u a n) (called_found text ds (meant u) (name_at text p) c), w.means);
         same_names = rw (part_numbered u a n, e) w.same_names;
@@ -93,8 +92,8 @@ module _ (text : List ℕ) (ds : List Named) where
         same_length = ap suc w.same_length;
         left = rw (e, c) (ap (λ xs. numbered u a n ∷ xs) w.left);
       }
-  becomes i is u a p e (Row n) c (missing q) w = tt
-  becomes i is u a p e Nothing c r w = tt
+  becomes i is u a p e (Some n) c (missing q) w = tt
+  becomes i is u a p e None c r w = tt
 
   settled_by : (is : List Item) → SettledBy is (resolved text ds is)
   unfolding SettledBy resolved rewritten declared beginnings_from

@@ -11,8 +11,7 @@ use lib.ListN.{length, get_or}
 use lib.Seq.{append_snoc}
 use Rattle.symbols.specs.Bytes.{same}
 use Rattle.symbols.specs.Names.{name_at}
-use Rattle.names.specs.declared.Bearer.{Bearer}
-use Rattle.names.specs.declared.Bearer.TheVariants.{Nothing, Row}
+use Rattle.std.specs.Prelude.{Option, Some, None}
 use Rattle.symbols.proofs.Letters.{same_true}
 use Rattle.grammar.specs.declared.Kind.{Kind}
 use Rattle.grammar.specs.declared.Kind.TheVariants.{Interval, Tone, System, Retuning, Logic, Order as AnOrder, Harmony}
@@ -32,7 +31,7 @@ kind_back Harmony = refl
 kind_told : (j k : Kind) → kind_number j ≡ kind_number k → j ≡ k
 kind_told j k e = sym (kind_back j) ∙ ap (λ n. get_or kinds n AnOrder) e ∙ kind_back k
 
-pub nothing_no_row : {n : ℕ} → Nothing ≡ Row n → ⊥
+pub nothing_no_row : {n : ℕ} → None ≡ Some n → ⊥
 nothing_no_row e = let z : ◌≡◌ {A = ℕ} 0 1 = cc in omega arith
 
 pub no_repeat_at : {p : ℕ} → no_repeat ≡ repeat_at p → ⊥
@@ -43,32 +42,32 @@ abbrev pub is_named : List ℕ → Named → Kind → List ℕ → Bool
 is_named text d k name = eqb (kind_number d.kind) (kind_number k) && same (name_at text d.place) name
 
 -- a choice that finds nothing
-no_row_holds : {rest : Bearer} (n : ℕ) (b : Bool) → elim b [ true ↦ Row n | false ↦ rest ] ≡ Nothing → (b ≡ false) × (rest ≡ Nothing)
+no_row_holds : {rest : Option ℕ} (n : ℕ) (b : Bool) → ◌≡◌ {A = Option ℕ} (elim b [ true ↦ Some n | false ↦ rest ]) None → (b ≡ false) × (rest ≡ None)
 no_row_holds n true e = absurd (nothing_no_row (sym e))
 no_row_holds n false e = (refl, e)
 
-none_else : {rest : Repeat} (p : ℕ) (f : Bearer) → elim f [ Row n ↦ repeat_at p | Nothing ↦ rest ] ≡ no_repeat → (f ≡ Nothing) × (rest ≡ no_repeat)
-none_else p (Row n) e = absurd (no_repeat_at (sym e))
-none_else p Nothing e = (refl, e)
+none_else : {rest : Repeat} (p : ℕ) (f : Option ℕ) → elim f [ Some n ↦ repeat_at p | None ↦ rest ] ≡ no_repeat → (f ≡ None) × (rest ≡ no_repeat)
+none_else p (Some n) e = absurd (no_repeat_at (sym e))
+none_else p None e = (refl, e)
 
 -- one declaration more
 module _ (text : List ℕ) (d : Named) (k : Kind) (name : List ℕ) where
   pub number_past : is_named text d k name ≡ false → (n : ℕ) (ds : List Named) → bearer_from n text (ds ++ d ∷ []) k name ≡ bearer_from n text ds k name
   unfolding bearer_from
   number_past e n [] = rw (bearer_from, e)
-  number_past e n (x ∷ ds) = ap (λ f. elim (is_named text x k name) [ true ↦ Row n | false ↦ f ]) (number_past e (suc n) ds)
+  number_past e n (x ∷ ds) = ap (λ f. elim (is_named text x k name) [ true ↦ Some n | false ↦ f ]) (number_past e (suc n) ds)
 
-  number_last : is_named text d k name ≡ true → (n : ℕ) (ds : List Named) → bearer_from n text ds k name ≡ Nothing
-      → bearer_from n text (ds ++ d ∷ []) k name ≡ Row (n + length ds)
+  number_last : is_named text d k name ≡ true → (n : ℕ) (ds : List Named) → bearer_from n text ds k name ≡ None
+      → bearer_from n text (ds ++ d ∷ []) k name ≡ Some (n + length ds)
   unfolding bearer_from
-  number_last e n [] q = rw (bearer_from, e) (ap Row (omega arith))
+  number_last e n [] q = rw (bearer_from, e) (ap Some (omega arith))
   number_last e n (x ∷ ds) q =
       let w = no_row_holds n (is_named text x k name) q in
-      rw (bearer_from, w.0) (number_last e (suc n) ds w.1 ∙ ap Row (omega arith))
+      rw (bearer_from, w.0) (number_last e (suc n) ds w.1 ∙ ap Some (omega arith))
 
   -- where no name stands twice, none in front of a declaration is of its kind and name
   once_before : (before xs ys : List Named) → twice_from text before (xs ++ d ∷ ys) ≡ no_repeat
-      → bearer_of text (before ++ xs) d.kind (name_at text d.place) ≡ Nothing
+      → bearer_of text (before ++ xs) d.kind (name_at text d.place) ≡ None
   unfolding twice_from
   once_before before [] ys e = rw append-nil (none_else d.place (bearer_of text before d.kind (name_at text d.place)) e).0
   once_before before (x ∷ xs) ys e =
@@ -76,13 +75,13 @@ module _ (text : List ℕ) (d : Named) (k : Kind) (name : List ℕ) where
 
   -- so a declaration of the kind and the name, though it is the last, is the one that is found
   pub number_once : (xs ys : List Named) → twice_from text [] (xs ++ d ∷ ys) ≡ no_repeat → is_named text d k name ≡ true
-      → bearer_of text (xs ++ d ∷ []) k name ≡ Row (length xs)
+      → bearer_of text (xs ++ d ∷ []) k name ≡ Some (length xs)
   number_once xs ys o e =
       let h = (and-eq-true_iff _ _).0 e in
       let j = kind_told d.kind k (eqb-true _ _ h.0) in
       let s = same_true (name_at text d.place) name h.1 in
       let f = once_before [] xs ys o in
-      number_last e 0 xs (cc) ∙ ap Row (omega arith)
+      number_last e 0 xs (cc) ∙ ap Some (omega arith)
 
 -- a name that is looked for in one kind after another
 module _ (text : List ℕ) (ds : List Named) (name : List ℕ) where
@@ -90,31 +89,31 @@ module _ (text : List ℕ) (ds : List Named) (name : List ℕ) where
   unfolding called_in
   called_one k = go (bearer_of text ds k name)
     where
-      go : (f : Bearer) → f ≡ elim f [ Row n ↦ Row n | Nothing ↦ Nothing ]
-      go (Row n) = refl
-      go Nothing = refl
+      go : (f : Option ℕ) → f ≡ elim f [ Some n ↦ Some n | None ↦ None ]
+      go (Some n) = refl
+      go None = refl
 
-  pub called_here : (ks js : List Kind) {n : ℕ} → called_in text ds ks name ≡ Row n → called_in text ds (ks ++ js) name ≡ Row n
+  pub called_here : (ks js : List Kind) {n : ℕ} → called_in text ds ks name ≡ Some n → called_in text ds (ks ++ js) name ≡ Some n
   unfolding called_in
   called_here [] js e = absurd (nothing_no_row e)
   called_here (k ∷ ks) js {n} e = go (called_here ks js) (bearer_of text ds k name) e
     where
-      go : (called_in text ds ks name ≡ Row n → called_in text ds (ks ++ js) name ≡ Row n) → (f : Bearer)
-          → elim f [ Row m ↦ Row m | Nothing ↦ called_in text ds ks name ] ≡ Row n
-          → elim f [ Row m ↦ Row m | Nothing ↦ called_in text ds (ks ++ js) name ] ≡ Row n
-      go later (Row m) q = q
-      go later Nothing q = later q
+      go : (called_in text ds ks name ≡ Some n → called_in text ds (ks ++ js) name ≡ Some n) → (f : Option ℕ)
+          → elim f [ Some m ↦ Some m | None ↦ called_in text ds ks name ] ≡ Some n
+          → elim f [ Some m ↦ Some m | None ↦ called_in text ds (ks ++ js) name ] ≡ Some n
+      go later (Some m) q = q
+      go later None q = later q
 
-  pub called_on : (ks js : List Kind) → called_in text ds ks name ≡ Nothing → called_in text ds (ks ++ js) name ≡ called_in text ds js name
+  pub called_on : (ks js : List Kind) → called_in text ds ks name ≡ None → called_in text ds (ks ++ js) name ≡ called_in text ds js name
   unfolding called_in
   called_on [] js e = refl
   called_on (k ∷ ks) js e = go (called_on ks js) (bearer_of text ds k name) e
     where
-      go : (called_in text ds ks name ≡ Nothing → called_in text ds (ks ++ js) name ≡ called_in text ds js name) → (f : Bearer)
-          → elim f [ Row m ↦ Row m | Nothing ↦ called_in text ds ks name ] ≡ Nothing
-          → elim f [ Row m ↦ Row m | Nothing ↦ called_in text ds (ks ++ js) name ] ≡ called_in text ds js name
-      go later (Row m) q = absurd (nothing_no_row (sym q))
-      go later Nothing q = later q
+      go : (called_in text ds ks name ≡ None → called_in text ds (ks ++ js) name ≡ called_in text ds js name) → (f : Option ℕ)
+          → ◌≡◌ {A = Option ℕ} (elim f [ Some m ↦ Some m | None ↦ called_in text ds ks name ]) None
+          → elim f [ Some m ↦ Some m | None ↦ called_in text ds (ks ++ js) name ] ≡ called_in text ds js name
+      go later (Some m) q = absurd (nothing_no_row (sym q))
+      go later None q = later q
 
 -- ---- what is found
 
@@ -125,13 +124,13 @@ record Numbered (n : ℕ) (ds : List Named) (k : Kind) (r : ℕ) : Type 0 where
   below : index < length ds
   kind : (d : Named) → (get_or ds index d).kind ≡ k
 
-number_found : (n : ℕ) (text : List ℕ) (ds : List Named) (k : Kind) (name : List ℕ) {r : ℕ} → bearer_from n text ds k name ≡ Row r → Numbered n ds k r
+number_found : (n : ℕ) (text : List ℕ) (ds : List Named) (k : Kind) (name : List ℕ) {r : ℕ} → bearer_from n text ds k name ≡ Some r → Numbered n ds k r
 unfolding bearer_from
 number_found n text [] k name e = absurd (nothing_no_row e)
 number_found n text (d ∷ ds) k name {r} e = go _ refl (number_found (suc n) text ds k name) e
   where
-    go : (b : Bool) → is_named text d k name ≡ b → (bearer_from (suc n) text ds k name ≡ Row r → Numbered (suc n) ds k r)
-        → elim b [ true ↦ Row n | false ↦ bearer_from (suc n) text ds k name ] ≡ Row r → Numbered n (d ∷ ds) k r
+    go : (b : Bool) → is_named text d k name ≡ b → (bearer_from (suc n) text ds k name ≡ Some r → Numbered (suc n) ds k r)
+        → elim b [ true ↦ Some n | false ↦ bearer_from (suc n) text ds k name ] ≡ Some r → Numbered n (d ∷ ds) k r
     go true t later q =
         let h = eqb-true _ _ ((and-eq-true_iff _ _).0 t).0 in
         let z : n ≡ r = cc in
@@ -147,16 +146,16 @@ pub record OfKinds (ds : List Named) (ks : List Kind) (n : ℕ) : Type 0 where
   pub below : n < length ds
   pub kind : (d : Named) → Memᴰ (get_or ds n d).kind ks
 
-pub called_found : (text : List ℕ) (ds : List Named) (ks : List Kind) (name : List ℕ) {r : ℕ} → called_in text ds ks name ≡ Row r → OfKinds ds ks r
+pub called_found : (text : List ℕ) (ds : List Named) (ks : List Kind) (name : List ℕ) {r : ℕ} → called_in text ds ks name ≡ Some r → OfKinds ds ks r
 unfolding called_in
 called_found text ds [] name e = absurd (nothing_no_row e)
 called_found text ds (k ∷ ks) name {r} e = go _ refl (called_found text ds ks name) e
   where
-    go : (f : Bearer) → bearer_of text ds k name ≡ f → (called_in text ds ks name ≡ Row r → OfKinds ds ks r)
-        → elim f [ Row n ↦ Row n | Nothing ↦ called_in text ds ks name ] ≡ Row r → OfKinds ds (k ∷ ks) r
-    go (Row n) t later q =
+    go : (f : Option ℕ) → bearer_of text ds k name ≡ f → (called_in text ds ks name ≡ Some r → OfKinds ds ks r)
+        → elim f [ Some n ↦ Some n | None ↦ called_in text ds ks name ] ≡ Some r → OfKinds ds (k ∷ ks) r
+    go (Some n) t later q =
         let w = number_found 0 text ds k name (t ∙ q) in
         let i : r ≡ w.index = let c = w.counted in omega arith in
         let b = w.below in
         record { below = omega arith; kind = λ d. Memᴰ.head (ap (λ j. (get_or ds j d).kind) i ∙ w.kind d) }
-    go Nothing t later q = let w = later q in record { below = w.below; kind = λ d. Memᴰ.tail (w.kind d) }
+    go None t later q = let w = later q in record { below = w.below; kind = λ d. Memᴰ.tail (w.kind d) }

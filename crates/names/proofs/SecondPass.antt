@@ -1,15 +1,13 @@
 -- Laws of the second pass over the items: what has become of those in front of an item.
 -- Assumes nothing.
 use Rattle.std.specs.Prelude.{Option, Some, None}
-use Prim.Native.Nat.{ℕ, suc, ◌+◌, ◌*◌, ◌≤◌, ◌<◌}
+use Prim.Native.Nat.{ℕ, suc, ◌+◌, ◌≤◌, ◌<◌}
 use mathlib.Core.Path.{◌≡◌, refl, sym, ◌∙◌, ap, subst}
 use mathlib.Core.List.{List, [], ◌∷◌, ◌++◌}
 use native.Mathlib.Omega.{arith}
 use lib.ListN.{length, get_or, take, drop, set, length-set, drop_of_length-le, take-append-drop}
 use Rattle.status.specs.Status.{done, name_not_declared}
 use Rattle.symbols.specs.Names.{name_at}
-use Rattle.names.specs.declared.Bearer.{Bearer}
-use Rattle.names.specs.declared.Bearer.TheVariants.{Nothing, Row}
 use Rattle.grammar.specs.declared.Item.{Item}
 use Rattle.grammar.specs.declared.Item.TheVariants as item
 use Rattle.grammar.specs.Items.{with_place}
@@ -19,7 +17,7 @@ use Rattle.names.specs.declared.Scope.{Scope}
 use Rattle.names.specs.Parts.{Part, declares, gives, uses, says, part, Use, add, subtract, base, position, start, order, trigger}
 use Rattle.names.specs.Names.{Named, called_in, meant, numbered, Resolved, all, missing, and_then, if_found, resolved_by, resolved, unless_missing}
 use Rattle.names.specs.Inner.{scope, role_of, kinds_in, begun_with, if_called, rewritten_by, rewritten, SecondPass}
-use Rattle.names.proofs.Lists.{here, head_at, head_rest, begun_set, begun_same, begun_all, begun_at, begun_length}
+use Rattle.names.proofs.Lists.{here, head_at, head_rest, begun_set, begun_same, begun_all, begun_at}
 
 -- ---- what an item's role tells
 
@@ -139,10 +137,10 @@ unfolding rewritten
 length_rewritten text ds [] = refl
 length_rewritten text ds (i ∷ is) = by (part i) (length_rewritten text ds is)
   where
-    called : (u : Use) (a : ℕ) (f : Bearer) → length (rewritten text ds is) ≡ length is
+    called : (u : Use) (a : ℕ) (f : Option ℕ) → length (rewritten text ds is) ≡ length is
         → length (if_called u a f i is (rewritten text ds is)) ≡ suc (length is)
-    called u a (Row n) e = ap suc e
-    called u a Nothing e = refl
+    called u a (Some n) e = ap suc e
+    called u a None e = refl
 
     by : (q : Part) → length (rewritten text ds is) ≡ length is → length (rewritten_by text ds q i is (rewritten text ds is)) ≡ suc (length is)
     by (declares k p) e = ap suc e
@@ -177,16 +175,16 @@ module _ (text : List ℕ) (ds : List Named) (is : List Item) where
         }
 
     -- the item that stands here has the role r
-    module _ (h : i < length is) (None : Item) where
+    module _ (h : i < length is) (none : Item) where
       short : i ≤ length (rewritten text ds is)
       short = omega (arith, length_rewritten text ds is)
 
-      pub item_here : get_or l i None ≡ get_or is i None
+      pub item_here : get_or l i none ≡ get_or is i none
       item_here =
-          ap (λ t. get_or t i None) p.held
-          ∙ begun_at (rewritten text ds is) is i None short h
+          ap (λ t. get_or t i none) p.held
+          ∙ begun_at (rewritten text ds is) is i none short h
 
-      module _ {r : Role} (e : r ≡ role_of (part (get_or is i None))) where
+      module _ {r : Role} (e : r ≡ role_of (part (get_or is i none))) where
         abbrev after : List Item
         after = drop (i + 1) is
 
@@ -194,53 +192,53 @@ module _ (text : List ℕ) (ds : List Named) (is : List Item) where
         pub replacing_on : ((s : Scope) (q : ℕ) → r ≡ role.Uses s q → ⊥) → Replacing l (i + 1)
         unfolding rewritten resolved Stays
         replacing_on o =
-            let x = get_or is i None in
+            let x = get_or is i none in
             let w = role_stays text ds (part x) (λ s q g. o s q (e ∙ g)) in
             let y : drop i (rewritten text ds is) ≡ x ∷ rewritten text ds after =
-            p.rest ∙ ap (rewritten text ds) (here is i None h) ∙ w.0 x after (rewritten text ds after) in
+            p.rest ∙ ap (rewritten text ds) (here is i none h) ∙ w.0 x after (rewritten text ds after) in
             let m : missing_in (resolved text ds (drop i is)) ≡ missing_in (resolved text ds after) =
-            ap (λ xs. missing_in (resolved text ds xs)) (here is i None h)
+            ap (λ xs. missing_in (resolved text ds xs)) (here is i none h)
             ∙ ap missing_in (w.1 x (resolved text ds after)) ∙ missing_after x (resolved text ds after) in
             record {
               within = omega arith;
-              held = p.held ∙ begun_same (rewritten text ds is) is i y h (head_at is i (here is i None h) x);
+              held = p.held ∙ begun_same (rewritten text ds is) is i y h (head_at is i (here is i none h) x);
               room = p.room;
               rest = head_rest (rewritten text ds is) i y;
               missed = sym m ∙ p.missed;
             }
 
         -- it uses a name at the place q
-        module _ {s : Scope} {q : ℕ} (g : r ≡ role.Uses s q) {f : Bearer} (c : f ≡ called_in text ds (kinds_in s) (name_at text q)) where
-          the_use : Using (part (get_or is i None)) s q
-          the_use = role_uses (part (get_or is i None)) (sym e ∙ g)
+        module _ {s : Scope} {q : ℕ} (g : r ≡ role.Uses s q) {f : Option ℕ} (c : f ≡ called_in text ds (kinds_in s) (name_at text q)) where
+          the_use : Using (part (get_or is i none)) s q
+          the_use = role_uses (part (get_or is i none)) (sym e ∙ g)
 
           called : f ≡ called_in text ds (meant the_use.use') (name_at text q)
           called = c ∙ ap (λ ks. called_in text ds ks (name_at text q)) the_use.meaning
 
           rewritten_here : rewritten text ds (drop i is)
-              ≡ if_called the_use.use' the_use.amount f (get_or is i None) after (rewritten text ds after)
+              ≡ if_called the_use.use' the_use.amount f (get_or is i none) after (rewritten text ds after)
           unfolding rewritten
           rewritten_here =
-              ap (rewritten text ds) (here is i None h)
-              ∙ ap (λ a. rewritten_by text ds a (get_or is i None) after (rewritten text ds after)) the_use.is
-              ∙ ap (λ b. if_called the_use.use' the_use.amount b (get_or is i None) after (rewritten text ds after)) (sym called)
+              ap (rewritten text ds) (here is i none h)
+              ∙ ap (λ a. rewritten_by text ds a (get_or is i none) after (rewritten text ds after)) the_use.is
+              ∙ ap (λ b. if_called the_use.use' the_use.amount b (get_or is i none) after (rewritten text ds after)) (sym called)
 
           resolved_here : resolved text ds (drop i is) ≡ if_found the_use.use' the_use.amount q f (resolved text ds after)
           unfolding resolved
           resolved_here =
-              ap (resolved text ds) (here is i None h)
-              ∙ ap (λ a. resolved_by text ds (get_or is i None) a (resolved text ds after)) the_use.is
+              ap (resolved text ds) (here is i none h)
+              ∙ ap (λ a. resolved_by text ds (get_or is i none) a (resolved text ds after)) the_use.is
               ∙ ap (λ b. if_found the_use.use' the_use.amount q b (resolved text ds after)) (sym called)
 
           -- which is not declared
-          pub replacing_stop : {n : ℕ} → n ≡ length ds → f ≡ Nothing
+          pub replacing_stop : {n : ℕ} → n ≡ length ds → f ≡ None
               → SecondPass text ds is (record { number = name_not_declared; place = q; declarations = n }) l
           unfolding missing_in
           replacing_stop c z =
               let y : drop i (rewritten text ds is) ≡ drop i is =
               p.rest ∙ rewritten_here
-              ∙ ap (λ b. if_called the_use.use' the_use.amount b (get_or is i None) after (rewritten text ds after)) z
-              ∙ sym (here is i None h) in
+              ∙ ap (λ b. if_called the_use.use' the_use.amount b (get_or is i none) after (rewritten text ds after)) z
+              ∙ sym (here is i none h) in
               let m : missing_in (resolved text ds (drop i is)) ≡ Some q =
               ap missing_in (resolved_here ∙ ap (λ b. if_found the_use.use' the_use.amount q b (resolved text ds after)) z) in
               let w = one_missing (resolved text ds is) (sym p.missed ∙ m) in
@@ -252,9 +250,9 @@ module _ (text : List ℕ) (ds : List Named) (is : List Item) where
               }
 
           -- whose declaration has the number k
-          pub replacing_more : {k : ℕ} {l' : List Item} → f ≡ Row k → l' ≡ set l i (with_place (get_or is i None) k) → Replacing l' (i + 1)
+          pub replacing_more : {k : ℕ} {l' : List Item} → f ≡ Some k → l' ≡ set l i (with_place (get_or is i none) k) → Replacing l' (i + 1)
           replacing_more {k} z stored =
-              let x = get_or is i None in
+              let x = get_or is i none in
               let u = the_use.use' in
               let a = the_use.amount in
               let new = rewritten text ds is in

@@ -1,8 +1,6 @@
 -- What the passes over the items keep, and what they leave: for the contracts of functions.
-use Rattle.std.specs.Prelude.{◌≡◌, true, false, List, [], ◌∷◌, ◌++◌, map, ℕ, zero, suc, ◌+◌, ◌*◌, ◌/◌, ◌%◌, ◌≤◌, ◌<◌, eqb, length, get_or, take, drop}
+use Rattle.std.specs.Prelude.{◌≡◌, true, false, List, [], ◌∷◌, ◌++◌, map, ℕ, zero, suc, ◌+◌, ◌*◌, ◌/◌, ◌%◌, ◌≤◌, ◌<◌, eqb, length, get_or, take, drop, Option, Some, None}
 use Rattle.symbols.specs.Names.{name_at}
-use Rattle.names.specs.declared.Bearer.{Bearer}
-use Rattle.names.specs.declared.Bearer.TheVariants.{Nothing, Row}
 use Rattle.grammar.specs.declared.Kind.{Kind}
 use Rattle.grammar.specs.declared.Kind.TheVariants.{Order as AnOrder}
 use Rattle.grammar.specs.declared.Item.{Item}
@@ -117,8 +115,8 @@ unfoldable pub distinct_from : List ℕ → List Named → List Named → ℕ
 distinct_from text before [] = 0
 distinct_from text before (d ∷ ds) =
     elim (bearer_of text before d.kind (name_at text d.place)) [
-      | Row n ↦ 0
-      | Nothing ↦ suc (distinct_from text (before ++ d ∷ []) ds)
+      | Some n ↦ 0
+      | None ↦ suc (distinct_from text (before ++ d ∷ []) ds)
     ]
 
 -- how many declarations are kept: all, where no name stands twice (`accepted` of proofs/Meanings.antt)
@@ -132,9 +130,9 @@ begun_with n xs before = take n xs ++ drop n before
 -- ---- what the second pass leaves
 
 -- the items, with the names that are used in front of the first that is not declared replaced by numbers
-abbrev pub if_called : Use → ℕ → Bearer → Item → List Item → List Item → List Item
-if_called u a (Row n) i is rest = numbered u a n ∷ rest
-if_called u a Nothing i is rest = i ∷ is
+abbrev pub if_called : Use → ℕ → Option ℕ → Item → List Item → List Item → List Item
+if_called u a (Some n) i is rest = numbered u a n ∷ rest
+if_called u a None i is rest = i ∷ is
 
 abbrev pub rewritten_by : List ℕ → List Named → Part → Item → List Item → List Item → List Item
 rewritten_by text ds (declares k p) i is rest = i ∷ rest

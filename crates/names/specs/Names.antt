@@ -1,11 +1,9 @@
 -- Declared names and their uses: document 01, "Names may be used before they are declared. A name may serve once for each kind",
 -- "A called name means the retuning of that name, else the tone system, else (orders only) the logic", and the numbers 5 and 6.
-use Rattle.std.specs.Prelude.{true, false, ◌&&◌, List, [], ◌∷◌, ◌++◌, ℕ, suc, eqb}
+use Rattle.std.specs.Prelude.{true, false, ◌&&◌, List, [], ◌∷◌, ◌++◌, ℕ, suc, eqb, Option, Some, None}
 use Rattle.status.specs.Status.{done, name_twice, name_not_declared}
 use Rattle.symbols.specs.Bytes.{same}
 use Rattle.symbols.specs.Names.{name_at}
-use Rattle.names.specs.declared.Bearer.{Bearer}
-use Rattle.names.specs.declared.Bearer.TheVariants.{Nothing, Row}
 use Rattle.grammar.specs.declared.Kind.{Kind}
 use Rattle.grammar.specs.declared.Kind.TheVariants.{Interval, Tone, System, Retuning, Logic, Harmony}
 use Rattle.grammar.specs.declared.Item.{Item}
@@ -30,15 +28,15 @@ declared [] = []
 declared (i ∷ is) = named_by (part i) (declared is)
 
 -- the number of the declaration of a kind and a name, counted from n
-unfoldable pub bearer_from : ℕ → List ℕ → List Named → Kind → List ℕ → Bearer
-bearer_from n text [] k name = Nothing
+unfoldable pub bearer_from : ℕ → List ℕ → List Named → Kind → List ℕ → Option ℕ
+bearer_from n text [] k name = None
 bearer_from n text (d ∷ ds) k name =
     elim (eqb (kind_number d.kind) (kind_number k) && same (name_at text d.place) name) [
-      | true ↦ Row n
+      | true ↦ Some n
       | false ↦ bearer_from (suc n) text ds k name
     ]
 
-abbrev pub bearer_of : List ℕ → List Named → Kind → List ℕ → Bearer
+abbrev pub bearer_of : List ℕ → List Named → Kind → List ℕ → Option ℕ
 bearer_of text ds k name = bearer_from 0 text ds k name
 
 -- ---- 5: "name used twice in a kind; the second"
@@ -53,16 +51,16 @@ unfoldable pub twice_from : List ℕ → List Named → List Named → Repeat
 twice_from text before [] = no_repeat
 twice_from text before (d ∷ ds) =
     elim (bearer_of text before d.kind (name_at text d.place)) [
-      | Row n ↦ repeat_at d.place
-      | Nothing ↦ twice_from text (before ++ d ∷ []) ds
+      | Some n ↦ repeat_at d.place
+      | None ↦ twice_from text (before ++ d ∷ []) ds
     ]
 
 -- ---- 6: "name not declared; the use"
 
 -- a name is looked for in one kind, else in the next
-unfoldable pub called_in : List ℕ → List Named → List Kind → List ℕ → Bearer
-called_in text ds [] name = Nothing
-called_in text ds (k ∷ ks) name = elim (bearer_of text ds k name) [ Row n ↦ Row n | Nothing ↦ called_in text ds ks name ]
+unfoldable pub called_in : List ℕ → List Named → List Kind → List ℕ → Option ℕ
+called_in text ds [] name = None
+called_in text ds (k ∷ ks) name = elim (bearer_of text ds k name) [ Some n ↦ Some n | None ↦ called_in text ds ks name ]
 
 -- the kinds that a use may mean: terms use intervals, tones and positions use tones,
 -- "start is a tone system or retuning name", and an order calls a logic as well; document 02, 5/13, of a harmony: "Its bare name is a trigger"
@@ -94,9 +92,9 @@ abbrev pub and_then : Item → Resolved → Resolved
 and_then i (all is) = all (i ∷ is)
 and_then i (missing p) = missing p
 
-abbrev pub if_found : Use → ℕ → ℕ → Bearer → Resolved → Resolved
-if_found u a p (Row n) rest = and_then (numbered u a n) rest
-if_found u a p Nothing rest = missing p
+abbrev pub if_found : Use → ℕ → ℕ → Option ℕ → Resolved → Resolved
+if_found u a p (Some n) rest = and_then (numbered u a n) rest
+if_found u a p None rest = missing p
 
 abbrev pub resolved_by : List ℕ → List Named → Item → Part → Resolved → Resolved
 resolved_by text ds i (declares k p) rest = and_then i rest

@@ -35,13 +35,6 @@ const BUCKETS: usize = 1024;
 // How many declarations a text may have.
 const DECLARATIONS: usize = MOST_DECLARATIONS;
 
-// The row of a declaration that was looked for.
-#[derive(Clone, Copy)]
-pub enum Bearer {
-    Nothing,
-    Row(usize),
-}
-
 // What a used name may mean.
 #[derive(Clone, Copy)]
 enum Scope {
@@ -66,20 +59,6 @@ pub struct Naming {
     pub number: u8,
     pub place: u32,
     pub declarations: usize,
-}
-
-fn kind_number(kind: Kind) -> u32
-    ensures { result ≡ kind_number kind }
-{
-    match kind {
-        Kind::Interval => 0,
-        Kind::Tone => 1,
-        Kind::System => 2,
-        Kind::Retuning => 3,
-        Kind::Logic => 4,
-        Kind::Order => 5,
-        Kind::Harmony => 6,
-    }
 }
 
 fn role_of(item: Item) -> Role
@@ -117,7 +96,7 @@ fn tag_of(text: &[u8], at: usize) -> u32
 fn mark_of(text: &[u8], kind: Kind, at: usize) -> u32
     ensures { result ≡ mark_of kind (name_at text.now at) }
 {
-    tag_of(text, at) * KIND_ROOM + kind_number(kind)
+    tag_of(text, at) * KIND_ROOM + kind as u32
 }
 
 // A declaration as one number.
@@ -146,7 +125,7 @@ fn find_declaration(
     links: &[u16],
     kind: Kind,
     at: usize,
-) -> Bearer
+) -> Option<usize>
     requires kept { Kept text.now declared.now }
     requires chained { Chained declared.now heads.now links.now }
     ensures { result ≡ bearer_of text.now (named_of declared.now) kind (name_at text.now at) }
@@ -156,36 +135,47 @@ fn find_declaration(
     while next != 0 {
         let row = next as usize - 1;
         if declares(text, declared[row], mark, at) {
-            return Bearer::Row(row);
+            return Some(row);
         }
         next = links[row];
     }
-    Bearer::Nothing
+    None
 }
 
 // The retuning of the name at `at`, else the tone system.
-fn find_start(text: &[u8], declared: &[u32], heads: &[u16], links: &[u16], at: usize) -> Bearer
+fn find_start(
+    text: &[u8],
+    declared: &[u32],
+    heads: &[u16],
+    links: &[u16],
+    at: usize,
+) -> Option<usize>
     requires kept { Kept text.now declared.now }
     requires chained { Chained declared.now heads.now links.now }
     ensures { result ≡ called_in text.now (named_of declared.now) (kinds_in Scope.Starts) (name_at text.now at) }
 {
-    let Bearer::Row(number) = find_declaration(text, declared, heads, links, Kind::Retuning, at)
-    else {
-        return find_declaration(text, declared, heads, links, Kind::System, at);
-    };
-    Bearer::Row(number)
+    match find_declaration(text, declared, heads, links, Kind::Retuning, at) {
+        Some(row) => Some(row),
+        None => find_declaration(text, declared, heads, links, Kind::System, at),
+    }
 }
 
 // The retuning or the tone system of the name at `at`, else the logic.
-fn find_order(text: &[u8], declared: &[u32], heads: &[u16], links: &[u16], at: usize) -> Bearer
+fn find_order(
+    text: &[u8],
+    declared: &[u32],
+    heads: &[u16],
+    links: &[u16],
+    at: usize,
+) -> Option<usize>
     requires kept { Kept text.now declared.now }
     requires chained { Chained declared.now heads.now links.now }
     ensures { result ≡ called_in text.now (named_of declared.now) (kinds_in Scope.Orders) (name_at text.now at) }
 {
-    let Bearer::Row(number) = find_start(text, declared, heads, links, at) else {
-        return find_declaration(text, declared, heads, links, Kind::Logic, at);
-    };
-    Bearer::Row(number)
+    match find_start(text, declared, heads, links, at) {
+        Some(row) => Some(row),
+        None => find_declaration(text, declared, heads, links, Kind::Logic, at),
+    }
 }
 
 // What the name at `at` means.
@@ -196,7 +186,7 @@ fn find_meaning(
     links: &[u16],
     scope: Scope,
     at: usize,
-) -> Bearer
+) -> Option<usize>
     requires kept { Kept text.now declared.now }
     requires chained { Chained declared.now heads.now links.now }
     ensures { result ≡ called_in text.now (named_of declared.now) (kinds_in scope) (name_at text.now at) }
@@ -244,7 +234,7 @@ fn declare_all(
             continue;
         };
         let found = find_declaration(text, &declared[..n], heads, links, kind, place as usize);
-        if let Bearer::Row(_) = found {
+        if let Some(_) = found {
             return Naming {
                 number: NAME_TWICE,
                 place,
@@ -279,8 +269,7 @@ fn resolve_uses(
         let Role::Uses(scope, place) = role_of(items[i]) else {
             continue;
         };
-        let Bearer::Row(number) = find_meaning(text, declared, heads, links, scope, place as usize)
-        else {
+        let Some(number) = find_meaning(text, declared, heads, links, scope, place as usize) else {
             return Naming {
                 number: NAME_NOT_DECLARED,
                 place,

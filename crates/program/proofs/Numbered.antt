@@ -4,8 +4,7 @@ use mathlib.Core.List.{List, [], ◌∷◌, map, map-append}
 use Prim.Native.Nat.{ℕ}
 use Rattle.status.specs.Status.{done}
 use Rattle.symbols.specs.Names.{name_at}
-use Rattle.names.specs.declared.Bearer.{Bearer}
-use Rattle.names.specs.declared.Bearer.TheVariants.{Nothing, Row}
+use Rattle.std.specs.Prelude.{Option, Some, None}
 use Rattle.grammar.specs.declared.Kind.{Kind}
 use Rattle.grammar.specs.declared.Item.{Item}
 use Rattle.names.specs.Parts.{Part, declares, gives, uses, says, part, Use, add, subtract, base, position, start, order, trigger}
@@ -115,9 +114,9 @@ module _ (number : Use → ℕ → ℕ) where
 
 -- ---- the items of a text whose names are all declared
 
-abbrev number_in : Bearer → ℕ
-number_in (Row n) = n
-number_in Nothing = 0
+abbrev number_in : Option ℕ → ℕ
+number_in (Some n) = n
+number_in None = 0
 
 module _ (text : List ℕ) (ds : List Named) where
   abbrev number : Use → ℕ → ℕ
@@ -142,9 +141,9 @@ module _ (text : List ℕ) (ds : List Named) where
       by (says m) e r w = becomes_one i i is (rw e) r w
       by (uses u a p) e r w = found (called_in text ds (meant u) (name_at text p)) refl
         where
-          found : (f : Bearer) → called_in text ds (meant u) (name_at text p) ≡ f → Becomes (i ∷ is) (if_found u a p f r)
-          found (Row n) c = becomes_one i (numbered u a n) is (rw (e, c)) r w
-          found Nothing c = tt
+          found : (f : Option ℕ) → called_in text ds (meant u) (name_at text p) ≡ f → Becomes (i ∷ is) (if_found u a p f r)
+          found (Some n) c = becomes_one i (numbered u a n) is (rw (e, c)) r w
+          found None c = tt
 
 -- the items with their meanings are formed as those that were read
 pub formed_meant : (text : List ℕ) (is : List Item) → FormedText is → (meanings text is).number ≡ done → FormedText (meanings text is).items

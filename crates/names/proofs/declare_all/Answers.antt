@@ -1,6 +1,6 @@
 -- The invariant: what is kept of the declarations in front of the present item (`Passed`), and their chains. The measure is the items that are left.
 use Prim.Native.Nat.{ℕ, ◌<◌}
-use mathlib.Core.Path.{◌≡◌, ◌∙◌, ap}
+use mathlib.Core.Path.{◌≡◌}
 use mathlib.Core.List.{List}
 use native.Mathlib.Nat.{le_refl}
 use native.Mathlib.Omega.{arith}
@@ -44,9 +44,9 @@ pub find_declaration-found-requires : goal.find_declaration-found-requires
 find_declaration-found-requires c =
     record { kept = passed_kept _ _ _ _ c.loop-i.invariant.0; chained = c.loop-i.invariant.1 }
 
-pub returns-in-Row : goal.returns-in-Row
-returns-in-Row c =
-    record { first_pass = passed_stop _ _ _ _ c.loop-i.invariant.0 c.loop-i-test.true _ c.role_of.ensures c.in-Declares.is c.find_declaration-found.ensures c.in-Row.is; chained_2 = c.loop-i.invariant.1 }
+pub returns-in-Some : goal.returns-in-Some
+returns-in-Some c =
+    record { first_pass = passed_stop _ _ _ _ c.loop-i.invariant.0 c.loop-i-test.true _ c.role_of.ensures c.in-Declares.is c.find_declaration-found.ensures c.in-Some.is; chained_2 = c.loop-i.invariant.1 }
 
 pub pack-requires : goal.pack-requires
 pack-requires c =

@@ -1,10 +1,7 @@
 -- The invariant: what has become of the items in front of the present one (`Replacing`). The measure is the items that are left.
-use Prim.Native.Nat.{ℕ, ◌<◌}
-use mathlib.Core.Path.{◌≡◌, sym, ◌∙◌, ap}
-use mathlib.Core.List.{List}
+use mathlib.Core.Path.{sym, ◌∙◌, ap}
 use native.Mathlib.Omega.{arith}
-use lib.ListN.{length, set, length-map}
-use Rattle.grammar.specs.declared.Item.{Item}
+use lib.ListN.{set, length-map}
 use Rattle.grammar.specs.Items.{with_place}
 use Rattle.names.specs.Parts.{part}
 use Rattle.names.specs.Inner.{role_of, unpacked}
@@ -28,13 +25,13 @@ returns-in_default-find_meaning c =
 
 pub overflow_cast-number : goal.overflow_cast-number
 overflow_cast-number c =
-    let w = (called_found _ _ _ _ (sym c.find_meaning.ensures ∙ c.in-Row.is)).below in
+    let w = (called_found _ _ _ _ (sym c.find_meaning.ensures ∙ c.in-Some.is)).below in
     omega (arith, length-map c.args.declared.now unpacked, c.requires.chained.few)
 
 pub loop-i-preserved : goal.loop-i-preserved
 loop-i-preserved c =
     let e = c.role_of.ensures ∙ ap (λ x. role_of (part x)) (item_here _ _ _ c.loop-i.invariant c.loop-i-test.true _) in
-    replacing_more _ _ _ c.loop-i.invariant c.loop-i-test.true _ e c.in-Uses.is c.find_meaning.ensures c.in-Row.is (ap (set c.loop-i.items c.loop-i.i) (c.with_place.ensures ∙ ap (λ x. with_place x c.in-Row.number) (item_here _ _ _ c.loop-i.invariant c.loop-i-test.true _)))
+    replacing_more _ _ _ c.loop-i.invariant c.loop-i-test.true _ e c.in-Uses.is c.find_meaning.ensures c.in-Some.is (ap (set c.loop-i.items c.loop-i.i) (c.with_place.ensures ∙ ap (λ x. with_place x c.in-Some.number) (item_here _ _ _ c.loop-i.invariant c.loop-i-test.true _)))
 
 pub returns : goal.returns
 returns c =
