@@ -15,8 +15,7 @@ use Rattle.names.specs.Names.{declared, meanings}
 use Rattle.names.specs.Inner.{beginnings}
 use Rattle.names.proofs.Meanings.{AllMean, accepted}
 use Rattle.placeholders.specs.declared.Settling.{Settling}
-use Rattle.placeholders.specs.declared.Fault.{Fault}
-use Rattle.placeholders.specs.declared.Fault.TheVariants.{Nothing}
+use Rattle.std.specs.Prelude.{Option, Some, None}
 use Rattle.placeholders.specs.Placeholders.{fault_of}
 use Rattle.placeholders.specs.Filling.{filled_in, settled}
 use Rattle.placeholders.specs.Inner.{Roomy, left_by, Settles}
@@ -66,11 +65,11 @@ module _ {text : List ℕ} {is : List Item} {starts : List ℕ} {n : ℕ} (w : R
         names_refused (settled text is).number (settled text is).place _ (λ z. h (s.number ∙ z)) (e ∙ s.number) (f ∙ s.place) g
 
     module _ (h : r.number ≡ done) where
-      right : (fault_of text is ≡ Nothing) × ((settled text is).items ≡ filled_in text is)
+      right : (fault_of text is ≡ None) × ((settled text is).items ≡ filled_in text is)
       right = settled_done text is (sym s.number ∙ h)
 
       these : left_by (fault_of text is) is (filled_in text is) ≡ filled_in text is
-      these = ap (λ (f : Fault). left_by f is (filled_in text is)) right.0
+      these = ap (λ (f : Option ℕ). left_by f is (filled_in text is)) right.0
 
       left : items' ≡ holding (filled_in text is) items
       left = s.left ∙ ap (λ (l : List Item). holding l items) these

@@ -14,8 +14,7 @@ use Rattle.names.specs.Names.{declared}
 use Rattle.names.specs.Inner.{beginnings_from, beginnings}
 use Rattle.placeholders.specs.declared.Seen.{Seen}
 use Rattle.placeholders.specs.declared.Seen.TheVariants.{Other, Declares, Names, Wants, Calls, Hands}
-use Rattle.placeholders.specs.declared.Fault.{Fault}
-use Rattle.placeholders.specs.declared.Fault.TheVariants.{Nothing, At}
+use Rattle.std.specs.Prelude.{Option, Some, None}
 use Rattle.placeholders.specs.declared.Wanting.{Wanting}
 use Rattle.placeholders.specs.declared.Wanting.TheVariants as wanting
 use Rattle.placeholders.specs.declared.writing.WrittenCall.{WrittenCall}
@@ -246,10 +245,10 @@ module _ (text : List ℕ) (is : List Item) where
 
 -- ---- the number is 0
 
-pub settled_done : (text : List ℕ) (is : List Item) → (settled text is).number ≡ done → (fault_of text is ≡ Nothing) × ((settled text is).items ≡ filled_in text is)
+pub settled_done : (text : List ℕ) (is : List Item) → (settled text is).number ≡ done → (fault_of text is ≡ None) × ((settled text is).items ≡ filled_in text is)
 unfolding settled
 settled_done text is e = go (fault_of text is) e
   where
-    go : (f : Fault) → (unless_faulty f (filled_in text is)).number ≡ done → (f ≡ Nothing) × ((unless_faulty f (filled_in text is)).items ≡ filled_in text is)
-    go Nothing z = (refl, refl)
-    go (At p) z = absurd (omega arith)
+    go : (f : Option ℕ) → (unless_faulty f (filled_in text is)).number ≡ done → (f ≡ None) × ((unless_faulty f (filled_in text is)).items ≡ filled_in text is)
+    go None z = (refl, refl)
+    go (Some p) z = absurd (omega arith)

@@ -12,8 +12,7 @@ use Rattle.symbols.specs.Names.{name_at}
 use Rattle.grammar.specs.declared.Item.{Item}
 use Rattle.placeholders.specs.declared.Seen.{Seen}
 use Rattle.placeholders.specs.declared.Seen.TheVariants.{Other, Declares, Names, Wants, Calls, Hands}
-use Rattle.placeholders.specs.declared.Fault.{Fault}
-use Rattle.placeholders.specs.declared.Fault.TheVariants.{Nothing, At}
+use Rattle.std.specs.Prelude.{Option, Some, None}
 use Rattle.placeholders.specs.Placeholders.{seen, handed, is_among, fault_from}
 use Rattle.placeholders.specs.Inner.{names_in, fault_here}
 use Rattle.placeholders.proofs.Items.{next_item}
@@ -54,15 +53,15 @@ names_last (Hands n) x e h before = rw (← e, names_in) (append-nil before)
 
 -- ---- one item after the other
 
-abbrev fault_then : Fault → Fault → Fault
-fault_then Nothing r = r
-fault_then (At p) r = At p
+abbrev fault_then : Option ℕ → Option ℕ → Option ℕ
+fault_then None r = r
+fault_then (Some p) r = Some p
 
-either_at : (b : Bool) (p : ℕ) (r : Fault) → elim b [ true ↦ At p | false ↦ r ] ≡ fault_then (elim b [ true ↦ At p | false ↦ Nothing ]) r
+either_at : (b : Bool) (p : ℕ) (r : Option ℕ) → elim b [ true ↦ Some p | false ↦ r ] ≡ fault_then (elim b [ true ↦ Some p | false ↦ None ]) r
 either_at true p r = refl
 either_at false p r = refl
 
-either_not : (b : Bool) (p : ℕ) (r : Fault) → elim b [ true ↦ r | false ↦ At p ] ≡ fault_then (elim b [ true ↦ Nothing | false ↦ At p ]) r
+either_not : (b : Bool) (p : ℕ) (r : Option ℕ) → elim b [ true ↦ r | false ↦ Some p ] ≡ fault_then (elim b [ true ↦ None | false ↦ Some p ]) r
 either_not true p r = refl
 either_not false p r = refl
 
@@ -104,19 +103,19 @@ module _ (l : List Item) (i : ℕ) (k : i < length l) (d : Item) {s : Seen} (t :
       ∙ sym (ap names_in (part_last l from i m k d) ∙ names_append (part from i l) (get_or l i d ∷ []))
 
 module _ (text : List ℕ) (takes : ℕ → ℕ) (before : List ℕ) (l : List Item) (i : ℕ) where
-  pub fault_none : length l ≤ i → fault_from text takes before (drop i l) ≡ Nothing
+  pub fault_none : length l ≤ i → fault_from text takes before (drop i l) ≡ None
   unfolding fault_from
   fault_none k = ap (fault_from text takes before) (drop_of_length-le l k)
 
   module _ (k : i < length l) (d : Item) where
-    pub fault_here_step : {p : ℕ} → fault_here text takes before (part i (length l) l) ≡ At p → fault_from text takes before (drop i l) ≡ At p
+    pub fault_here_step : {p : ℕ} → fault_here text takes before (part i (length l) l) ≡ Some p → fault_from text takes before (drop i l) ≡ Some p
     fault_here_step h =
         let there = next_item l i k d in
         ap (fault_from text takes before) there
         ∙ fault_by text takes before (drop (i + 1) l) (seen (get_or l i d)) (get_or l i d) refl
         ∙ rw (← there, ← part_end i l, h)
 
-    pub fault_later : {s : Seen} → s ≡ seen (get_or l i d) → fault_here text takes before (part i (length l) l) ≡ Nothing
+    pub fault_later : {s : Seen} → s ≡ seen (get_or l i d) → fault_here text takes before (part i (length l) l) ≡ None
         → fault_from text takes before (drop i l) ≡ fault_from text takes (named_behind s before) (drop (i + 1) l)
     fault_later {s} t h =
         let there = next_item l i k d in

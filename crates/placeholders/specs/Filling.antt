@@ -1,6 +1,6 @@
 -- Numbers written in: document 02, 1/13, of a call that gives numbers: "So called it must act as the same retuning with those numbers written in". A call of a
 -- retuning whose n is a placeholder calls a declaration of its own, which stands behind those of the text: that retuning, with the number for the placeholder.
-use Rattle.std.specs.Prelude.{true, false, List, [], ◌∷◌, ◌++◌, ℕ, suc, length}
+use Rattle.std.specs.Prelude.{true, false, List, [], ◌∷◌, ◌++◌, ℕ, suc, length, Option, Some, None}
 use Rattle.status.specs.Status.{done, placeholder_wrong}
 use Rattle.symbols.specs.Bytes.{same}
 use Rattle.symbols.specs.Names.{name_at}
@@ -11,8 +11,6 @@ use Rattle.grammar.specs.declared.Item.TheVariants as item
 use Rattle.names.specs.Parts.{Part, declares, gives, uses, says, part}
 use Rattle.names.specs.Names.{declared, numbered, Meant}
 use Rattle.placeholders.specs.declared.Seen.TheVariants.{Other, Declares, Names, Wants, Calls, Hands}
-use Rattle.placeholders.specs.declared.Fault.{Fault}
-use Rattle.placeholders.specs.declared.Fault.TheVariants.{Nothing, At}
 use Rattle.placeholders.specs.declared.Wanting.{Wanting}
 use Rattle.placeholders.specs.declared.Wanting.TheVariants as wanting
 use Rattle.placeholders.specs.Placeholders.{seen, after, named, handed, fault_of}
@@ -84,9 +82,9 @@ filled_in text is = let r = filled_from text (after is) (length (declared is)) i
 
 -- ---- "24, after 6 and before 7": the items of a text whose names are resolved, or the first fault
 
-abbrev pub unless_faulty : Fault → List Item → Meant
-unless_faulty Nothing is = record { items = is; number = done; place = 0 }
-unless_faulty (At p) is = record { items = []; number = placeholder_wrong; place = p }
+abbrev pub unless_faulty : Option ℕ → List Item → Meant
+unless_faulty None is = record { items = is; number = done; place = 0 }
+unless_faulty (Some p) is = record { items = []; number = placeholder_wrong; place = p }
 
 unfoldable pub settled : List ℕ → List Item → Meant
 settled text is = unless_faulty (fault_of text is) (filled_in text is)

@@ -1,13 +1,11 @@
 -- What the contracts of private functions and of those who call cite: no part of the rules.
-use Rattle.std.specs.Prelude.{◌≡◌, true, false, List, [], ◌∷◌, ℕ, suc, ◌≤◌, eqb, length, get_or, take, drop}
+use Rattle.std.specs.Prelude.{◌≡◌, true, false, List, [], ◌∷◌, ℕ, suc, ◌≤◌, eqb, length, get_or, take, drop, Option, Some, None}
 use Rattle.symbols.specs.Names.{name_at}
 use Rattle.status.specs.Status.{done}
 use Rattle.grammar.specs.declared.Item.{Item}
 use Rattle.grammar.specs.Items.{most_items, holding}
 use Rattle.names.specs.Inner.{beginnings}
 use Rattle.placeholders.specs.declared.Seen.TheVariants.{Other, Declares, Names, Wants, Calls, Hands}
-use Rattle.placeholders.specs.declared.Fault.{Fault}
-use Rattle.placeholders.specs.declared.Fault.TheVariants.{Nothing, At}
 use Rattle.placeholders.specs.declared.Wanting.TheVariants as wanting
 use Rattle.placeholders.specs.declared.Settling.{Settling}
 use Rattle.placeholders.specs.declared.writing.WrittenCall.{WrittenCall}
@@ -30,16 +28,16 @@ abbrev pub takes_by : List ℕ → List Item → ℕ → ℕ
 takes_by bs is k = length (named (after_by bs is k))
 
 -- what is wrong with the first of some items
-abbrev pub fault_here : List ℕ → (ℕ → ℕ) → List ℕ → List Item → Fault
-fault_here text takes before [] = Nothing
+abbrev pub fault_here : List ℕ → (ℕ → ℕ) → List ℕ → List Item → Option ℕ
+fault_here text takes before [] = None
 fault_here text takes before (i ∷ is) =
     elim (seen i) [
-      | Other ↦ Nothing
-      | Declares ↦ Nothing
-      | Names p ↦ elim (is_among text before (name_at text p)) [ true ↦ At p | false ↦ Nothing ]
-      | Wants f p ↦ elim (is_among text before (name_at text p)) [ true ↦ Nothing | false ↦ At p ]
-      | Calls q k ↦ elim (eqb (length (handed is)) (takes k)) [ true ↦ Nothing | false ↦ At q ]
-      | Hands n ↦ Nothing
+      | Other ↦ None
+      | Declares ↦ None
+      | Names p ↦ elim (is_among text before (name_at text p)) [ true ↦ Some p | false ↦ None ]
+      | Wants f p ↦ elim (is_among text before (name_at text p)) [ true ↦ None | false ↦ Some p ]
+      | Calls q k ↦ elim (eqb (length (handed is)) (takes k)) [ true ↦ None | false ↦ Some q ]
+      | Hands n ↦ None
     ]
 
 -- what is written in for the first of some items
@@ -80,9 +78,9 @@ pub record Fills (text : List ℕ) (is items : List Item) (r : Settling) (items'
   pub begun : take r.declarations starts' ≡ beginnings (filled_in text is)
 
 -- as they were where a name is wrong
-abbrev pub left_by : Fault → List Item → List Item → List Item
-left_by Nothing is new = new
-left_by (At p) is new = is
+abbrev pub left_by : Option ℕ → List Item → List Item → List Item
+left_by None is new = new
+left_by (Some p) is new = is
 
 pub record Settles (text : List ℕ) (is items : List Item) (r : Settling) (items' : List Item) (starts' : List ℕ) : Type 0 where
   pub number : r.number ≡ (settled text is).number

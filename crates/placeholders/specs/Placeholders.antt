@@ -1,6 +1,6 @@
 -- Retunings with placeholders: document 02, 1/13. "one to four placeholder names in brackets after any retuning's name, parted by commas, usable where n stands
 -- in anchor and width retunings, and calls from orders and logic starts giving as many whole numbers"; and the number 24.
-use Rattle.std.specs.Prelude.{Bool, true, false, List, [], ◌∷◌, ◌++◌, ℕ, suc, eqb, length, get_or, drop}
+use Rattle.std.specs.Prelude.{Bool, true, false, List, [], ◌∷◌, ◌++◌, ℕ, suc, eqb, length, get_or, drop, Option, Some, None}
 use Rattle.symbols.specs.Bytes.{same}
 use Rattle.symbols.specs.Names.{name_at}
 use Rattle.grammar.specs.declared.Item.{Item}
@@ -8,8 +8,6 @@ use Rattle.grammar.specs.declared.Item.TheVariants as item
 use Rattle.names.specs.Inner.{beginnings}
 use Rattle.placeholders.specs.declared.Seen.{Seen}
 use Rattle.placeholders.specs.declared.Seen.TheVariants.{Other, Declares, Names, Wants, Calls, Hands}
-use Rattle.placeholders.specs.declared.Fault.{Fault}
-use Rattle.placeholders.specs.declared.Fault.TheVariants.{Nothing, At}
 
 -- an item as placeholders see it: a declared name; a placeholder's name in the brackets; one that stands for n; a call, by the place of the called name and
 -- the number of the declaration; a number that a call gives; or none of these
@@ -69,17 +67,17 @@ abbrev pub takes : List Item → ℕ → ℕ
 takes all k = length (named (after all k))
 
 -- the first fault of the items of a text, `before` being the placeholders that the declaration under way has named so far
-unfoldable pub fault_from : List ℕ → (ℕ → ℕ) → List ℕ → List Item → Fault
-fault_from text takes before [] = Nothing
+unfoldable pub fault_from : List ℕ → (ℕ → ℕ) → List ℕ → List Item → Option ℕ
+fault_from text takes before [] = None
 fault_from text takes before (i ∷ is) =
     elim (seen i) [
       | Other ↦ fault_from text takes before is
       | Declares ↦ fault_from text takes [] is
-      | Names p ↦ elim (is_among text before (name_at text p)) [ true ↦ At p | false ↦ fault_from text takes (before ++ p ∷ []) is ]
-      | Wants f p ↦ elim (is_among text before (name_at text p)) [ true ↦ fault_from text takes before is | false ↦ At p ]
-      | Calls q k ↦ elim (eqb (length (handed is)) (takes k)) [ true ↦ fault_from text takes before is | false ↦ At q ]
+      | Names p ↦ elim (is_among text before (name_at text p)) [ true ↦ Some p | false ↦ fault_from text takes (before ++ p ∷ []) is ]
+      | Wants f p ↦ elim (is_among text before (name_at text p)) [ true ↦ fault_from text takes before is | false ↦ Some p ]
+      | Calls q k ↦ elim (eqb (length (handed is)) (takes k)) [ true ↦ fault_from text takes before is | false ↦ Some q ]
       | Hands n ↦ fault_from text takes before is
     ]
 
-abbrev pub fault_of : List ℕ → List Item → Fault
+abbrev pub fault_of : List ℕ → List Item → Option ℕ
 fault_of text is = fault_from text (takes is) [] is

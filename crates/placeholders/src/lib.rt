@@ -26,13 +26,6 @@ pub enum Seen {
     Hands(u32),
 }
 
-// Where a name is wrong.
-#[derive(Clone, Copy)]
-pub enum Fault {
-    Nothing,
-    At(u32),
-}
-
 // The form of the n for which a placeholder stands, and the place of its name.
 #[derive(Clone, Copy)]
 pub enum Wanting {
@@ -78,7 +71,7 @@ pub fn settle(
     requires roomy { Roomy text.now (take count items.old) starts.old }
     ensures { Settles text.now (take count items.old) items.old result items.new starts.new }
 {
-    if let Fault::At(place) = find_fault(text, &items[..count], &starts[..n]) {
+    if let Some(place) = find_fault(text, &items[..count], &starts[..n]) {
         return Settling {
             number: PLACEHOLDER_WRONG,
             place,

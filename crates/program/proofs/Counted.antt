@@ -12,7 +12,7 @@ use borrow.Author.Tests.{eqb-true}
 use lib.Dec.{leb, eqb, leb→le}
 use Rattle.limits.specs.Limits.{most_harmony_keys, most_placeholders}
 use Rattle.sets.specs.Sets.{has}
-use Rattle.status.specs.Status.{done, symbol_not_allowed}
+use Rattle.status.specs.Status.{done}
 use Rattle.grammar.specs.declared.Kind.{Kind}
 use Rattle.grammar.specs.declared.Kind.TheVariants.{Interval, Tone, System, Retuning, Logic, Order as AnOrder, Harmony}
 use Rattle.grammar.specs.declared.NumberUse.{NumberUse}

@@ -7,10 +7,9 @@ use Prim.Native.Nat.{ℕ, zero, suc, ◌+◌, ◌-◌, ◌≤◌, ◌<◌}
 use native.Mathlib.Nat.{le_of_suc-le-suc}
 use native.Mathlib.Omega.{arith}
 use lib.Dec.{eqb}
-use Rattle.std.specs.Prelude.{Some, None, Ok, Err}
+use Rattle.std.specs.Prelude.{Some, Ok, Err}
 use Rattle.status.specs.declared.Reason.TheVariants.{SymbolNotAllowed}
 use Rattle.limits.specs.Limits.{most_harmony_keys}
-use Rattle.status.specs.Status.{done, symbol_not_allowed}
 use Rattle.sets.specs.Sets.{has, added}
 use Rattle.sets.proofs.Members.{has_added, has_zero}
 use Rattle.grammar.specs.declared.Kind.TheVariants.{Harmony}

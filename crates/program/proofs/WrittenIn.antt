@@ -22,7 +22,7 @@ use Rattle.names.specs.Inner.{beginnings}
 use Rattle.names.proofs.Meanings.{AllMean, accepted as meant-well}
 use Rattle.placeholders.specs.declared.Seen.{Seen}
 use Rattle.placeholders.specs.declared.Seen.TheVariants.{Other, Declares, Names, Wants, Calls, Hands}
-use Rattle.placeholders.specs.declared.Fault.TheVariants.{Nothing, At}
+use Rattle.std.specs.Prelude.{Option, Some, None}
 use Rattle.placeholders.specs.declared.Wanting.{Wanting}
 use Rattle.placeholders.specs.declared.Wanting.TheVariants as wanting
 use Rattle.placeholders.specs.declared.writing.WrittenCall.{WrittenCall}
@@ -206,50 +206,50 @@ module _ (text : List ℕ) (body : ℕ → List Item) where
 -- ---- "giving as many whole numbers": where there is no fault, each call does
 
 module _ (text : List ℕ) (takes : ℕ → ℕ) where
-  pub counts_right_step : (before : List ℕ) (is : List Item) → fault_from text takes before is ≡ Nothing → (j q k : ℕ) → j < length is → seen (one_of is j) ≡ Calls q k
+  pub counts_right_step : (before : List ℕ) (is : List Item) → fault_from text takes before is ≡ None → (j q k : ℕ) → j < length is → seen (one_of is j) ≡ Calls q k
       → length (handed (drop (suc j) is)) ≡ takes k
   unfolding fault_from
   counts_right_step before [] z j q k l e = absurd (omega arith)
   counts_right_step before (i ∷ is) z zero q k l e = here (seen i) e z
     where
-      counted : (b : Bool) → eqb (length (handed is)) (takes k) ≡ b → elim b [ true ↦ fault_from text takes before is | false ↦ At q ] ≡ Nothing
+      counted : (b : Bool) → eqb (length (handed is)) (takes k) ≡ b → ◌≡◌ {A = Option ℕ} (elim b [ true ↦ fault_from text takes before is | false ↦ Some q ]) None
           → length (handed is) ≡ takes k
       counted true c y = eqb-true (length (handed is)) (takes k) c
       counted false c y = impossible (cc)
 
       here : (s : Seen) → s ≡ Calls q k
-          → elim s [
+          → ◌≡◌ {A = Option ℕ} (elim s [
             | Other ↦ fault_from text takes before is
             | Declares ↦ fault_from text takes [] is
-            | Names p ↦ elim (is_among text before (name_at text p)) [ true ↦ At p | false ↦ fault_from text takes (before ++ p ∷ []) is ]
-            | Wants f p ↦ elim (is_among text before (name_at text p)) [ true ↦ fault_from text takes before is | false ↦ At p ]
-            | Calls q k ↦ elim (eqb (length (handed is)) (takes k)) [ true ↦ fault_from text takes before is | false ↦ At q ]
+            | Names p ↦ elim (is_among text before (name_at text p)) [ true ↦ Some p | false ↦ fault_from text takes (before ++ p ∷ []) is ]
+            | Wants f p ↦ elim (is_among text before (name_at text p)) [ true ↦ fault_from text takes before is | false ↦ Some p ]
+            | Calls q k ↦ elim (eqb (length (handed is)) (takes k)) [ true ↦ fault_from text takes before is | false ↦ Some q ]
             | Hands n ↦ fault_from text takes before is
-          ] ≡ Nothing
+          ]) None
           → length (handed is) ≡ takes k
       here s x y = counted (eqb (length (handed is)) (takes k)) refl (rw x at y)
   counts_right_step before (i ∷ is) z (suc j) q k l e = later (seen i) z (λ b y. counts_right_step b is y j q k (omega arith) e)
     where
-      named_once : (p : ℕ) (b : Bool) → elim b [ true ↦ At p | false ↦ fault_from text takes (before ++ p ∷ []) is ] ≡ Nothing
-          → ((b : List ℕ) → fault_from text takes b is ≡ Nothing → length (handed (drop (suc j) is)) ≡ takes k) → length (handed (drop (suc j) is)) ≡ takes k
+      named_once : (p : ℕ) (b : Bool) → ◌≡◌ {A = Option ℕ} (elim b [ true ↦ Some p | false ↦ fault_from text takes (before ++ p ∷ []) is ]) None
+          → ((b : List ℕ) → fault_from text takes b is ≡ None → length (handed (drop (suc j) is)) ≡ takes k) → length (handed (drop (suc j) is)) ≡ takes k
       named_once p true y rest = impossible (cc)
       named_once p false y rest = rest (before ++ p ∷ []) y
 
-      right : (p : ℕ) (b : Bool) → elim b [ true ↦ fault_from text takes before is | false ↦ At p ] ≡ Nothing
-          → ((b : List ℕ) → fault_from text takes b is ≡ Nothing → length (handed (drop (suc j) is)) ≡ takes k) → length (handed (drop (suc j) is)) ≡ takes k
+      right : (p : ℕ) (b : Bool) → ◌≡◌ {A = Option ℕ} (elim b [ true ↦ fault_from text takes before is | false ↦ Some p ]) None
+          → ((b : List ℕ) → fault_from text takes b is ≡ None → length (handed (drop (suc j) is)) ≡ takes k) → length (handed (drop (suc j) is)) ≡ takes k
       right p true y rest = rest before y
       right p false y rest = impossible (cc)
 
       later : (s : Seen)
-          → elim s [
+          → ◌≡◌ {A = Option ℕ} (elim s [
             | Other ↦ fault_from text takes before is
             | Declares ↦ fault_from text takes [] is
-            | Names p ↦ elim (is_among text before (name_at text p)) [ true ↦ At p | false ↦ fault_from text takes (before ++ p ∷ []) is ]
-            | Wants f p ↦ elim (is_among text before (name_at text p)) [ true ↦ fault_from text takes before is | false ↦ At p ]
-            | Calls q k ↦ elim (eqb (length (handed is)) (takes k)) [ true ↦ fault_from text takes before is | false ↦ At q ]
+            | Names p ↦ elim (is_among text before (name_at text p)) [ true ↦ Some p | false ↦ fault_from text takes (before ++ p ∷ []) is ]
+            | Wants f p ↦ elim (is_among text before (name_at text p)) [ true ↦ fault_from text takes before is | false ↦ Some p ]
+            | Calls q k ↦ elim (eqb (length (handed is)) (takes k)) [ true ↦ fault_from text takes before is | false ↦ Some q ]
             | Hands n ↦ fault_from text takes before is
-          ] ≡ Nothing
-          → ((b : List ℕ) → fault_from text takes b is ≡ Nothing → length (handed (drop (suc j) is)) ≡ takes k) → length (handed (drop (suc j) is)) ≡ takes k
+          ]) None
+          → ((b : List ℕ) → fault_from text takes b is ≡ None → length (handed (drop (suc j) is)) ≡ takes k) → length (handed (drop (suc j) is)) ≡ takes k
       later Other y rest = rest before y
       later Declares y rest = rest [] y
       later (Names p) y rest = named_once p (is_among text before (name_at text p)) y rest
@@ -302,7 +302,7 @@ at_below [] w j q k l e = absurd (omega arith)
 at_below {n} (i ∷ is) w zero q k l e = subst (BelowBy n) e w.0
 at_below (i ∷ is) w (suc j) q k l e = at_below is w.1 j q k (omega arith) e
 
-module _ (text : List ℕ) (js : List Item) (v : FormedText js) (m : AllMean (declared js) js) (right : fault_of text js ≡ Nothing) where
+module _ (text : List ℕ) (js : List Item) (v : FormedText js) (m : AllMean (declared js) js) (right : fault_of text js ≡ None) where
   abbrev filled_text : Program
   filled_text = program_of (filled_in text js)
 

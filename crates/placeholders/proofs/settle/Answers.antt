@@ -6,11 +6,11 @@ use lib.Seq.{length-take-le}
 use Rattle.placeholders.proofs.Settles.{settles_wrong, settles_filled}
 use Rattle.placeholders.proofs.settle.Goals as goal
 
-pub returns-in-At : goal.returns-in-At
-returns-in-At c =
+pub returns-in-Some : goal.returns-in-Some
+returns-in-Some c =
     let a = c.args in
     let n = length-take-le a.count a.items.now c.requires.counted in
-    settles_wrong _ _ c.requires.begun c.find_fault.ensures c.in-At.is _ (sym n)
+    settles_wrong _ _ c.requires.begun c.find_fault.ensures c.in-Some.is _ (sym n)
     (sym (take-append-drop a.count a.items.now) ∙ ap (λ k. take a.count a.items.now ++ drop k a.items.now) (sym n))
 
 pub returns : goal.returns

@@ -12,9 +12,9 @@ pub loop-i-init : goal.loop-i-init
 unfolding names_in
 loop-i-init c = (omega arith, refl)
 
-pub returns-in-At : goal.returns-in-At
-returns-in-At c =
-    sym (fault_here_step _ _ _ _ _ c.loop-i-test.true MutedPosition (sym c.fault_at.ensures ∙ c.in-At.is)) ∙ c.loop-i.invariant.1
+pub returns-in-Some : goal.returns-in-Some
+returns-in-Some c =
+    sym (fault_here_step _ _ _ _ _ c.loop-i-test.true MutedPosition (sym c.fault_at.ensures ∙ c.in-Some.is)) ∙ c.loop-i.invariant.1
 
 pub loop-i-preserved : goal.loop-i-preserved
 loop-i-preserved c =
