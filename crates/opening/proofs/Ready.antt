@@ -1,10 +1,10 @@
 -- A text whose number is 0 was accepted, so that its tables are valid, and with the start's desk over them no frame is answered 23. Assumes nothing.
-use mathlib.Core.Path.{◌≡◌, refl, subst}
+use mathlib.Core.Path.{◌≡◌, refl, sym, ap, ◌∙◌, subst}
 use mathlib.Core.Bool.{Bool, true, false, cond}
 use mathlib.Core.List.{List, []}
 use Prim.Native.Nat.{ℕ, zero, suc, ◌≤◌, ◌<◌}
 use native.Mathlib.Omega.{arith}
-use borrow.Author.Tests.{lt-ltb, le-ltb, ne_eqb}
+use borrow.Author.Tests.{lt-ltb, le-ltb, eq-eqb, ne_eqb}
 use lib.Dec.{ltb, eqb}
 use lib.ListN.{length}
 use Rattle.status.specs.Status.{done, text_too_long, buffer_too_small}
@@ -28,8 +28,9 @@ use Rattle.mutabor.specs.Reading.{Left, by_verdict, reading}
 use Rattle.mutabor.proofs.ValidTables.{accepted_valid}
 use Rattle.protocol.specs.Answers.{start_desk, valid_desk}
 use Rattle.protocol.proofs.Stays.{right_valid, start_right}
-use Rattle.opening.specs.Opening.{Opening, refusal_line, opened_by, opening, Opens}
-use Rattle.opening.specs.declared.Opened.{Opened}
+use Rattle.opening.specs.Opening.{Opening, refusal_line, opened_by, opening, opened, Opens}
+use Rattle.protocol.specs.declared.Desk.{Desk}
+use Rattle.opening.specs.declared.Refused.{Refused}
 
 -- a refusal has a number
 abbrev numbered : Verdict → Type 0
@@ -75,7 +76,7 @@ ready text t h = sized (full_size t) h
 
 -- ---- the ways through a call
 
-pub opens : {o q : Opening} {r : Opened} {lent : Tables} {before after : List ℕ} → o ≡ q → Opens o r lent before after → Opens q r lent before after
+pub opens : {o q : Opening} {r : Result Desk Refused} {lent : Tables} {before after : List ℕ} → o ≡ q → Opens o r lent before after → Opens q r lent before after
 opens {r = r} {lent = lent} {before = before} {after = after} e h = subst (λ (x : Opening). Opens x r lent before after) e h
 
 module _ (text : List ℕ) (t : Tables) (room : ℕ) where
@@ -89,6 +90,13 @@ module _ (text : List ℕ) (t : Tables) (room : ℕ) where
 
 pub accepted_line : (l : Left) → l.number ≡ done → refusal_line l.number l.place ≡ []
 accepted_line l e = rw e
+
+pub accepted_desk : (l : Left) → l.number ≡ done → ◌≡◌ {A = Result Desk Refused} (Ok start_desk) (opened (opened_by l))
+accepted_desk l e = rw (eq-eqb l.number done e)
+
+pub refused_desk : (l : Left) → (l.number ≡ done → ⊥)
+    → ◌≡◌ {A = Result Desk Refused} (Err (record { number = l.number; length = length (refusal_line l.number l.place) })) (opened (opened_by l))
+refused_desk l e = rw (ne_eqb l.number done e)
 
 pub refused_line : (l : Left) → (l.number ≡ done → ⊥) → refusal_line l.number l.place ≡ line_of (refusal_bytes l.number l.place)
 refused_line l e = rw (ne_eqb l.number done e)
@@ -115,6 +123,16 @@ line_fits text t room = small (ltb room smallest_buffer)
     small true = omega arith
     small false = told (eqb l.number done)
 
-pub opened_fits : (text : List ℕ) (t : Tables) (room : ℕ) {r : Opened} {lent : Tables} {before after : List ℕ} → Opens (opening text t room) r lent before after
-    → r.length ≤ smallest_buffer
-opened_fits text t room g = omega (arith, g.size, line_fits text t room)
+abbrev length_of : Result Desk Refused → ℕ
+length_of (Ok d) = 0
+length_of (Err x) = x.length
+
+pub opened_fits : (text : List ℕ) (t : Tables) (room : ℕ) {r : Result Desk Refused} {lent : Tables} {before after : List ℕ} → Opens (opening text t room) r lent before after
+    → {x : Refused} → r ≡ Err x → x.length ≤ smallest_buffer
+opened_fits text t room {r} g {x} e =
+    let o = opening text t room in
+    omega (arith, ap length_of (sym e ∙ g.result), fits (eqb o.number done) o.number (length o.line) (line_fits text t room))
+  where
+    fits : (b : Bool) (n l : ℕ) → l ≤ smallest_buffer → length_of (cond b (Ok start_desk) (Err (record { number = n; length = l }))) ≤ smallest_buffer
+    fits true n l h = omega arith
+    fits false n l h = h

@@ -1,13 +1,14 @@
 -- What a text gives before its first frame: the desk at its start, or one line. Document 01, "Frames": "A refused text gives one line, `EE`, number, place
 -- in four bytes, and no more."
-use Rattle.std.specs.Prelude.{◌≡◌, cond, List, [], ℕ, ltb, eqb, length}
+use Rattle.std.specs.Prelude.{◌≡◌, cond, List, [], ℕ, ltb, eqb, length, Result, Ok, Err}
 use Rattle.status.specs.Status.{done, buffer_too_small}
 use Rattle.tables.specs.Layout.{Tables}
 use Rattle.hexadecimal.specs.Lines.{line_of, begun_with}
 use Rattle.answers.specs.Answer.{refusal_bytes, smallest_buffer}
 use Rattle.mutabor.specs.Reading.{Left, reading}
 use Rattle.protocol.specs.Answers.{start_desk}
-use Rattle.opening.specs.declared.Opened.{Opened}
+use Rattle.protocol.specs.declared.Desk.{Desk}
+use Rattle.opening.specs.declared.Refused.{Refused}
 
 -- the text's number, the line that is written, and the lent tables after it
 pub record Opening : Type 0 where
@@ -25,10 +26,12 @@ opened_by l = record { number = l.number; line = refusal_line l.number l.place; 
 unfoldable pub opening : List ℕ → Tables → ℕ → Opening
 opening text t room = cond (ltb room smallest_buffer) (record { number = buffer_too_small; line = []; tables = t }) (opened_by (reading text t))
 
+-- what the call hands out: the desk at its start, or why there is none
+abbrev pub opened : Opening → Result Desk Refused
+opened o = cond (eqb o.number done) (Ok start_desk) (Err (record { number = o.number; length = length o.line }))
+
 -- the whole result of a call, with the lent tables and the buffer after it
-pub record Opens (o : Opening) (r : Opened) (lent : Tables) (before after : List ℕ) : Type 0 where
-  pub number : r.number ≡ o.number
-  pub desk : r.desk ≡ start_desk
-  pub size : r.length ≡ length o.line
+pub record Opens (o : Opening) (r : Result Desk Refused) (lent : Tables) (before after : List ℕ) : Type 0 where
+  pub result : r ≡ opened o
   pub tables : lent ≡ o.tables
   pub buffer : after ≡ begun_with o.line before

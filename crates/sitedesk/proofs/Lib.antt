@@ -1,3 +1,2 @@
 -- What several proofs cite.
-pub mod Texts
 pub mod Ways

@@ -1,6 +1,5 @@
 -- A stream on its way: what was written before changes nothing of what is written after it, so parts of the way go one behind the other.
-use Rattle.std.proofs.Common.{◌≡◌, refl, sym, ap, subst, ◌∙◌, Bool, true, false, cond, List, [], ◌∷◌, ◌++◌, append_assoc, append-nil, ℕ, ◌≤◌, arith, eqb, length, take, drop, set}
-use Rattle.std.proofs.Math.ListN.{drop_of_length-le}
+use Rattle.std.proofs.Common.{◌≡◌, refl, sym, ap, subst, ◌∙◌, Bool, true, false, cond, List, [], ◌∷◌, ◌++◌, append_assoc, append-nil, ℕ, arith, eqb, length}
 use Rattle.hexadecimal.specs.Lines.{line_feed}
 use Rattle.tables.specs.Layout.{Tables}
 use Rattle.protocol.specs.declared.Desk.{Desk}
@@ -27,20 +26,17 @@ module _ (t : Tables) (w : List ℕ) where
       go true again = ap (λ (f : Fed). streamed t f bs) (ended_behind d l out) ∙ again _ [] _
       go false again = again d (l ++ b ∷ []) out
 
-pub not_both : {A : Type 0} (b : Bool) → b ≡ false → b ≡ true → A
-not_both b e f = absurd (let z : ◌≡◌ {A = ℕ} 0 1 = cc in omega arith)
-
 -- the end of a stream where no line is held, and where one is, which is given its line feed
-pub no_line : (held : ℕ) → held ≡ 0 → Ending held []
+pub no_line : (held : List ℕ) → held ≡ [] → Ending (length held) []
 unfolding fed finished
-no_line held k t d [] out e = refl
-no_line held k t d (a ∷ line) out e = absurd (omega arith)
+no_line held h t d [] out e = refl
+no_line held h t d (a ∷ line) out e = absurd (omega (arith, ap length h))
 
-pub line_closed : (chunk : List ℕ) (held : ℕ) → 1 ≤ length chunk → 1 ≤ held → Ending held (take 1 (set chunk 0 line_feed))
+pub line_closed : (held : List ℕ) → (held ≡ [] → ⊥) → Ending (length held) (line_feed ∷ [])
 unfolding fed fed_byte finished
-line_closed [] held h k t d line out e = absurd (omega arith)
-line_closed (b ∷ chunk) held h k t d [] out e = absurd (omega arith)
-line_closed (b ∷ chunk) held h k t d (a ∷ line) out e = refl
+line_closed [] h t d line out e = absurd (h refl)
+line_closed (a ∷ held) h t d [] out e = absurd (omega arith)
+line_closed (a ∷ held) h t d (b ∷ line) out e = refl
 
 module _ {t : Tables} {d : Desk} {line bs : List ℕ} where
   -- at the beginning of the way nothing is written
@@ -61,6 +57,5 @@ module _ {t : Tables} {d : Desk} {line bs : List ℕ} where
   }
 
   -- no byte of a chunk is left
-  pub arrived : {e : Desk} {rest : List ℕ} (chunk : List ℕ) (i : ℕ) → length chunk ≤ i → Came t d line bs e rest (drop i chunk)
-      → Came t d line bs e rest []
-  arrived {e} {rest} chunk i h g = subst (λ (cs : List ℕ). Came t d line bs e rest cs) (drop_of_length-le chunk h) g
+  pub arrived : {e : Desk} {rest : List ℕ} (left : List ℕ) → left ≡ [] → Came t d line bs e rest left → Came t d line bs e rest []
+  arrived {e} {rest} left h g = subst (λ (cs : List ℕ). Came t d line bs e rest cs) h g

@@ -1,15 +1,13 @@
 -- What the program's functions state.
-use Rattle.std.specs.Prelude.{◌≡◌, List, [], ℕ, ◌≤◌, length}
+use Rattle.std.specs.Prelude.{◌≡◌, List, [], ℕ, ◌≤◌, length, Result, Ok, Err}
 use Rattle.tables.specs.Layout.{Tables}
 use Rattle.protocol.specs.declared.Desk.{Desk}
 use Rattle.stream.specs.Feed.{feed, fed, streamed, SameStream}
-use Rattle.sitedesk.specs.declared.Loaded.{Loaded}
-use Rattle.sitedesk.specs.declared.Loaded.TheVariants.{Failed, Bytes}
 
 -- a text that was loaded lies within the room
-abbrev pub Within : Loaded → List ℕ → Type 0
-Within Failed room = Unit
-Within (Bytes n) room = n ≤ length room
+abbrev pub Within : {E : Type 0} → Result ℕ E → List ℕ → Type 0
+Within (Err e) room = Unit
+Within (Ok n) room = n ≤ length room
 
 -- "a last line without one counts, unless it is empty": where so many bytes of a line are held, these bytes bring a stream to where its end brings it
 abbrev pub Ending : ℕ → List ℕ → Type 0

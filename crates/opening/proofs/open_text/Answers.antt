@@ -2,14 +2,15 @@
 use mathlib.Core.Path.{◌≡◌, refl, sym, ap, ◌∙◌}
 use mathlib.Core.List.{List}
 use Prim.Native.Nat.{ℕ}
-use native.Mathlib.Omega.{arith}
 use lib.ListN.{length}
 use Rattle.hexadecimal.specs.Lines.{line_of, begun_with}
 use Rattle.answers.specs.Answer.{refusal_bytes}
 use Rattle.tables.specs.Layout.{Tables, tables_in}
 use Rattle.mutabor.specs.Reading.{Left, reading}
 use Rattle.protocol.specs.Answers.{valid_desk}
-use Rattle.opening.proofs.Ready.{ready, opens, opens_small, opens_read, accepted_line, refused_line}
+use Rattle.opening.proofs.Ready.{ready, opens, opens_small, opens_read, accepted_line, accepted_desk, refused_line, refused_desk}
+use Rattle.std.specs.Prelude.{Ok, Err}
+use Rattle.status.specs.Status.{done}
 use Rattle.opening.proofs.open_text.Goals.{Start}
 use Rattle.opening.proofs.open_text.Goals as goal
 
@@ -24,8 +25,8 @@ pub returns-then-buffer-lt-SMALLEST_BUFFER : goal.returns-then-buffer-lt-SMALLES
 returns-then-buffer-lt-SMALLEST_BUFFER c =
     let a = (goal.at.returns-then-buffer-lt-SMALLEST_BUFFER c).Start in
     record {
-      opens = opens (opens_small a.args.text.now (lent a) _ c.if-buffer-lt-SMALLEST_BUFFER.true) (record { number = refl; desk = c.start-desk.ensures; size = refl; tables = refl; buffer = refl });
-      right = λ e. absurd (omega (arith, e));
+      opens = opens (opens_small a.args.text.now (lent a) _ c.if-buffer-lt-SMALLEST_BUFFER.true) (record { result = refl; tables = refl; buffer = refl });
+      right = tt;
     }
 
 pub returns-then-number-eq-DONE : goal.returns-then-number-eq-DONE
@@ -36,13 +37,11 @@ returns-then-number-eq-DONE c =
     let e = accepted_line (left a) n in
     record {
       opens = opens (opens_read a.args.text.now (lent a) _ c.if-buffer-lt-SMALLEST_BUFFER.false) (record {
-        number = g.number;
-        desk = c.start-desk.ensures;
-        size = sym (ap length e);
+        result = ap Ok c.start.ensures ∙ accepted_desk (left a) n;
         tables = g.tables;
         buffer = sym (ap (λ (x : List ℕ). begun_with x a.args.buffer.now) e);
       });
-      right = λ k. (λ x. valid_desk (g.tables x) (c.start-desk.ensures x)) ∙ ready a.args.text.now (lent a) n;
+      right = (λ x. valid_desk (g.tables x) (c.start.ensures x)) ∙ ready a.args.text.now (lent a) n;
     }
 
 pub returns : goal.returns
@@ -50,14 +49,13 @@ returns c =
     let a = (goal.at.returns c).Start in
     let g = c.read_text-reading.ensures in
     let r = c.answer_refusal-length.ensures in
-    let e = (λ x. line_of (refusal_bytes (g.number x) (g.place x))) ∙ sym (refused_line (left a) (λ n. c.if-number-eq-DONE.false (g.number ∙ n))) in
+    let n : (left a).number ≡ done → ⊥ = λ n. c.if-number-eq-DONE.false (g.number ∙ n) in
+    let e = (λ x. line_of (refusal_bytes (g.number x) (g.place x))) ∙ sym (refused_line (left a) n) in
     record {
       opens = opens (opens_read a.args.text.now (lent a) _ c.if-buffer-lt-SMALLEST_BUFFER.false) (record {
-        number = g.number;
-        desk = c.start-desk.ensures;
-        size = r.0 ∙ ap length e;
+        result = (λ x. Err (record { number = g.number x; length = (r.0 ∙ ap length e) x })) ∙ refused_desk (left a) n;
         tables = g.tables;
         buffer = r.1 ∙ ap (λ (x : List ℕ). begun_with x a.args.buffer.now) e;
       });
-      right = λ k. absurd (c.if-number-eq-DONE.false k);
+      right = tt;
     }
