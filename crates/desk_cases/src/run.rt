@@ -1,6 +1,4 @@
 // A text read into fresh tables, and frames answered one after the other.
-ghost use Rattle.std.specs.Prelude.{◌≤◌, length};
-
 use answers::{SMALLEST_BUFFER, answer_refusal};
 use mutabor::{TextReading, read_text};
 use protocol::{Desk, answer};
@@ -10,16 +8,9 @@ use tables::{CODES, NUMBERS};
 
 const BLANK: u8 = b' ';
 
-fn least(a: usize, b: usize) -> usize
-    ensures { result ≤ b }
-{
-    if a < b { a } else { b }
-}
-
 // Writes the first n bytes of a buffer, or all of it.
 fn send(rt: &impl Print, buffer: &[u8], n: usize) -> io::Result<()> {
-    let end = least(n, buffer.len());
-    rt.write_all(&buffer[..end])
+    rt.write_all(&buffer[..n.min(buffer.len())])
 }
 
 // Answers a frame, and hands back the desk after it.
@@ -36,28 +27,10 @@ fn answer_frame(
     Ok(answered.desk)
 }
 
-// Where the frame that begins at `from` ends: at a blank, or with all frames.
-fn find_end(frames: &[u8], from: usize) -> usize
-    requires { from ≤ length frames.now }
-    ensures { (from ≤ result) × (result ≤ length frames.now) }
-{
-    let mut end = from;
-    while end < frames.len() {
-        if frames[end] == BLANK {
-            return end;
-        }
-        end += 1;
-    }
-    end
-}
-
 fn answer_frames(rt: &impl Print, frames: &[u8], numbers: &[i32], codes: &[u16]) -> io::Result<()> {
     let mut desk = Desk::start();
-    let mut from: usize = 0;
-    while from < frames.len() {
-        let end = find_end(frames, from);
-        desk = answer_frame(rt, numbers, codes, desk, &frames[from..end])?;
-        from = end + 1;
+    for frame in frames.split(|b| *b == BLANK) {
+        desk = answer_frame(rt, numbers, codes, desk, frame)?;
     }
     Ok(())
 }
