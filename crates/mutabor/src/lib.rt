@@ -17,8 +17,8 @@ ghost use Rattle.mutabor.specs.Reading.{by_verdict, reading, Leaves};
 ghost use Rattle.mutabor.specs.Inner.{Cleared, Resolved};
 
 use filling::write_tables;
-use grammar::Item;
 use grammar::reading::read_items;
+use grammar::{Item, Kind};
 use limits::MOST_DECLARATIONS;
 use names::resolve_names;
 use placeholders::settle;
@@ -146,7 +146,8 @@ fn take_symbols(text: &[u8], numbers: &mut [i32], codes: &mut [u16]) -> TextRead
     requires { tables_in numbers.old codes.old ≡ blank }
     ensures { Leaves (by_verdict blank (read_text text.now)) result (tables_in numbers.new codes.new) }
 {
-    let mut items = [Item::MutedPosition; MOST_ITEMS];
+    // These items are zeros, as which the array is cleared at once.
+    let mut items = [Item::Declared(Kind::Interval, 0); MOST_ITEMS];
     match read_items(text, &mut items) {
         Ok(count) => take_items(text, &mut items, count, numbers, codes),
         Err(refusal) => TextReading {
