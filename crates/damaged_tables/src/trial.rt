@@ -31,10 +31,6 @@ fn is_filled(buffer: &[u8]) -> bool {
         .all(|(i, byte)| *byte == pattern(i))
 }
 
-fn same_desk(a: Desk, b: Desk) -> bool {
-    a.tuning == b.tuning && a.active == b.active && a.keys == b.keys
-}
-
 // A frame with a buffer of `room` bytes. As much of each slice is lent as `sizes` says.
 pub fn send_frame(t: Lent, desk: Desk, frame: &[u8], room: usize) -> Outcome {
     let mut buffer = [0u8; SMALLEST_BUFFER];
@@ -43,7 +39,7 @@ pub fn send_frame(t: Lent, desk: Desk, frame: &[u8], room: usize) -> Outcome {
     let codes = &t.codes[..t.sizes[1].min(t.codes.len())];
     let room = room.min(SMALLEST_BUFFER);
     let answered = protocol::answer(numbers, codes, desk, frame, &mut buffer[..room]);
-    let kept = same_desk(desk, answered.desk);
+    let kept = desk == answered.desk;
     Outcome {
         number: answered.number,
         kept,

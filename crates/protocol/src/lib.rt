@@ -29,7 +29,7 @@ use tuning::{State, Tone, is_playable};
 use validity::are_valid;
 
 // What the desk holds from frame to frame, for both houses: the tuning, the active logic, by the number of its declaration, and the held keys.
-#[derive(Clone, Copy)]
+#[derive(Clone, Copy, PartialEq, Eq)]
 pub struct Desk {
     pub tuning: State,
     pub active: Option<u32>,
