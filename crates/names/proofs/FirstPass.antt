@@ -6,9 +6,9 @@ use mathlib.Core.List.{List, [], ◌∷◌, ◌++◌, map}
 use native.Mathlib.Numerals.{add-one}
 use native.Mathlib.Omega.{arith}
 use lib.ListN.{length, get_or, take, drop, set, length-set, drop_of_length-le}
-use Rattle.status.specs.Status.{done, name_twice}
 use Rattle.symbols.specs.Names.{name_at}
-use Rattle.std.specs.Prelude.{Option, Some, None}
+use Rattle.std.specs.Prelude.{Option, Some, None, Ok, Err}
+use Rattle.status.specs.declared.Reason.TheVariants.{NameTwice}
 use Rattle.grammar.specs.declared.Kind.{Kind}
 use Rattle.grammar.specs.declared.Item.{Item}
 use Rattle.grammar.specs.Reading.{most_bytes}
@@ -136,14 +136,14 @@ module _ (text : List ℕ) (is : List Item) (names₀ starts₀ : List ℕ) wher
     passed_kept = kept_now text (declared is) names₀ n p.few p.kept (distinct_once text [] (declared is) n (omega (arith, p.distinct)))
 
     -- the pass ends
-    pub passed_all : length is ≤ i → FirstPass text is names₀ starts₀ (record { number = done; place = 0; declarations = n }) l m
+    pub passed_all : length is ≤ i → FirstPass text is names₀ starts₀ (Ok n) l m
     unfolding declared twice_from distinct_from
     passed_all h =
         let z : drop n (declared is) ≡ [] = p.names ∙ ap declared (drop_of_length-le is h) in
         let t : twice_from text [] (declared is) ≡ no_repeat = sym p.twice ∙ ap (twice_from text (take n (declared is))) z in
         let c : n + 0 ≡ distinct_from text [] (declared is) = ap (λ ds. n + distinct_from text (take n (declared is)) ds) (sym z) ∙ p.distinct in
         let e : distinct_from text [] (declared is) ≡ n = omega arith in
-        record { number = rw t; place = rw t; count = sym e; kept = rw e p.kept; begun = rw e p.begun }
+        record { told = (rw t, rw t); count = sym e; kept = rw e p.kept; begun = rw e p.begun }
 
     -- the item x that stands here has the role r
     module _ (h : i < length is) (none : Item) {r : Role} (e : r ≡ role_of (part (get_or is i none))) where
@@ -201,13 +201,13 @@ module _ (text : List ℕ) (is : List Item) (names₀ starts₀ : List ℕ) wher
           found_before = found ∙ ap (λ ds. bearer_of text ds k (name_at text q)) (kept_names text (declared is) names₀ n p.few p.kept)
 
           -- the name stood before in its kind
-          pub passed_stop : {j : ℕ} → f ≡ Some j → FirstPass text is names₀ starts₀ (record { number = name_twice; place = q; declarations = n }) l m
+          pub passed_stop : {j : ℕ} → f ≡ Some j → FirstPass text is names₀ starts₀ (Err (record { reason = NameTwice; place = q })) l m
           passed_stop z =
               let t : twice_from text [] (declared is) ≡ repeat_at q = sym p.twice ∙ twice_stop text (declared is) n names_here found_before z in
               let s = distinct_stop text (declared is) n names_here found_before z in
               let c = p.distinct in
               let e : distinct_from text [] (declared is) ≡ n = omega arith in
-              record { number = rw t; place = rw t; count = sym e; kept = rw e p.kept; begun = rw e p.begun }
+              record { told = (rw t, rw t); count = tt; kept = rw e p.kept; begun = rw e p.begun }
 
           -- it is kept
           pub passed_more : f ≡ None → {v : ℕ} → v ≡ packed text (record { kind = k; place = q }) → n < length l → n < length m

@@ -1,12 +1,13 @@
 -- Laws of the second pass over the items: what has become of those in front of an item.
 -- Assumes nothing.
-use Rattle.std.specs.Prelude.{Option, Some, None}
+use Rattle.std.specs.Prelude.{Option, Some, None, Ok, Err}
 use Prim.Native.Nat.{ℕ, suc, ◌+◌, ◌≤◌, ◌<◌}
 use mathlib.Core.Path.{◌≡◌, refl, sym, ◌∙◌, ap, subst}
 use mathlib.Core.List.{List, [], ◌∷◌, ◌++◌}
 use native.Mathlib.Omega.{arith}
 use lib.ListN.{length, get_or, take, drop, set, length-set, drop_of_length-le, take-append-drop}
 use Rattle.status.specs.Status.{done, name_not_declared}
+use Rattle.status.specs.declared.Reason.TheVariants.{NameNotDeclared}
 use Rattle.symbols.specs.Names.{name_at}
 use Rattle.grammar.specs.declared.Item.{Item}
 use Rattle.grammar.specs.declared.Item.TheVariants as item
@@ -120,12 +121,12 @@ unfolding missing_in
 missing_after i (all is) = refl
 missing_after i (missing p) = refl
 
-none_missing : (r : Resolved) → missing_in r ≡ None → (done ≡ (unless_missing r).number) × (0 ≡ (unless_missing r).place)
+none_missing : (r : Resolved) → missing_in r ≡ None → ((unless_missing r).number ≡ done) × ((unless_missing r).place ≡ 0)
 unfolding missing_in
 none_missing (all is) e = (refl, refl)
 none_missing (missing p) e = let z : ◌≡◌ {A = ℕ} 0 1 = cc in absurd (omega arith)
 
-one_missing : (r : Resolved) {p : ℕ} → missing_in r ≡ Some p → (name_not_declared ≡ (unless_missing r).number) × (p ≡ (unless_missing r).place)
+one_missing : (r : Resolved) {p : ℕ} → missing_in r ≡ Some p → ((unless_missing r).number ≡ name_not_declared) × ((unless_missing r).place ≡ p)
 unfolding missing_in
 one_missing (all is) e = let z : ◌≡◌ {A = ℕ} 0 1 = cc in absurd (omega arith)
 one_missing (missing q) e = (refl, cc)
@@ -162,15 +163,13 @@ module _ (text : List ℕ) (ds : List Named) (is : List Item) where
 
   module _ {l : List Item} {i : ℕ} (p : Replacing l i) where
     -- the pass ends
-    pub replacing_all : {n : ℕ} → n ≡ length ds → length is ≤ i → SecondPass text ds is (record { number = done; place = 0; declarations = n }) l
+    pub replacing_all : length is ≤ i → SecondPass text ds is (Ok tt) l
     unfolding missing_in resolved
-    replacing_all c h =
+    replacing_all h =
         let e = length_rewritten text ds is in
         let w = none_missing (resolved text ds is) (sym p.missed ∙ ap (λ xs. missing_in (resolved text ds xs)) (drop_of_length-le is h)) in
         record {
-          number = w.0;
-          place = w.1;
-          count = c;
+          told = w;
           left = p.held ∙ begun_all (rewritten text ds is) is i (omega arith) h;
         }
 
@@ -231,10 +230,10 @@ module _ (text : List ℕ) (ds : List Named) (is : List Item) where
               ∙ ap (λ b. if_found the_use.use' the_use.amount q b (resolved text ds after)) (sym called)
 
           -- which is not declared
-          pub replacing_stop : {n : ℕ} → n ≡ length ds → f ≡ None
-              → SecondPass text ds is (record { number = name_not_declared; place = q; declarations = n }) l
+          pub replacing_stop : f ≡ None
+              → SecondPass text ds is (Err (record { reason = NameNotDeclared; place = q })) l
           unfolding missing_in
-          replacing_stop c z =
+          replacing_stop z =
               let y : drop i (rewritten text ds is) ≡ drop i is =
               p.rest ∙ rewritten_here
               ∙ ap (λ b. if_called the_use.use' the_use.amount b (get_or is i none) after (rewritten text ds after)) z
@@ -243,9 +242,7 @@ module _ (text : List ℕ) (ds : List Named) (is : List Item) where
               ap missing_in (resolved_here ∙ ap (λ b. if_found the_use.use' the_use.amount q b (resolved text ds after)) z) in
               let w = one_missing (resolved text ds is) (sym p.missed ∙ m) in
               record {
-                number = w.0;
-                place = w.1;
-                count = c;
+                told = w;
                 left = p.held ∙ ap (λ t. take i (rewritten text ds is) ++ t) (sym y) ∙ take-append-drop i (rewritten text ds is);
               }
 

@@ -1,13 +1,14 @@
 -- What the passes over the items keep, and what they leave: for the contracts of functions.
-use Rattle.std.specs.Prelude.{◌≡◌, true, false, List, [], ◌∷◌, ◌++◌, map, ℕ, zero, suc, ◌+◌, ◌*◌, ◌/◌, ◌%◌, ◌≤◌, ◌<◌, eqb, length, get_or, take, drop, Option, Some, None}
+use Rattle.std.specs.Prelude.{◌≡◌, true, false, List, [], ◌∷◌, ◌++◌, map, ℕ, zero, suc, ◌+◌, ◌*◌, ◌/◌, ◌%◌, ◌≤◌, ◌<◌, eqb, length, get_or, take, drop, Option, Some, None, Result, Ok, Err, IfOk}
 use Rattle.symbols.specs.Names.{name_at}
 use Rattle.grammar.specs.declared.Kind.{Kind}
 use Rattle.grammar.specs.declared.Kind.TheVariants.{Order as AnOrder}
 use Rattle.grammar.specs.declared.Item.{Item}
 use Rattle.grammar.specs.Moves.{kinds, kind_number}
 pub use Rattle.limits.specs.Limits.{most_bytes, most_declarations}
+use Rattle.status.specs.declared.Refusal.{Refusal}
+use Rattle.status.specs.Reasons.{number_of}
 use Rattle.status.specs.Status.{done, name_twice}
-use Rattle.names.specs.declared.Naming.{Naming}
 use Rattle.names.specs.declared.Role.{Role}
 use Rattle.names.specs.declared.Role.TheVariants as role
 use Rattle.names.specs.declared.Scope.{Scope}
@@ -188,26 +189,27 @@ abbrev pub place_if : Repeat → ℕ
 place_if no_repeat = 0
 place_if (repeat_at p) = p
 
+-- a pass answers with a number and a place: where it refuses, with the reason's number and its place, else with 0 and 0
+abbrev pub Tells : {A : Type 0} → ℕ → ℕ → Result A Refusal → Type 0
+Tells number place (Ok x) = (number ≡ done) × (place ≡ 0)
+Tells number place (Err e) = (number ≡ number_of e.reason) × (place ≡ e.place)
+
 -- the first pass: names used twice in a kind; `names` and `starts` before and after it
-pub record FirstPass (text : List ℕ) (is : List Item) (names starts : List ℕ) (r : Naming) (names' starts' : List ℕ) : Type 0 where
-  pub number : r.number ≡ number_if name_twice (twice_from text [] (declared is))
-  pub place : r.place ≡ place_if (twice_from text [] (declared is))
-  pub count : r.declarations ≡ distinct text is
+pub record FirstPass (text : List ℕ) (is : List Item) (names starts : List ℕ) (r : Result ℕ Refusal) (names' starts' : List ℕ) : Type 0 where
+  pub told : Tells (number_if name_twice (twice_from text [] (declared is))) (place_if (twice_from text [] (declared is))) r
+  pub count : IfOk r (λ n. n ≡ distinct text is)
   pub kept : names' ≡ begun_with (distinct text is) (map (packed text) (declared is)) names
   pub begun : starts' ≡ begun_with (distinct text is) (beginnings is) starts
 
 -- the second pass: names that are not declared; the items before and after it
-pub record SecondPass (text : List ℕ) (ds : List Named) (is : List Item) (r : Naming) (is' : List Item) : Type 0 where
-  pub number : r.number ≡ (unless_missing (resolved text ds is)).number
-  pub place : r.place ≡ (unless_missing (resolved text ds is)).place
-  pub count : r.declarations ≡ length ds
+pub record SecondPass (text : List ℕ) (ds : List Named) (is : List Item) (r : Result Unit Refusal) (is' : List Item) : Type 0 where
+  pub told : Tells (unless_missing (resolved text ds is)).number (unless_missing (resolved text ds is)).place r
   pub left : is' ≡ rewritten text ds is
 
 -- both passes
-pub record BothPasses (text : List ℕ) (is : List Item) (names starts : List ℕ) (r : Naming) (is' : List Item) (names' starts' : List ℕ) : Type 0 where
-  pub number : r.number ≡ (meanings text is).number
-  pub place : r.place ≡ (meanings text is).place
-  pub count : r.declarations ≡ distinct text is
+pub record BothPasses (text : List ℕ) (is : List Item) (names starts : List ℕ) (r : Result ℕ Refusal) (is' : List Item) (names' starts' : List ℕ) : Type 0 where
+  pub told : Tells (meanings text is).number (meanings text is).place r
+  pub count : IfOk r (λ n. n ≡ distinct text is)
   pub left : is' ≡ left_items text is
   pub kept : names' ≡ begun_with (distinct text is) (map (packed text) (declared is)) names
   pub begun : starts' ≡ begun_with (distinct text is) (beginnings is) starts

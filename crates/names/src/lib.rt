@@ -1,7 +1,7 @@
 // Names: each use of a name is replaced by the number of its declaration.
 #![tactic(auto)]
 
-ghost use Rattle.std.specs.Prelude.{◌≡◌, ◌&&◌, [], ◌+◌, ◌%◌, ◌≤◌, ◌<◌, length, take, eqb};
+ghost use Rattle.std.specs.Prelude.{◌≡◌, ◌&&◌, [], ◌+◌, ◌%◌, ◌≤◌, ◌<◌, length, take, eqb, IfOk};
 ghost use Rattle.symbols.specs.Bytes.{same};
 ghost use Rattle.symbols.specs.Names.{name_at};
 ghost use Rattle.grammar.specs.Moves.{kind_number};
@@ -13,7 +13,7 @@ ghost use Rattle.names.specs.Inner.{role_of, tag_of, mark_of, mark_room, packed,
 
 use grammar::{Item, Kind};
 use limits::MOST_DECLARATIONS;
-use status::{DONE, NAME_NOT_DECLARED, NAME_TWICE};
+use status::{Reason, Refusal};
 use symbols::{bytes, spelling};
 
 // Room for a kind's number.
@@ -51,14 +51,6 @@ enum Role {
     Nothing,
     Declares(Kind, u32),
     Uses(Scope, u32),
-}
-
-// What the names of a text come to: the refusal's number and place, or 0 and 0, and how many declarations are kept.
-#[derive(Clone, Copy)]
-pub struct Naming {
-    pub number: u8,
-    pub place: u32,
-    pub declarations: usize,
 }
 
 fn role_of(item: Item) -> Role
@@ -220,13 +212,13 @@ fn declare_all(
     starts: &mut [u32],
     heads: &mut [u16],
     links: &mut [u16],
-) -> Naming
+) -> Result<usize, Refusal>
     requires fits { length items.now ≤ most_items }
     requires declarable { Declarable items.now }
     requires room { Room declared.old starts.old }
     requires chained { Chained [] heads.old links.old }
     ensures first_pass { FirstPass text.now items.now declared.old starts.old result declared.new starts.new }
-    ensures chained_2 { Chained (take result.declarations declared.new) heads.new links.new }
+    ensures chained_2 { IfOk result (λ n. Chained (take n declared.new) heads.new links.new) }
 {
     let mut n = 0;
     for i in 0..items.len() {
@@ -235,22 +227,17 @@ fn declare_all(
         };
         let found = find_declaration(text, &declared[..n], heads, links, kind, place as usize);
         if let Some(_) = found {
-            return Naming {
-                number: NAME_TWICE,
+            return Err(Refusal {
+                reason: Reason::NameTwice,
                 place,
-                declarations: n,
-            };
+            });
         }
         declared[n] = pack(text, kind, place);
         starts[n] = i as u32;
         chain_row(declared, n, heads, links);
         n += 1;
     }
-    Naming {
-        number: DONE,
-        place: 0,
-        declarations: n,
-    }
+    Ok(n)
 }
 
 // Replaces the place of each used name by the number of its declaration, up to the first that is not declared.
@@ -260,7 +247,7 @@ fn resolve_uses(
     declared: &[u32],
     heads: &[u16],
     links: &[u16],
-) -> Naming
+) -> Result<(), Refusal>
     requires kept { Kept text.now declared.now }
     requires chained { Chained declared.now heads.now links.now }
     ensures { SecondPass text.now (named_of declared.now) items.old result items.new }
@@ -270,28 +257,24 @@ fn resolve_uses(
             continue;
         };
         let Some(number) = find_meaning(text, declared, heads, links, scope, place as usize) else {
-            return Naming {
-                number: NAME_NOT_DECLARED,
+            return Err(Refusal {
+                reason: Reason::NameNotDeclared,
                 place,
-                declarations: declared.len(),
-            };
+            });
         };
         items[i] = items[i].with_place(number as u32);
     }
-    Naming {
-        number: DONE,
-        place: 0,
-        declarations: declared.len(),
-    }
+    Ok(())
 }
 
 // Keeps the declared names and the indexes of their items, and replaces each used name by the number of its declaration.
+// The result is how many declarations are kept.
 pub fn resolve_names(
     text: &[u8],
     items: &mut [Item],
     declared: &mut [u32],
     starts: &mut [u32],
-) -> Naming
+) -> Result<usize, Refusal>
     requires fits { length items.old ≤ most_items }
     requires declarable { Declarable items.old }
     requires room { Room declared.old starts.old }
@@ -299,10 +282,7 @@ pub fn resolve_names(
 {
     let mut heads = [0u16; BUCKETS];
     let mut links = [0u16; DECLARATIONS];
-    let first = declare_all(text, items, declared, starts, &mut heads, &mut links);
-    if first.number != DONE {
-        return first;
-    }
-    let n = first.declarations;
-    resolve_uses(text, items, &declared[..n], &heads, &links)
+    let n = declare_all(text, items, declared, starts, &mut heads, &mut links)?;
+    resolve_uses(text, items, &declared[..n], &heads, &links)?;
+    Ok(n)
 }

@@ -44,9 +44,9 @@ pub find_declaration-found-requires : goal.find_declaration-found-requires
 find_declaration-found-requires c =
     record { kept = passed_kept _ _ _ _ c.loop-i.invariant.0; chained = c.loop-i.invariant.1 }
 
-pub returns-in-Some : goal.returns-in-Some
-returns-in-Some c =
-    record { first_pass = passed_stop _ _ _ _ c.loop-i.invariant.0 c.loop-i-test.true _ c.role_of.ensures c.in-Declares.is c.find_declaration-found.ensures c.in-Some.is; chained_2 = c.loop-i.invariant.1 }
+pub returns-in-Some-clause-first_pass : goal.returns-in-Some-clause-first_pass
+returns-in-Some-clause-first_pass c =
+    passed_stop _ _ _ _ c.loop-i.invariant.0 c.loop-i-test.true _ c.role_of.ensures c.in-Declares.is c.find_declaration-found.ensures c.in-Some.is
 
 pub pack-requires : goal.pack-requires
 pack-requires c =

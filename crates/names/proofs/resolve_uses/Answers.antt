@@ -21,7 +21,7 @@ loop-i-preserved-in_default c =
 pub returns-in_default-find_meaning : goal.returns-in_default-find_meaning
 returns-in_default-find_meaning c =
     let e = c.role_of.ensures ∙ ap (λ x. role_of (part x)) (item_here _ _ _ c.loop-i.invariant c.loop-i-test.true _) in
-    replacing_stop _ _ _ c.loop-i.invariant c.loop-i-test.true _ e c.in-Uses.is c.find_meaning.ensures (simp length-map) c.in_default-find_meaning.is
+    replacing_stop _ _ _ c.loop-i.invariant c.loop-i-test.true _ e c.in-Uses.is c.find_meaning.ensures c.in_default-find_meaning.is
 
 pub overflow_cast-number : goal.overflow_cast-number
 overflow_cast-number c =
@@ -35,4 +35,4 @@ loop-i-preserved c =
 
 pub returns : goal.returns
 returns c =
-    replacing_all _ _ _ c.loop-i.invariant (simp length-map) c.loop-i-test.false
+    replacing_all _ _ _ c.loop-i.invariant c.loop-i-test.false
