@@ -9,7 +9,6 @@ use native.Mathlib.Omega.{arith}
 use lib.ListN.{take-append-drop, get_or-append, length, get_or, take, drop, set, length-append, length-drop, length-set, drop_of_length-le}
 use lib.Seq.{drop-drop, take_at, drop_at, take_all, take-add, take-take, take-suc-set, length-take-le, set-append_left}
 use Rattle.std.proofs.lemmas.List.{get_or_default}
-use Rattle.status.specs.Status.{done}
 use Rattle.grammar.specs.declared.Kind.TheVariants.{Retuning}
 use Rattle.grammar.specs.declared.Form.{Form}
 use Rattle.grammar.specs.declared.Item.{Item}
@@ -120,7 +119,7 @@ module _ (text : List ℕ) (is : List Item) where
       next_is = sym (length-take-le next starts p.fits) ∙ ap length p.begun ∙ length-append (beginnings is) (beginnings_from (length is) (behind p.added))
 
       -- the loop ends
-      pub writing_all : length is ≤ i → Fills text is items₀ (record { number = done; place = 0; items = end; declarations = next }) items starts
+      pub writing_all : length is ≤ i → Fills text is items₀ (record { items = end; declarations = next }) items starts
       unfolding filled_from filled_in
       writing_all h =
           let n : drop i is ≡ [] = drop_of_length-le is h in
@@ -131,12 +130,13 @@ module _ (text : List ℕ) (is : List Item) where
           ap (λ (xs : List Item). xs ++ behind p.added) (begun_all all.items is i (omega (arith, whole_length text is)) h)
           ∙ ap (λ (xs : List Item). all.items ++ xs) b in
           record {
-            number = refl;
-            place = refl;
             count = omega (arith, whole_count text is, p.ends, p.few);
             left = p.held ∙ ap (λ (xs : List Item). holding xs items₀) t;
-            within = p.fits;
-            begun = p.begun ∙ ap (λ (xs : List Item). beginnings is ++ beginnings_from (length is) xs) b ∙ sym (whole_begun text is);
+            begun =
+                record {
+                  within = p.fits;
+                  begun = p.begun ∙ ap (λ (xs : List Item). beginnings is ++ beginnings_from (length is) xs) b ∙ sym (whole_begun text is);
+                };
           }
 
       -- the slices begin as the items do

@@ -13,7 +13,7 @@ ghost use Rattle.placeholders.specs.Inner.{Begun, Roomy, Settles};
 use crate::faults::find_fault;
 use crate::writing::fill_calls;
 use grammar::{Form, Item};
-use status::{DONE, PLACEHOLDER_WRONG};
+use status::{Reason, Refusal};
 
 // An item as placeholders see it. A call has the place of the called name, and the number of its declaration.
 #[derive(Clone, Copy)]
@@ -33,11 +33,9 @@ pub enum Wanting {
     Amount(Form, u32),
 }
 
-// What the placeholders of a text come to: the refusal's number and place, or 0 and 0, and how many items and declarations there are then.
+// How many items and declarations there are once the numbers of the calls are written in.
 #[derive(Clone, Copy)]
-pub struct Settling {
-    pub number: u8,
-    pub place: u32,
+pub struct Settled {
     pub items: usize,
     pub declarations: usize,
 }
@@ -64,7 +62,7 @@ pub fn settle(
     count: usize,
     starts: &mut [u32],
     n: usize,
-) -> Settling
+) -> Result<Settled, Refusal>
     requires counted { count ≤ length items.old }
     requires size { length items.old ≡ most_items }
     requires begun { Begun (take count items.old) starts.old n }
@@ -72,12 +70,8 @@ pub fn settle(
     ensures { Settles text.now (take count items.old) items.old result items.new starts.new }
 {
     if let Some(place) = find_fault(text, &items[..count], &starts[..n]) {
-        return Settling {
-            number: PLACEHOLDER_WRONG,
-            place,
-            items: count,
-            declarations: n,
-        };
+        let reason = Reason::PlaceholderWrong;
+        return Err(Refusal { reason, place });
     }
-    fill_calls(text, items, count, starts, n)
+    Ok(fill_calls(text, items, count, starts, n))
 }

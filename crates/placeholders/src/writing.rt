@@ -5,9 +5,8 @@ ghost use Rattle.placeholders.specs.Filling.{wanted_by};
 ghost use Rattle.placeholders.specs.Inner.{wanted_at, Begun, Roomy, Fills};
 
 use crate::brackets::{body_of, find_number};
-use crate::{Seen, Settling, Wanting, see};
+use crate::{Seen, Settled, Wanting, see};
 use grammar::{Form, Item, Kind};
-use status::DONE;
 
 // A call to be written in: the place of the called name, the form of the n, and the number.
 #[derive(Clone, Copy)]
@@ -55,7 +54,7 @@ pub fn fill_calls(
     count: usize,
     starts: &mut [u32],
     n: usize,
-) -> Settling
+) -> Settled
     requires counted { count ≤ length items.old }
     requires size { length items.old ≡ most_items }
     requires begun { Begun (take count items.old) starts.old n }
@@ -77,9 +76,7 @@ pub fn fill_calls(
         end += 2;
         next += 1;
     }
-    Settling {
-        number: DONE,
-        place: 0,
+    Settled {
         items: end,
         declarations: next,
     }

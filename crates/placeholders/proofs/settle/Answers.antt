@@ -10,7 +10,7 @@ pub returns-in-Some : goal.returns-in-Some
 returns-in-Some c =
     let a = c.args in
     let n = length-take-le a.count a.items.now c.requires.counted in
-    settles_wrong _ _ c.requires.begun c.find_fault.ensures c.in-Some.is _ (sym n)
+    settles_wrong _ _ c.requires.begun c.find_fault.ensures c.in-Some.is
     (sym (take-append-drop a.count a.items.now) ∙ ap (λ k. take a.count a.items.now ++ drop k a.items.now) (sym n))
 
 pub returns : goal.returns
