@@ -10,8 +10,8 @@ use Rattle.names.specs.Parts.{part}
 use Rattle.names.specs.Names.{declared, named_by}
 use Rattle.names.specs.Inner.{beginning_by, beginnings_from, begun_with}
 use Rattle.placeholders.specs.declared.Seen.TheVariants.{Other, Declares, Names, Wants, Calls, Hands}
-use Rattle.placeholders.specs.declared.Wanting.{Wanting}
-use Rattle.placeholders.specs.declared.Wanting.TheVariants.{Nothing, Amount}
+use Rattle.placeholders.specs.declared.Wanted.{Wanted}
+use Rattle.std.specs.Prelude.{Option, Some, None}
 use Rattle.placeholders.specs.Placeholders.{seen, named, handed}
 use Rattle.placeholders.specs.Filling.{wanted_by}
 
@@ -70,7 +70,7 @@ pub alike_wanted : {is js : List Item} → Alike is js → wanted_by js ≡ want
 unfolding wanted_by
 alike_wanted none = refl
 alike_wanted (same {i} a) =
-    ap (λ (w : Wanting). elim (seen i) [ Names p ↦ w | Wants f p ↦ Amount f p | Other ↦ Nothing | Declares ↦ Nothing | Calls q k ↦ Nothing | Hands n ↦ Nothing ])
+    ap (λ (w : Option Wanted). elim (seen i) [ Names p ↦ w | Wants f p ↦ Some (record { form = f; name = p }) | Other ↦ None | Declares ↦ None | Calls q k ↦ None | Hands n ↦ None ])
     (alike_wanted a)
 alike_wanted (start a) = refl
 alike_wanted (order a) = refl

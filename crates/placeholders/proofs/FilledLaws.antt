@@ -9,16 +9,14 @@ use lib.ListN.{length, length-append}
 use Rattle.status.specs.Status.{done}
 use Rattle.grammar.specs.declared.Item.{Item}
 use Rattle.grammar.specs.declared.Item.TheVariants as item
-use Rattle.grammar.specs.declared.Form.{Form}
 use Rattle.names.specs.Names.{declared}
 use Rattle.names.specs.Inner.{beginnings_from, beginnings}
 use Rattle.placeholders.specs.declared.Seen.{Seen}
 use Rattle.placeholders.specs.declared.Seen.TheVariants.{Other, Declares, Names, Wants, Calls, Hands}
 use Rattle.std.specs.Prelude.{Option, Some, None}
-use Rattle.placeholders.specs.declared.Wanting.{Wanting}
-use Rattle.placeholders.specs.declared.Wanting.TheVariants as wanting
+use Rattle.std.proofs.lemmas.Option.{same_Some, none-some}
+use Rattle.placeholders.specs.declared.Wanted.{Wanted}
 use Rattle.placeholders.specs.declared.writing.WrittenCall.{WrittenCall}
-use Rattle.placeholders.specs.declared.writing.WrittenCall.TheVariants as call
 use Rattle.placeholders.specs.Placeholders.{seen, after, handed, fault_of}
 use Rattle.placeholders.specs.Filling.{wanted_by, written_for, renamed, Filled, kept, filled, filled_from, filled_in, unless_faulty, settled}
 use Rattle.placeholders.proofs.Alike.{Alike, none, same, start, order, alike_length, alike_beginnings}
@@ -27,26 +25,26 @@ use Rattle.placeholders.proofs.Beginnings.{as_many, beginnings_append}
 -- ---- the first of some items
 
 -- what is written in for it: `wanted_at` of specs/Inner.antt, where `body k` are the items after the name of declaration k
-abbrev pub if_wanted : List ℕ → List Item → ℕ → List ℕ → Wanting → WrittenCall
-if_wanted text body q ns w = elim w [ wanting.Nothing ↦ call.Nothing | wanting.Amount f p ↦ call.Amount q f (written_for text body ns p) ]
+abbrev pub if_wanted : List ℕ → List Item → ℕ → List ℕ → Option Wanted → Option WrittenCall
+if_wanted text body q ns w = elim w [ None ↦ None | Some w ↦ Some (record { place = q; form = w.form; number = written_for text body ns w.name }) ]
 
-abbrev pub written_by : List ℕ → (ℕ → List Item) → Seen → List Item → WrittenCall
+abbrev pub written_by : List ℕ → (ℕ → List Item) → Seen → List Item → Option WrittenCall
 written_by text body s is =
     elim s [
       | Calls q k ↦ if_wanted text (body k) q (handed is) (wanted_by (body k))
-      | Other ↦ call.Nothing
-      | Declares ↦ call.Nothing
-      | Names p ↦ call.Nothing
-      | Wants f p ↦ call.Nothing
-      | Hands n ↦ call.Nothing
+      | Other ↦ None
+      | Declares ↦ None
+      | Names p ↦ None
+      | Wants f p ↦ None
+      | Hands n ↦ None
     ]
 
-abbrev pub written_in : List ℕ → (ℕ → List Item) → Item → List Item → WrittenCall
+abbrev pub written_in : List ℕ → (ℕ → List Item) → Item → List Item → Option WrittenCall
 written_in text body i is = written_by text body (seen i) is
 
-abbrev pub filled_by : WrittenCall → Item → ℕ → Filled → Filled → Filled
-filled_by call.Nothing i n r s = kept i r
-filled_by (call.Amount q f v) i n r s = filled i q n f v s
+abbrev pub filled_by : Option WrittenCall → Item → ℕ → Filled → Filled → Filled
+filled_by None i n r s = kept i r
+filled_by (Some y) i n r s = filled i y.place n y.form y.number s
 
 -- the items of a call
 AsSeen : Seen → Item → Type 0
@@ -101,35 +99,35 @@ calls_in (i ∷ is) =
 
 module _ (text : List ℕ) (body : ℕ → List Item) where
   -- where something is written in, it is a call
-  pub written_call : (i : Item) (is : List Item) {q : ℕ} {f : Form} {v : ℕ} → written_in text body i is ≡ call.Amount q f v → (k : ℕ) × (seen i ≡ Calls q k)
-  written_call i is {q} {f} {v} e = go (seen i) e
+  pub written_call : (i : Item) (is : List Item) {y : WrittenCall} → written_in text body i is ≡ Some y → (k : ℕ) × (seen i ≡ Calls y.place k)
+  written_call i is {y} e = go (seen i) e
     where
-      wanted : (b : List Item) (a : ℕ) (w : Wanting) → if_wanted text b a (handed is) w ≡ call.Amount q f v → a ≡ q
-      wanted b a wanting.Nothing e = let z : ◌≡◌ {A = ℕ} 0 1 = cc in absurd (omega arith)
-      wanted b a (wanting.Amount g p) e = cc
+      wanted : (b : List Item) (a : ℕ) (w : Option Wanted) → if_wanted text b a (handed is) w ≡ Some y → a ≡ y.place
+      wanted b a None e = absurd (none-some y e)
+      wanted b a (Some w) e = ap (λ (c : WrittenCall). c.place) (same_Some _ y e)
 
-      go : (s : Seen) → written_by text body s is ≡ call.Amount q f v → (k : ℕ) × (s ≡ Calls q k)
+      go : (s : Seen) → written_by text body s is ≡ Some y → (k : ℕ) × (s ≡ Calls y.place k)
       go (Calls a k) e = (k, ap (λ (x : ℕ). Calls x k) (wanted (body k) a (wanted_by (body k)) e))
-      go Other e = let z : ◌≡◌ {A = ℕ} 0 1 = cc in absurd (omega arith)
-      go Declares e = let z : ◌≡◌ {A = ℕ} 0 1 = cc in absurd (omega arith)
-      go (Names p) e = let z : ◌≡◌ {A = ℕ} 0 1 = cc in absurd (omega arith)
-      go (Wants g p) e = let z : ◌≡◌ {A = ℕ} 0 1 = cc in absurd (omega arith)
-      go (Hands n) e = let z : ◌≡◌ {A = ℕ} 0 1 = cc in absurd (omega arith)
+      go Other e = absurd (none-some y e)
+      go Declares e = absurd (none-some y e)
+      go (Names p) e = absurd (none-some y e)
+      go (Wants g p) e = absurd (none-some y e)
+      go (Hands n) e = absurd (none-some y e)
 
   pub filled_step : (n : ℕ) (i : Item) (is : List Item)
       → filled_from text body n (i ∷ is) ≡ filled_by (written_in text body i is) i n (filled_from text body n is) (filled_from text body (suc n) is)
   unfolding filled_from
   filled_step n i is = go (filled_from text body n is) (filled_from text body (suc n) is) (seen i)
     where
-      wanted : (r t : Filled) (b : List Item) (q : ℕ) (w : Wanting)
-          → ◌≡◌ {A = Filled} (elim w [ wanting.Nothing ↦ kept i r | wanting.Amount f p ↦ filled i q n f (written_for text b (handed is) p) t ])
+      wanted : (r t : Filled) (b : List Item) (q : ℕ) (w : Option Wanted)
+          → ◌≡◌ {A = Filled} (elim w [ None ↦ kept i r | Some w ↦ filled i q n w.form (written_for text b (handed is) w.name) t ])
           (filled_by (if_wanted text b q (handed is) w) i n r t)
-      wanted r t b q wanting.Nothing = refl
-      wanted r t b q (wanting.Amount f p) = refl
+      wanted r t b q None = refl
+      wanted r t b q (Some w) = refl
 
       go : (r t : Filled) (s : Seen)
           → ◌≡◌ {A = Filled} (elim s [
-            | Calls q k ↦ elim (wanted_by (body k)) [ wanting.Nothing ↦ kept i r | wanting.Amount f p ↦ filled i q n f (written_for text (body k) (handed is) p) t ]
+            | Calls q k ↦ elim (wanted_by (body k)) [ None ↦ kept i r | Some w ↦ filled i q n w.form (written_for text (body k) (handed is) w.name) t ]
             | Other ↦ kept i r
             | Declares ↦ kept i r
             | Names p ↦ kept i r
@@ -150,10 +148,10 @@ module _ (text : List ℕ) (body : ℕ → List Item) where
   filled_alike n [] = none
   filled_alike n (i ∷ is) = rw (filled_step n i is) (go (written_in text body i is) refl (λ m. filled_alike m is))
     where
-      go : (w : WrittenCall) → written_in text body i is ≡ w → ((m : ℕ) → Alike is (filled_from text body m is).items)
+      go : (w : Option WrittenCall) → written_in text body i is ≡ w → ((m : ℕ) → Alike is (filled_from text body m is).items)
           → Alike (i ∷ is) (filled_by w i n (filled_from text body n is) (filled_from text body (suc n) is)).items
-      go call.Nothing e rest = same (rest n)
-      go (call.Amount q f v) e rest = alike_renamed n i (written_call i is e).1 (rest (suc n))
+      go None e rest = same (rest n)
+      go (Some y) e rest = alike_renamed n i (written_call i is e).1 (rest (suc n))
 
   pub filled_length : (n : ℕ) (is : List Item) → length (filled_from text body n is).items ≡ length is
   filled_length n is = alike_length (filled_alike n is)
@@ -163,18 +161,18 @@ module _ (text : List ℕ) (body : ℕ → List Item) where
   -- how many are
   unfoldable pub fillings : List Item → ℕ
   fillings [] = 0
-  fillings (i ∷ is) = elim (written_in text body i is) [ call.Nothing ↦ fillings is | call.Amount q f v ↦ suc (fillings is) ]
+  fillings (i ∷ is) = elim (written_in text body i is) [ None ↦ fillings is | Some w ↦ suc (fillings is) ]
 
   pub more_even : (n : ℕ) (is : List Item) → length (filled_from text body n is).more ≡ 2 * fillings is
   unfolding filled_from fillings
   more_even n [] = refl
   more_even n (i ∷ is) = rw (filled_step n i is) (go (written_in text body i is) (λ m. more_even m is))
     where
-      go : (w : WrittenCall) → ((m : ℕ) → length (filled_from text body m is).more ≡ 2 * fillings is)
+      go : (w : Option WrittenCall) → ((m : ℕ) → length (filled_from text body m is).more ≡ 2 * fillings is)
           → length (filled_by w i n (filled_from text body n is) (filled_from text body (suc n) is)).more
-          ≡ 2 * elim w [ call.Nothing ↦ fillings is | call.Amount q f v ↦ suc (fillings is) ]
-      go call.Nothing rest = rest n
-      go (call.Amount q f v) rest = let e = rest (suc n) in omega arith
+          ≡ 2 * elim w [ None ↦ fillings is | Some w ↦ suc (fillings is) ]
+      go None rest = rest n
+      go (Some y) rest = let e = rest (suc n) in omega arith
 
   -- the first of them declares a name
   pub more_begun : (n k : ℕ) (is : List Item) → length (beginnings_from k (filled_from text body n is).more) ≡ fillings is
@@ -182,11 +180,11 @@ module _ (text : List ℕ) (body : ℕ → List Item) where
   more_begun n k [] = refl
   more_begun n k (i ∷ is) = rw (filled_step n i is) (go (written_in text body i is) (λ m l. more_begun m l is))
     where
-      go : (w : WrittenCall) → ((m l : ℕ) → length (beginnings_from l (filled_from text body m is).more) ≡ fillings is)
+      go : (w : Option WrittenCall) → ((m l : ℕ) → length (beginnings_from l (filled_from text body m is).more) ≡ fillings is)
           → length (beginnings_from k (filled_by w i n (filled_from text body n is) (filled_from text body (suc n) is)).more)
-          ≡ elim w [ call.Nothing ↦ fillings is | call.Amount q f v ↦ suc (fillings is) ]
-      go call.Nothing rest = rest n k
-      go (call.Amount q f v) rest = ap suc (rest (suc n) (suc (suc k)))
+          ≡ elim w [ None ↦ fillings is | Some w ↦ suc (fillings is) ]
+      go None rest = rest n k
+      go (Some y) rest = ap suc (rest (suc n) (suc (suc k)))
 
   -- no more than there are calls
   pub fillings_few : (is : List Item) → fillings is ≤ calls_in is
@@ -194,12 +192,12 @@ module _ (text : List ℕ) (body : ℕ → List Item) where
   fillings_few [] = omega arith
   fillings_few (i ∷ is) = go (seen i) (fillings_few is)
     where
-      called : (w : WrittenCall) → fillings is ≤ calls_in is → elim w [ call.Nothing ↦ fillings is | call.Amount q f v ↦ suc (fillings is) ] ≤ suc (calls_in is)
-      called call.Nothing h = omega arith
-      called (call.Amount q f v) h = omega arith
+      called : (w : Option WrittenCall) → fillings is ≤ calls_in is → elim w [ None ↦ fillings is | Some w ↦ suc (fillings is) ] ≤ suc (calls_in is)
+      called None h = omega arith
+      called (Some y) h = omega arith
 
       go : (s : Seen) → fillings is ≤ calls_in is
-          → elim (written_by text body s is) [ call.Nothing ↦ fillings is | call.Amount q f v ↦ suc (fillings is) ]
+          → elim (written_by text body s is) [ None ↦ fillings is | Some w ↦ suc (fillings is) ]
           ≤ elim s [ Calls q k ↦ suc (calls_in is) | Other ↦ calls_in is | Declares ↦ calls_in is | Names p ↦ calls_in is | Wants f p ↦ calls_in is | Hands n ↦ calls_in is ]
       go (Calls q k) h = called (if_wanted text (body k) q (handed is) (wanted_by (body k))) h
       go Other h = h

@@ -12,7 +12,7 @@ use Rattle.grammar.specs.declared.Form.{Form}
 use Rattle.grammar.specs.declared.Item.{Item}
 use Rattle.placeholders.specs.declared.Seen.{Seen}
 use Rattle.placeholders.specs.declared.Seen.TheVariants.{Other, Declares, Names, Wants, Calls, Hands}
-use Rattle.placeholders.specs.declared.Wanting.TheVariants as wanting
+use Rattle.std.specs.Prelude.{Some, None}
 use Rattle.placeholders.specs.Placeholders.{seen, named, handed}
 use Rattle.placeholders.specs.Filling.{wanted_by}
 use Rattle.placeholders.specs.Inner.{names_in}
@@ -93,11 +93,11 @@ module _ (x : Item) {s : Seen} (e : s ≡ seen x) (is : List Item) where
         go (Calls q k) e h = rw (← e, names_in)
         go (Hands n) e h = rw (← e, names_in)
 
-    wanted_none : ((f : Form) (p : ℕ) → s ≡ Wants f p → ⊥) → wanted_by (x ∷ is) ≡ wanting.Nothing
+    wanted_none : ((f : Form) (p : ℕ) → s ≡ Wants f p → ⊥) → wanted_by (x ∷ is) ≡ None
     unfolding wanted_by
     wanted_none g = go s e h g
       where
-        go : (s : Seen) → s ≡ seen x → ((p : ℕ) → s ≡ Names p → ⊥) → ((f : Form) (p : ℕ) → s ≡ Wants f p → ⊥) → wanted_by (x ∷ is) ≡ wanting.Nothing
+        go : (s : Seen) → s ≡ seen x → ((p : ℕ) → s ≡ Names p → ⊥) → ((f : Form) (p : ℕ) → s ≡ Wants f p → ⊥) → wanted_by (x ∷ is) ≡ None
         go Other e h g = rw (← e, wanted_by)
         go Declares e h g = rw (← e, wanted_by)
         go (Names p) e h g = absurd (h p refl)
@@ -140,7 +140,7 @@ module _ (is : List Item) (i : ℕ) where
   unfolding handed
   handed_end h = ap handed (drop_of_length-le is h)
 
-  pub wanted_end : length is ≤ i → wanted_by (drop i is) ≡ wanting.Nothing
+  pub wanted_end : length is ≤ i → wanted_by (drop i is) ≡ None
   unfolding wanted_by
   wanted_end h = ap wanted_by (drop_of_length-le is h)
 
@@ -174,9 +174,9 @@ module _ (is : List Item) (i : ℕ) where
       unfolding wanted_by
       wanted_later e = ap wanted_by next_item ∙ rw (← t, e, wanted_by)
 
-      pub wanted_here : {f : Form} {p : ℕ} → s ≡ Wants f p → wanted_by (drop i is) ≡ wanting.Amount f p
+      pub wanted_here : {f : Form} {p : ℕ} → s ≡ Wants f p → wanted_by (drop i is) ≡ Some (record { form = f; name = p })
       unfolding wanted_by
       wanted_here e = ap wanted_by next_item ∙ rw (← t, e, wanted_by)
 
-      pub wanted_stop : ((p : ℕ) → s ≡ Names p → ⊥) → ((f : Form) (p : ℕ) → s ≡ Wants f p → ⊥) → wanted_by (drop i is) ≡ wanting.Nothing
+      pub wanted_stop : ((p : ℕ) → s ≡ Names p → ⊥) → ((f : Form) (p : ℕ) → s ≡ Wants f p → ⊥) → wanted_by (drop i is) ≡ None
       wanted_stop e g = ap wanted_by next_item ∙ wanted_none (get_or is i d) t (drop (i + 1) is) e g

@@ -10,7 +10,6 @@ use lib.ListN.{take-append-drop, get_or-append, length, get_or, take, drop, set,
 use lib.Seq.{drop-drop, take_at, drop_at, take_all, take-add, take-take, take-suc-set, length-take-le, set-append_left}
 use Rattle.std.proofs.lemmas.List.{get_or_default}
 use Rattle.grammar.specs.declared.Kind.TheVariants.{Retuning}
-use Rattle.grammar.specs.declared.Form.{Form}
 use Rattle.grammar.specs.declared.Item.{Item}
 use Rattle.grammar.specs.declared.Item.TheVariants as item
 use Rattle.grammar.specs.Items.{most_items, holding, with_place}
@@ -20,10 +19,9 @@ use Rattle.names.specs.Inner.{beginnings_from, beginnings, begun_with}
 use Rattle.names.proofs.Lists.{here, head_at, head_rest, begun_set, begun_same, begun_all, begun_at, begun_length}
 use Rattle.placeholders.specs.declared.Seen.{Seen}
 use Rattle.placeholders.specs.declared.Seen.TheVariants.{Other, Declares, Names, Wants, Calls, Hands}
-use Rattle.placeholders.specs.declared.Wanting.{Wanting}
-use Rattle.placeholders.specs.declared.Wanting.TheVariants as wanting
+use Rattle.placeholders.specs.declared.Wanted.{Wanted}
 use Rattle.placeholders.specs.declared.writing.WrittenCall.{WrittenCall}
-use Rattle.placeholders.specs.declared.writing.WrittenCall.TheVariants as call
+use Rattle.std.specs.Prelude.{Option, Some, None}
 use Rattle.placeholders.specs.Placeholders.{seen, after, handed}
 use Rattle.placeholders.specs.Filling.{wanted_by, renamed, Filled, filled_from, filled_in}
 use Rattle.placeholders.specs.Inner.{wanted_at, Begun, Roomy, Fills}
@@ -44,9 +42,9 @@ written_alike : (text : List ℕ) {was body : ℕ → List Item} → ((k : ℕ) 
 written_alike text {was} {body} a (Calls q k) is =
     ap (if_wanted text (body k) q (handed is)) (alike_wanted (a k)) ∙ go (wanted_by (was k))
   where
-    go : (w : Wanting) → if_wanted text (body k) q (handed is) w ≡ if_wanted text (was k) q (handed is) w
-    go wanting.Nothing = refl
-    go (wanting.Amount f p) = rw (alike_named (a k))
+    go : (w : Option Wanted) → if_wanted text (body k) q (handed is) w ≡ if_wanted text (was k) q (handed is) w
+    go None = refl
+    go (Some w) = rw (alike_named (a k))
 written_alike text a Other is = refl
 written_alike text a Declares is = refl
 written_alike text a (Names p) is = refl
@@ -172,27 +170,27 @@ module _ (text : List ℕ) (is : List Item) where
               ∙ written_alike text (λ k. alike_drop (suc (get_or (beginnings is) k 0)) (alike_begun i (whole_alike text is))) (seen present) later
 
           -- w is written in for it
-          module _ {w : WrittenCall} (r : w ≡ wanted_at text (take n starts) (take count items) (part i (length (take count items)) (take count items))) where
+          module _ {w : Option WrittenCall} (r : w ≡ wanted_at text (take n starts) (take count items) (part i (length (take count items)) (take count items))) where
             filled_here : filled_from text (after is) next (drop i is)
                 ≡ filled_by w present next (filled_from text (after is) next later) (filled_from text (after is) (suc next) later)
             filled_here =
                 ap (filled_from text (after is) next) (here is i item.MutedPosition h) ∙ filled_step text (after is) next present later
-                ∙ ap (λ (v : WrittenCall). filled_by v present next (filled_from text (after is) next later) (filled_from text (after is) (suc next) later)) (sym (r ∙ written_here))
+                ∙ ap (λ (v : Option WrittenCall). filled_by v present next (filled_from text (after is) next later) (filled_from text (after is) (suc next) later)) (sym (r ∙ written_here))
 
-            items_here : {v : WrittenCall} → w ≡ v
+            items_here : {v : Option WrittenCall} → w ≡ v
                 → drop i all.items ≡ (filled_by v present next (filled_from text (after is) next later) (filled_from text (after is) (suc next) later)).items
             items_here z =
                 p.items_left ∙ ap (λ (m : Filled). m.items) filled_here
-                ∙ ap (λ (v : WrittenCall). (filled_by v present next (filled_from text (after is) next later) (filled_from text (after is) (suc next) later)).items) z
+                ∙ ap (λ (v : Option WrittenCall). (filled_by v present next (filled_from text (after is) next later) (filled_from text (after is) (suc next) later)).items) z
 
-            more_here : {v : WrittenCall} → w ≡ v
+            more_here : {v : Option WrittenCall} → w ≡ v
                 → drop p.added all.more ≡ (filled_by v present next (filled_from text (after is) next later) (filled_from text (after is) (suc next) later)).more
             more_here z =
                 p.more_left ∙ ap (λ (m : Filled). m.more) filled_here
-                ∙ ap (λ (v : WrittenCall). (filled_by v present next (filled_from text (after is) next later) (filled_from text (after is) (suc next) later)).more) z
+                ∙ ap (λ (v : Option WrittenCall). (filled_by v present next (filled_from text (after is) next later) (filled_from text (after is) (suc next) later)).more) z
 
             -- nothing is
-            pub writing_on : w ≡ call.Nothing → Writing items starts end next (i + 1)
+            pub writing_on : w ≡ None → Writing items starts end next (i + 1)
             writing_on z =
                 record {
                   within = omega arith;
@@ -211,10 +209,10 @@ module _ (text : List ℕ) (is : List Item) where
                   begun = p.begun;
                 }
 
-            -- the number v is, for the n of the form f
-            module _ {q : ℕ} {f : Form} {v : ℕ} (z : w ≡ call.Amount q f v) where
+            -- a number is
+            module _ {y : WrittenCall} (z : w ≡ Some y) where
               abbrev new : List Item
-              new = item.Declared Retuning q ∷ item.Amount f v ∷ []
+              new = item.Declared Retuning y.place ∷ item.Amount y.form y.number ∷ []
 
               call_here : with_place present next ≡ renamed next present
               call_here = called next present (written_call text (after is) present later (sym (r ∙ written_here) ∙ z)).1
@@ -280,12 +278,12 @@ module _ (text : List ℕ) (is : List Item) where
                       ∙ ap (λ (k : ℕ). (those (i + 1) ++ t) ++ drop k items₀) n
 
                   pub writing_more : (none : Item) {l₁ l₂ l₃ : List Item} {starts' : List ℕ} → l₁ ≡ set items i (with_place (get_or items i none) next)
-                      → l₂ ≡ set l₁ end (item.Declared Retuning q) → l₃ ≡ set l₂ (end + 1) (item.Amount f v)
+                      → l₂ ≡ set l₁ end (item.Declared Retuning y.place) → l₃ ≡ set l₂ (end + 1) (item.Amount y.form y.number)
                       → starts' ≡ set starts next end → Writing l₃ starts' (end + 2) (next + 1) (i + 1)
                   writing_more none {l₁} {l₂} {l₃} {starts'} e₁ e₂ e₃ s =
                       let t = those (i + 1) ++ behind p.added in
-                      let d = item.Declared Retuning q in
-                      let a = item.Amount f v in
+                      let d = item.Declared Retuning y.place in
+                      let a = item.Amount y.form y.number in
                       let n₁ : length t ≡ end =
                       omega (arith, length-append (those (i + 1)) (behind p.added), begun_length all.items is (i + 1) (omega (arith, whole_length text is)) (omega arith), behind_length, p.ends) in
                       let n₂ : length (t ++ d ∷ []) ≡ end + 1 = omega (arith, length-append t (d ∷ [])) in

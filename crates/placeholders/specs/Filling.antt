@@ -11,21 +11,20 @@ use Rattle.grammar.specs.declared.Item.TheVariants as item
 use Rattle.names.specs.Parts.{Part, declares, gives, uses, says, part}
 use Rattle.names.specs.Names.{declared, numbered, Meant}
 use Rattle.placeholders.specs.declared.Seen.TheVariants.{Other, Declares, Names, Wants, Calls, Hands}
-use Rattle.placeholders.specs.declared.Wanting.{Wanting}
-use Rattle.placeholders.specs.declared.Wanting.TheVariants as wanting
+use Rattle.placeholders.specs.declared.Wanted.{Wanted}
 use Rattle.placeholders.specs.Placeholders.{seen, after, named, handed, fault_of}
 
 -- what a retuning wants, by the items after its name: if a placeholder stands for its n, the form of that n and the place of the placeholder's name
-unfoldable pub wanted_by : List Item → Wanting
-wanted_by [] = wanting.Nothing
+unfoldable pub wanted_by : List Item → Option Wanted
+wanted_by [] = None
 wanted_by (i ∷ is) =
     elim (seen i) [
       | Names p ↦ wanted_by is
-      | Wants f p ↦ wanting.Amount f p
-      | Other ↦ wanting.Nothing
-      | Declares ↦ wanting.Nothing
-      | Calls q k ↦ wanting.Nothing
-      | Hands n ↦ wanting.Nothing
+      | Wants f p ↦ Some (record { form = f; name = p })
+      | Other ↦ None
+      | Declares ↦ None
+      | Calls q k ↦ None
+      | Hands n ↦ None
     ]
 
 -- the number that is given for a name: the brackets' names and the call's numbers go along with each other
@@ -66,8 +65,8 @@ filled_from text body n [] = record { items = []; more = [] }
 filled_from text body n (i ∷ is) =
     elim (seen i) [
       | Calls q k ↦ elim (wanted_by (body k)) [
-        | wanting.Nothing ↦ kept i (filled_from text body n is)
-        | wanting.Amount f p ↦ filled i q n f (written_for text (body k) (handed is) p) (filled_from text body (suc n) is)
+        | None ↦ kept i (filled_from text body n is)
+        | Some w ↦ filled i q n w.form (written_for text (body k) (handed is) w.name) (filled_from text body (suc n) is)
       ]
       | Other ↦ kept i (filled_from text body n is)
       | Declares ↦ kept i (filled_from text body n is)

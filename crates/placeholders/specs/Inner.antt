@@ -9,10 +9,8 @@ use Rattle.grammar.specs.Items.{most_items, holding}
 use Rattle.names.specs.Names.{Meant}
 use Rattle.names.specs.Inner.{beginnings}
 use Rattle.placeholders.specs.declared.Seen.TheVariants.{Other, Declares, Names, Wants, Calls, Hands}
-use Rattle.placeholders.specs.declared.Wanting.TheVariants as wanting
 use Rattle.placeholders.specs.declared.Settled.{Settled}
 use Rattle.placeholders.specs.declared.writing.WrittenCall.{WrittenCall}
-use Rattle.placeholders.specs.declared.writing.WrittenCall.TheVariants as call
 use Rattle.placeholders.specs.Placeholders.{seen, named, handed, is_among, fault_of}
 use Rattle.placeholders.specs.Filling.{wanted_by, written_for, filled_in, settled}
 
@@ -44,19 +42,19 @@ fault_here text takes before (i ∷ is) =
     ]
 
 -- what is written in for the first of some items
-abbrev pub wanted_at : List ℕ → List ℕ → List Item → List Item → WrittenCall
-wanted_at text bs all [] = call.Nothing
+abbrev pub wanted_at : List ℕ → List ℕ → List Item → List Item → Option WrittenCall
+wanted_at text bs all [] = None
 wanted_at text bs all (i ∷ is) =
     elim (seen i) [
       | Calls q k ↦ elim (wanted_by (after_by bs all k)) [
-        | wanting.Nothing ↦ call.Nothing
-        | wanting.Amount f p ↦ call.Amount q f (written_for text (after_by bs all k) (handed is) p)
+        | None ↦ None
+        | Some w ↦ Some (record { place = q; form = w.form; number = written_for text (after_by bs all k) (handed is) w.name })
       ]
-      | Other ↦ call.Nothing
-      | Declares ↦ call.Nothing
-      | Names p ↦ call.Nothing
-      | Wants f p ↦ call.Nothing
-      | Hands n ↦ call.Nothing
+      | Other ↦ None
+      | Declares ↦ None
+      | Names p ↦ None
+      | Wants f p ↦ None
+      | Hands n ↦ None
     ]
 
 -- ---- what the passes are lent, and what they leave

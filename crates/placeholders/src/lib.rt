@@ -16,6 +16,7 @@ use grammar::{Form, Item};
 use status::{Reason, Refusal};
 
 // An item as placeholders see it. A call has the place of the called name, and the number of its declaration.
+// Kept as it is: `Other` is one of six kinds, and a match names it beside the others; in an Option each match would be two deep.
 #[derive(Clone, Copy)]
 pub enum Seen {
     Other,
@@ -28,9 +29,9 @@ pub enum Seen {
 
 // The form of the n for which a placeholder stands, and the place of its name.
 #[derive(Clone, Copy)]
-pub enum Wanting {
-    Nothing,
-    Amount(Form, u32),
+pub struct Wanted {
+    pub form: Form,
+    pub name: u32,
 }
 
 // How many items and declarations there are once the numbers of the calls are written in.

@@ -23,70 +23,70 @@ pub overflow_cast-next : goal.overflow_cast-next
 overflow_cast-next c =
     let a = c.args in
     let n = length-take-le a.count a.items.now c.requires.counted in
-    let r = room_here _ _ _ _ c.loop-i.invariant _ (sym n) c.requires.begun (rw n c.loop-i-test.true) c.read_call.ensures c.in-Amount.is c.requires.roomy in
+    let r = room_here _ _ _ _ c.loop-i.invariant _ (sym n) c.requires.begun (rw n c.loop-i-test.true) c.read_call.ensures c.in-Some.is c.requires.roomy in
     omega (arith, r.items_fit, r.start_fits, r.few, c.requires.size, c.loop-i.invariant.room)
 
 pub offset_bounds-items-end : goal.offset_bounds-items-end
 offset_bounds-items-end c =
     let a = c.args in
     let n = length-take-le a.count a.items.now c.requires.counted in
-    let r = room_here _ _ _ _ c.loop-i.invariant _ (sym n) c.requires.begun (rw n c.loop-i-test.true) c.read_call.ensures c.in-Amount.is c.requires.roomy in
+    let r = room_here _ _ _ _ c.loop-i.invariant _ (sym n) c.requires.begun (rw n c.loop-i-test.true) c.read_call.ensures c.in-Some.is c.requires.roomy in
     omega (arith, r.items_fit, r.start_fits, r.few, c.requires.size, c.loop-i.invariant.room)
 
 pub bounds-items-end : goal.bounds-items-end
 bounds-items-end c =
     let a = c.args in
     let n = length-take-le a.count a.items.now c.requires.counted in
-    let r = room_here _ _ _ _ c.loop-i.invariant _ (sym n) c.requires.begun (rw n c.loop-i-test.true) c.read_call.ensures c.in-Amount.is c.requires.roomy in
+    let r = room_here _ _ _ _ c.loop-i.invariant _ (sym n) c.requires.begun (rw n c.loop-i-test.true) c.read_call.ensures c.in-Some.is c.requires.roomy in
     simp length-set (omega (arith, r.items_fit, r.start_fits, r.few, c.requires.size, c.loop-i.invariant.room))
 
 pub overflow_add-end : goal.overflow_add-end
 overflow_add-end c =
     let a = c.args in
     let n = length-take-le a.count a.items.now c.requires.counted in
-    let r = room_here _ _ _ _ c.loop-i.invariant _ (sym n) c.requires.begun (rw n c.loop-i-test.true) c.read_call.ensures c.in-Amount.is c.requires.roomy in
+    let r = room_here _ _ _ _ c.loop-i.invariant _ (sym n) c.requires.begun (rw n c.loop-i-test.true) c.read_call.ensures c.in-Some.is c.requires.roomy in
     omega (arith, r.items_fit, r.start_fits, r.few, c.requires.size, c.loop-i.invariant.room)
 
 pub offset_bounds-items-end-in-loop-i : goal.offset_bounds-items-end-in-loop-i
 offset_bounds-items-end-in-loop-i c =
     let a = c.args in
     let n = length-take-le a.count a.items.now c.requires.counted in
-    let r = room_here _ _ _ _ c.loop-i.invariant _ (sym n) c.requires.begun (rw n c.loop-i-test.true) c.read_call.ensures c.in-Amount.is c.requires.roomy in
+    let r = room_here _ _ _ _ c.loop-i.invariant _ (sym n) c.requires.begun (rw n c.loop-i-test.true) c.read_call.ensures c.in-Some.is c.requires.roomy in
     omega (arith, r.items_fit, r.start_fits, r.few, c.requires.size, c.loop-i.invariant.room)
 
 pub bounds-items-end-in-loop-i : goal.bounds-items-end-in-loop-i
 bounds-items-end-in-loop-i c =
     let a = c.args in
     let n = length-take-le a.count a.items.now c.requires.counted in
-    let r = room_here _ _ _ _ c.loop-i.invariant _ (sym n) c.requires.begun (rw n c.loop-i-test.true) c.read_call.ensures c.in-Amount.is c.requires.roomy in
+    let r = room_here _ _ _ _ c.loop-i.invariant _ (sym n) c.requires.begun (rw n c.loop-i-test.true) c.read_call.ensures c.in-Some.is c.requires.roomy in
     simp length-set (omega (arith, r.items_fit, r.start_fits, r.few, c.requires.size, c.loop-i.invariant.room))
 
 pub overflow_cast-starts : goal.overflow_cast-starts
 overflow_cast-starts c =
     let a = c.args in
     let n = length-take-le a.count a.items.now c.requires.counted in
-    let r = room_here _ _ _ _ c.loop-i.invariant _ (sym n) c.requires.begun (rw n c.loop-i-test.true) c.read_call.ensures c.in-Amount.is c.requires.roomy in
+    let r = room_here _ _ _ _ c.loop-i.invariant _ (sym n) c.requires.begun (rw n c.loop-i-test.true) c.read_call.ensures c.in-Some.is c.requires.roomy in
     omega (arith, r.items_fit, r.start_fits, r.few, c.requires.size, c.loop-i.invariant.room)
 
 pub bounds-starts-next : goal.bounds-starts-next
 bounds-starts-next c =
     let a = c.args in
     let n = length-take-le a.count a.items.now c.requires.counted in
-    let r = room_here _ _ _ _ c.loop-i.invariant _ (sym n) c.requires.begun (rw n c.loop-i-test.true) c.read_call.ensures c.in-Amount.is c.requires.roomy in
+    let r = room_here _ _ _ _ c.loop-i.invariant _ (sym n) c.requires.begun (rw n c.loop-i-test.true) c.read_call.ensures c.in-Some.is c.requires.roomy in
     omega (arith, r.items_fit, r.start_fits, r.few, c.requires.size, c.loop-i.invariant.room)
 
 pub overflow_add-end-in-loop-i : goal.overflow_add-end-in-loop-i
 overflow_add-end-in-loop-i c =
     let a = c.args in
     let n = length-take-le a.count a.items.now c.requires.counted in
-    let r = room_here _ _ _ _ c.loop-i.invariant _ (sym n) c.requires.begun (rw n c.loop-i-test.true) c.read_call.ensures c.in-Amount.is c.requires.roomy in
+    let r = room_here _ _ _ _ c.loop-i.invariant _ (sym n) c.requires.begun (rw n c.loop-i-test.true) c.read_call.ensures c.in-Some.is c.requires.roomy in
     omega (arith, r.items_fit, r.start_fits, r.few, c.requires.size, c.loop-i.invariant.room)
 
 pub loop-i-preserved : goal.loop-i-preserved
 loop-i-preserved c =
     let a = c.args in
     let n = length-take-le a.count a.items.now c.requires.counted in
-    writing_more _ _ _ _ c.loop-i.invariant _ (sym n) c.requires.begun (rw n c.loop-i-test.true) c.read_call.ensures c.in-Amount.is c.requires.roomy c.requires.size
+    writing_more _ _ _ _ c.loop-i.invariant _ (sym n) c.requires.begun (rw n c.loop-i-test.true) c.read_call.ensures c.in-Some.is c.requires.roomy c.requires.size
     _ (ap (set c.loop-i.items c.loop-i.i) c.with_place.ensures) refl refl refl
 
 pub returns : goal.returns
