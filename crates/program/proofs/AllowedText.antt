@@ -9,6 +9,7 @@ use borrow.Author.Tests.{eq-eqb}
 use lib.Dec.{eqb}
 use lib.ListN.{length, get_or, drop, length-map, length-append, get_or-map, get_or-append}
 use lib.Seq.{get_or-append-add}
+use Rattle.std.specs.Prelude.{None}
 use Rattle.status.specs.Status.{done}
 use Rattle.grammar.specs.declared.Kind.{Kind}
 use Rattle.grammar.specs.declared.Kind.TheVariants.{Interval, Tone, System, Retuning, Logic, Order as AnOrder, Harmony}
@@ -31,7 +32,6 @@ use Rattle.program.specs.Allowed.{kind_of, is_kind, is_pattern, Refers, Each, Fi
 use Rattle.program.specs.Text.{accepted, read_text}
 use Rattle.program.proofs.Formed.{an_amount, Formed, no_more, declaration, names_of, order_items, start_items, starts_in, FormedText}
 use Rattle.placeholders.specs.Placeholders.{after}
-use Rattle.placeholders.specs.declared.Wanting.TheVariants as wanting
 use Rattle.placeholders.specs.Filling.{wanted_by, Filled, filled_from, filled_in}
 use Rattle.placeholders.proofs.Alike.{Alike, alike_length, alike_drop, alike_wanted, alike_declared, alike_beginnings}
 use Rattle.placeholders.proofs.FilledLaws.{filled_alike, fillings, more_even, fillings_few, settled_done}
@@ -318,12 +318,12 @@ module _ (text : List ℕ) (js : List Item) (v : FormedText js) where
       let a = along [] (formed_alike v.formed alike) in
       sym (length-map (program_of filling.items) kind_here) ∙ ap length a.kinds ∙ length-map (declared filling.items) kind_named ∙ ap length (alike_declared alike)
 
-  old_whole : (k : ℕ) → k < length (declared js) → wanted_by (after js k) ≡ wanting.Nothing → is_pattern (declaration_at (program_of (filled_in text js)) k) ≡ false
+  old_whole : (k : ℕ) → k < length (declared js) → wanted_by (after js k) ≡ None → is_pattern (declaration_at (program_of (filled_in text js)) k) ≡ false
   old_whole k h e =
       let f = formed_alike v.formed alike in
       let s = stands f k (omega (arith, ap length (alike_declared alike))) in
       let b : beginnings filling.items ≡ beginnings js = alike_beginnings 0 alike in
-      let w : wanted_by (after filling.items k) ≡ wanting.Nothing =
+      let w : wanted_by (after filling.items k) ≡ None =
       ap (λ (l : List ℕ). wanted_by (drop (suc (get_or l k 0)) filling.items)) b ∙ alike_wanted (alike_drop (suc (get_or (beginnings js) k 0)) alike) ∙ e in
       ap (λ (p : Program). is_pattern (declaration_at p k)) program_filled
       ∙ ap (λ (d : Placed). is_pattern d.is) (get_or-append (program_of filling.items) (program_of filling.more) nothing k (omega (arith, items_program)))

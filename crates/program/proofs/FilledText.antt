@@ -7,6 +7,7 @@ use mathlib.Core.List.{List, [], ◌∷◌, ◌++◌, append_assoc, Memᴰ}
 use Prim.Native.Nat.{ℕ, zero, suc, ◌+◌, ◌-◌, ◌≤◌, ◌<◌}
 use native.Mathlib.Omega.{arith}
 use Rattle.std.specs.Prelude.{Option, Some, None}
+use Rattle.std.proofs.lemmas.Option.{same_Some, none-some}
 use lib.Dec.{eqb}
 use lib.ListN.{length, get_or, length-append, get_or-append}
 use lib.Seq.{get_or-append-add}
@@ -26,14 +27,11 @@ use Rattle.names.proofs.Searching.{OfKinds}
 use Rattle.names.proofs.Meanings.{Means, AllMean}
 use Rattle.placeholders.specs.declared.Seen.{Seen}
 use Rattle.placeholders.specs.declared.Seen.TheVariants.{Other, Declares, Names, Wants, Calls, Hands}
-use Rattle.placeholders.specs.declared.Wanting.{Wanting}
-use Rattle.placeholders.specs.declared.Wanting.TheVariants as wanting
+use Rattle.placeholders.specs.declared.Wanted.{Wanted}
 use Rattle.placeholders.specs.declared.writing.WrittenCall.{WrittenCall}
-use Rattle.placeholders.specs.declared.writing.WrittenCall.TheVariants as call
 use Rattle.placeholders.specs.Placeholders.{seen, named, handed}
 use Rattle.placeholders.specs.Filling.{wanted_by, given, renamed, filled_from}
 use Rattle.placeholders.proofs.FilledLaws.{if_wanted, written_by, written_in, filled_by, call_is, written_call, filled_step, fillings, calls_in}
-use Rattle.values.proofs.Cases.{impossible}
 use Rattle.program.specs.Program.{Declaration, ratio, root, sequence, frequency, from, system, anchor, width, fresh_period, onward_period, tones, pattern, logic, harmony, Program}
 use Rattle.program.specs.Meaning.{declaration_at}
 use Rattle.program.specs.Allowed.{Each, kind_of, is_pattern, if_kind, count_of}
@@ -148,33 +146,33 @@ fillings_kind (one_filled a w) zero d h = refl
 fillings_kind (one_filled a w) (suc j) d h = fillings_kind w j d (omega arith)
 
 module _ (text : List ℕ) (body : ℕ → List Item) where
-  pub written_small : (i : Item) (is : List Item) {q : ℕ} {f : Form} {v : ℕ} → Each Small (handed is) → written_in text body i is ≡ call.Amount q f v → v ≤ most_amount
-  written_small i is {q} {f} {v} h e = go (seen i) e
+  pub written_small : (i : Item) (is : List Item) {y : WrittenCall} → Each Small (handed is) → written_in text body i is ≡ Some y → y.number ≤ most_amount
+  written_small i is {y} h e = go (seen i) e
     where
-      wanted : (b : List Item) (a : ℕ) (w : Wanting) → if_wanted text b a (handed is) w ≡ call.Amount q f v → v ≤ most_amount
-      wanted b a wanting.Nothing e = impossible (cc)
-      wanted b a (wanting.Amount g p) e =
-          let z : given text (named b) (handed is) (name_at text p) ≡ v = cc in
-          omega (arith, given_small text (named b) (handed is) (name_at text p) h)
+      wanted : (b : List Item) (a : ℕ) (w : Option Wanted) → if_wanted text b a (handed is) w ≡ Some y → y.number ≤ most_amount
+      wanted b a None e = absurd (none-some y e)
+      wanted b a (Some w) e =
+          let z : given text (named b) (handed is) (name_at text w.name) ≡ y.number = ap (λ (c : WrittenCall). c.number) (same_Some _ y e) in
+          omega (arith, given_small text (named b) (handed is) (name_at text w.name) h)
 
-      go : (s : Seen) → written_by text body s is ≡ call.Amount q f v → v ≤ most_amount
+      go : (s : Seen) → written_by text body s is ≡ Some y → y.number ≤ most_amount
       go (Calls a k) e = wanted (body k) a (wanted_by (body k)) e
-      go Other e = impossible (cc)
-      go Declares e = impossible (cc)
-      go (Names p) e = impossible (cc)
-      go (Wants g p) e = impossible (cc)
-      go (Hands n) e = impossible (cc)
+      go Other e = absurd (none-some y e)
+      go Declares e = absurd (none-some y e)
+      go (Names p) e = absurd (none-some y e)
+      go (Wants g p) e = absurd (none-some y e)
+      go (Hands n) e = absurd (none-some y e)
 
   pub fillings_from : (n : ℕ) (is : List Item) → Each Handy is → Fillings (fillings text body is) (filled_from text body n is).more
   unfolding filled_from fillings
   fillings_from n [] h = none_filled
   fillings_from n (i ∷ is) h = rw (filled_step text body n i is) (go (written_in text body i is) refl (λ m. fillings_from m is h.1))
     where
-      go : (w : WrittenCall) → written_in text body i is ≡ w → ((m : ℕ) → Fillings (fillings text body is) (filled_from text body m is).more)
-          → Fillings (elim w [ call.Nothing ↦ fillings text body is | call.Amount q f v ↦ suc (fillings text body is) ])
+      go : (w : Option WrittenCall) → written_in text body i is ≡ w → ((m : ℕ) → Fillings (fillings text body is) (filled_from text body m is).more)
+          → Fillings (elim w [ None ↦ fillings text body is | Some w ↦ suc (fillings text body is) ])
           (filled_by w i n (filled_from text body n is) (filled_from text body (suc n) is)).more
-      go call.Nothing e rest = rest n
-      go (call.Amount q f v) e rest = one_filled (written_small i is (handed_small is h.1) e) (rest (suc n))
+      go None e rest = rest n
+      go (Some y) e rest = one_filled (written_small i is (handed_small is h.1) e) (rest (suc n))
 
 -- ---- declared names, one list after the other
 
@@ -262,12 +260,12 @@ module _ (text : List ℕ) (body : ℕ → List Item) (ds : List Named) (low top
   filled_mean n [] w l m = tt
   filled_mean n (i ∷ is) w l m = rw (filled_step text body n i is) (go (written_in text body i is) refl m (λ k. filled_mean k is w.1))
     where
-      go : (x : WrittenCall) → written_in text body i is ≡ x
-          → n + elim x [ call.Nothing ↦ fillings text body is | call.Amount q f v ↦ suc (fillings text body is) ] ≤ top
+      go : (x : Option WrittenCall) → written_in text body i is ≡ x
+          → n + elim x [ None ↦ fillings text body is | Some w ↦ suc (fillings text body is) ] ≤ top
           → ((k : ℕ) → low ≤ k → k + fillings text body is ≤ top → AllMean ds (filled_from text body k is).items)
           → AllMean ds (filled_by x i n (filled_from text body n is) (filled_from text body (suc n) is)).items
-      go call.Nothing e m rest = (w.0, rest n l m)
-      go (call.Amount q f v) e m rest = (renamed_means n i (written_call text body i is e).1 l (omega arith), rest (suc n) (omega arith) (omega arith))
+      go None e m rest = (w.0, rest n l m)
+      go (Some y) e m rest = (renamed_means n i (written_call text body i is e).1 l (omega arith), rest (suc n) (omega arith) (omega arith))
 
 -- ---- what is called has no placeholder left
 
@@ -335,14 +333,14 @@ calls_below ds (item.Placeholder p ∷ is) m = (tt, calls_below ds is m.1)
 calls_below ds (item.Argument v ∷ is) m = (tt, calls_below ds is m.1)
 
 module _ (text : List ℕ) (body : ℕ → List Item) (p : Program) (low top : ℕ)
-    (old : (k : ℕ) → k < low → wanted_by (body k) ≡ wanting.Nothing → is_pattern (declaration_at p k) ≡ false)
+    (old : (k : ℕ) → k < low → wanted_by (body k) ≡ None → is_pattern (declaration_at p k) ≡ false)
     (new : (n : ℕ) → low ≤ n → n < top → is_pattern (declaration_at p n) ≡ false) where
-  unwritten : (ns : List ℕ) (b : List Item) (q : ℕ) (w : Wanting) → if_wanted text b q ns w ≡ call.Nothing → w ≡ wanting.Nothing
-  unwritten ns b q wanting.Nothing e = refl
-  unwritten ns b q (wanting.Amount f x) e = impossible (cc)
+  unwritten : (ns : List ℕ) (b : List Item) (q : ℕ) (w : Option Wanted) → if_wanted text b q ns w ≡ None → w ≡ None
+  unwritten ns b q None e = refl
+  unwritten ns b q (Some w) e = absurd (none-some _ (sym e))
 
   -- a call that stays as it is
-  kept_whole : (i : Item) (is : List Item) → BelowBy low (seen i) → written_in text body i is ≡ call.Nothing → Whole p (part i)
+  kept_whole : (i : Item) (is : List Item) → BelowBy low (seen i) → written_in text body i is ≡ None → Whole p (part i)
   kept_whole (item.Start q k) is h e = old k h (unwritten (handed is) (body k) q (wanted_by (body k)) e)
   kept_whole (item.Order q k) is h e = old k h (unwritten (handed is) (body k) q (wanted_by (body k)) e)
   kept_whole (item.Declared k p) is h e = tt
@@ -377,12 +375,12 @@ module _ (text : List ℕ) (body : ℕ → List Item) (p : Program) (low top : �
   filled_whole n [] w l m = tt
   filled_whole n (i ∷ is) w l m = rw (filled_step text body n i is) (go (written_in text body i is) refl m (λ k. filled_whole k is w.1))
     where
-      go : (x : WrittenCall) → written_in text body i is ≡ x
-          → n + elim x [ call.Nothing ↦ fillings text body is | call.Amount q f v ↦ suc (fillings text body is) ] ≤ top
+      go : (x : Option WrittenCall) → written_in text body i is ≡ x
+          → n + elim x [ None ↦ fillings text body is | Some w ↦ suc (fillings text body is) ] ≤ top
           → ((k : ℕ) → low ≤ k → k + fillings text body is ≤ top → AllWhole p (filled_from text body k is).items)
           → AllWhole p (filled_by x i n (filled_from text body n is) (filled_from text body (suc n) is)).items
-      go call.Nothing e m rest = (kept_whole i is w.0 e, rest n l m)
-      go (call.Amount q f v) e m rest = (renamed_whole n i (written_call text body i is e).1 l (omega arith), rest (suc n) (omega arith) (omega arith))
+      go None e m rest = (kept_whole i is w.0 e, rest n l m)
+      go (Some y) e m rest = (renamed_whole n i (written_call text body i is e).1 l (omega arith), rest (suc n) (omega arith) (omega arith))
 
 -- ---- how many calls there are: an order makes one, a start one
 

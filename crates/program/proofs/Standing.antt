@@ -7,6 +7,7 @@ use Prim.Native.Nat.{ℕ, zero, suc, ◌+◌, ◌<◌}
 use native.Mathlib.Omega.{arith}
 use lib.ListN.{length, get_or, drop}
 use lib.Seq.{drop-append-add}
+use Rattle.std.specs.Prelude.{None}
 use Rattle.grammar.specs.declared.Kind.{Kind}
 use Rattle.grammar.specs.declared.Form.{Form}
 use Rattle.grammar.specs.declared.Form.TheVariants.{AnchorTo, AnchorUp, AnchorDown, WidthTo, WidthUp, WidthDown, WidthTimes, WidthOver}
@@ -15,7 +16,6 @@ use Rattle.grammar.specs.declared.Item.TheVariants as item
 use Rattle.names.specs.Parts.{Part, declares, gives, uses, says, part}
 use Rattle.names.specs.Names.{Named, named_by, declared}
 use Rattle.names.specs.Inner.{beginning_by, beginnings_from, beginnings}
-use Rattle.placeholders.specs.declared.Wanting.TheVariants as wanting
 use Rattle.placeholders.specs.Placeholders.{after}
 use Rattle.placeholders.specs.Filling.{wanted_by}
 use Rattle.placeholders.proofs.Beginnings.{beginnings_append}
@@ -154,7 +154,7 @@ unfolding wanted_by
 names_wanted is no_name_case = refl
 names_wanted is (a_name w) = names_wanted is w
 
-pub unwanted : {k : Kind} {body : List Item} (rest : List Item) → Body k body → wanted_by (body ++ rest) ≡ wanting.Nothing → is_pattern (declaration_of body) ≡ false
+pub unwanted : {k : Kind} {body : List Item} (rest : List Item) → Body k body → wanted_by (body ++ rest) ≡ None → is_pattern (declaration_of body) ≡ false
 unfolding wanted_by
 unwanted rest (a_ratio p q) e = refl
 unwanted rest (a_root a b) e = refl

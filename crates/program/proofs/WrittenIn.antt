@@ -23,10 +23,8 @@ use Rattle.names.proofs.Meanings.{AllMean, accepted as meant-well}
 use Rattle.placeholders.specs.declared.Seen.{Seen}
 use Rattle.placeholders.specs.declared.Seen.TheVariants.{Other, Declares, Names, Wants, Calls, Hands}
 use Rattle.std.specs.Prelude.{Option, Some, None}
-use Rattle.placeholders.specs.declared.Wanting.{Wanting}
-use Rattle.placeholders.specs.declared.Wanting.TheVariants as wanting
+use Rattle.placeholders.specs.declared.Wanted.{Wanted}
 use Rattle.placeholders.specs.declared.writing.WrittenCall.{WrittenCall}
-use Rattle.placeholders.specs.declared.writing.WrittenCall.TheVariants as call
 use Rattle.placeholders.specs.Placeholders.{seen, after, handed, is_among, takes, fault_from, fault_of}
 use Rattle.placeholders.specs.Filling.{wanted_by, written_for, renamed, Filled, filled_from, filled_in}
 use Rattle.placeholders.proofs.Alike.{Alike, same, start, order, none, alike_drop, alike_beginnings, alike_declared}
@@ -70,7 +68,7 @@ module _ (text : List ℕ) (b : List Item) (ns : List ℕ) where
   names_fixed no_name_case = refl
   names_fixed (a_name {q = q} w) = ap (λ (l : List Item). item.Placeholder q ∷ l) (names_fixed w)
 
-  tones_unwanted : {n : ℕ} {is : List Item} (rest : List Item) → PositionItems n is → NotEmpty is → wanted_by (is ++ rest) ≡ wanting.Nothing
+  tones_unwanted : {n : ℕ} {is : List Item} (rest : List Item) → PositionItems n is → NotEmpty is → wanted_by (is ++ rest) ≡ None
   unfolding wanted_by
   tones_unwanted rest no_position x = elim x [ ]
   tones_unwanted rest (muted_position w) something = refl
@@ -78,9 +76,9 @@ module _ (text : List ℕ) (b : List Item) (ns : List ℕ) where
   tones_unwanted rest (tone_position t w) something = refl
 
   -- what a retuning's items declare then: itself, where it wants nothing, or its form with the number
-  abbrev AsWanted : List Item → Wanting → Type 0
-  AsWanted is wanting.Nothing = declaration_of (written is) ≡ declaration_of is
-  AsWanted is (wanting.Amount f p) = declaration_of (written is) ≡ asking f (written_for text b ns p)
+  abbrev AsWanted : List Item → Option Wanted → Type 0
+  AsWanted is None = declaration_of (written is) ≡ declaration_of is
+  AsWanted is (Some w) = declaration_of (written is) ≡ asking w.form (written_for text b ns w.name)
 
   as_wanted : {is : List Item} (rest : List Item) → Body Retuning is → AsWanted is (wanted_by (is ++ rest))
   unfolding wanted_by
@@ -97,9 +95,9 @@ module _ (text : List ℕ) (b : List Item) (ns : List ℕ) where
       past : declaration_of (written (ms ++ is)) ≡ declaration_of (written is)
       past = ap declaration_of (map-append (written_in text b ns) ms is) ∙ ap (λ (l : List Item). declaration_of (l ++ written is)) (names_fixed w) ∙ names_past (written is) w
 
-      behind : (x : Wanting) → AsWanted is x → AsWanted (ms ++ is) x
-      behind wanting.Nothing e = past ∙ e ∙ sym (names_past is w)
-      behind (wanting.Amount f p) e = past ∙ e
+      behind : (x : Option Wanted) → AsWanted is x → AsWanted (ms ++ is) x
+      behind None e = past ∙ e ∙ sym (names_past is w)
+      behind (Some w) e = past ∙ e
 
 -- ---- a retuning has no calls, so that it stays as it is
 
@@ -134,13 +132,13 @@ retuning_same {is} b a =
 -- ---- the call at item j
 
 -- what it names in r, where n is the first number of a retuning that is filled in, and what that declares, by what the called retuning wants
-abbrev CallIn : List ℕ → Filled → ℕ → ℕ → ℕ → ℕ → ℕ → List ℕ → List Item → Wanting → Type 0
-CallIn text r count n j q k ns b wanting.Nothing = seen (one_of r.items j) ≡ Calls q k
-CallIn text r count n j q k ns b (wanting.Amount f p) =
-    (c : ℕ) × (c < count) × (seen (one_of r.items j) ≡ Calls q (n + c)) × (declaration_at (program_of r.more) c ≡ asking f (written_for text b ns p))
+abbrev CallIn : List ℕ → Filled → ℕ → ℕ → ℕ → ℕ → ℕ → List ℕ → List Item → Option Wanted → Type 0
+CallIn text r count n j q k ns b None = seen (one_of r.items j) ≡ Calls q k
+CallIn text r count n j q k ns b (Some w) =
+    (c : ℕ) × (c < count) × (seen (one_of r.items j) ≡ Calls q (n + c)) × (declaration_at (program_of r.more) c ≡ asking w.form (written_for text b ns w.name))
 
-abbrev count_by : WrittenCall → ℕ → ℕ
-count_by x m = elim x [ call.Nothing ↦ m | call.Amount q f v ↦ suc m ]
+abbrev count_by : Option WrittenCall → ℕ → ℕ
+count_by x m = elim x [ None ↦ m | Some y ↦ suc m ]
 
 module _ (text : List ℕ) (body : ℕ → List Item) where
   seen_renamed : (n : ℕ) (i : Item) {q k : ℕ} → seen i ≡ Calls q k → seen (renamed n i) ≡ Calls q n
@@ -159,39 +157,39 @@ module _ (text : List ℕ) (body : ℕ → List Item) where
   next_declared q f v is c = refl
 
   -- a call that is the first item
-  call_here : (n : ℕ) (i : Item) (is : List Item) (q k : ℕ) → seen i ≡ Calls q k → Each Handy is → (y : WrittenCall) → laws.written_in text body i is ≡ y
+  call_here : (n : ℕ) (i : Item) (is : List Item) (q k : ℕ) → seen i ≡ Calls q k → Each Handy is → (y : Option WrittenCall) → laws.written_in text body i is ≡ y
       → y ≡ if_wanted text (body k) q (handed is) (wanted_by (body k))
       → CallIn text (filled_by y i n (filled_from text body n is) (filled_from text body (suc n) is)) (count_by y (fillings text body is)) n 0 q k (handed is) (body k)
       (wanted_by (body k))
   call_here n i is q k e h y x z =
-      subst (λ (u : WrittenCall). CallIn text (filled_by u i n (filled_from text body n is) (filled_from text body (suc n) is)) (count_by u (fillings text body is)) n 0 q k
+      subst (λ (u : Option WrittenCall). CallIn text (filled_by u i n (filled_from text body n is) (filled_from text body (suc n) is)) (count_by u (fillings text body is)) n 0 q k
       (handed is) (body k) (wanted_by (body k))) (sym z) (by (wanted_by (body k)) (x ∙ z))
     where
-      by : (w : Wanting) → laws.written_in text body i is ≡ if_wanted text (body k) q (handed is) w
+      by : (w : Option Wanted) → laws.written_in text body i is ≡ if_wanted text (body k) q (handed is) w
           → CallIn text (filled_by (if_wanted text (body k) q (handed is) w) i n (filled_from text body n is) (filled_from text body (suc n) is))
           (count_by (if_wanted text (body k) q (handed is) w) (fillings text body is)) n 0 q k (handed is) (body k) w
-      by wanting.Nothing a = e
-      by (wanting.Amount f p) a =
-          let v = written_for text (body k) (handed is) p in
+      by None a = e
+      by (Some w) a =
+          let v = written_for text (body k) (handed is) w.name in
           let m : n ≡ n + 0 = omega arith in (
             0,
             omega arith,
             seen_renamed n i e ∙ ap (Calls q) m,
-            first_declared q f v (filled_from text body (suc n) is).more (written_small text body i is (handed_small is h) a) (fillings_from text body (suc n) is h),
+            first_declared q w.form v (filled_from text body (suc n) is).more (written_small text body i is (handed_small is h) a) (fillings_from text body (suc n) is h),
           )
 
   -- a call after the first item
-  call_later : (n : ℕ) (i : Item) (is : List Item) (j q k : ℕ) (ns : List ℕ) (b : List Item) (w : Wanting)
-      → ((m : ℕ) → CallIn text (filled_from text body m is) (fillings text body is) m j q k ns b w) → (y : WrittenCall)
+  call_later : (n : ℕ) (i : Item) (is : List Item) (j q k : ℕ) (ns : List ℕ) (b : List Item) (w : Option Wanted)
+      → ((m : ℕ) → CallIn text (filled_from text body m is) (fillings text body is) m j q k ns b w) → (y : Option WrittenCall)
       → CallIn text (filled_by y i n (filled_from text body n is) (filled_from text body (suc n) is)) (count_by y (fillings text body is)) n (suc j) q k ns b w
-  call_later n i is j q k ns b wanting.Nothing rest call.Nothing = rest n
-  call_later n i is j q k ns b wanting.Nothing rest (call.Amount q' g v) = rest (suc n)
-  call_later n i is j q k ns b (wanting.Amount f p) rest call.Nothing = rest n
-  call_later n i is j q k ns b (wanting.Amount f p) rest (call.Amount q' g v) =
+  call_later n i is j q k ns b None rest None = rest n
+  call_later n i is j q k ns b None rest (Some y) = rest (suc n)
+  call_later n i is j q k ns b (Some w) rest None = rest n
+  call_later n i is j q k ns b (Some w) rest (Some y) =
       let r = rest (suc n) in
       let l = r.1 in
       let m : suc n + r.0 ≡ n + suc r.0 = omega arith in
-      (suc r.0, omega arith, r.2 ∙ ap (Calls q) m, next_declared q' g v (filled_from text body (suc n) is).more r.0 ∙ r.3)
+      (suc r.0, omega arith, r.2 ∙ ap (Calls q) m, next_declared y.place y.form y.number (filled_from text body (suc n) is).more r.0 ∙ r.3)
 
   pub call_at : (n : ℕ) (is : List Item) → Each Handy is → (j q k : ℕ) → j < length is → seen (one_of is j) ≡ Calls q k
       → CallIn text (filled_from text body n is) (fillings text body is) n j q k (handed (drop (suc j) is)) (body k) (wanted_by (body k))
@@ -329,13 +327,13 @@ module _ (text : List ℕ) (js : List Item) (v : FormedText js) (m : AllMean (de
         let b : s.kind ≡ r.kind = sym (s.named one) ∙ ap (λ (ds : List Named). (get_or ds k one).kind) (sym (alike_declared (alike text js v))) ∙ r.named one in
         subst (λ (x : Kind). Body x s.body) (b ∙ a) s.shape
 
-    by_wanting : (w : Wanting) → wanted_by (after js k) ≡ w
+    by_wanting : (w : Option Wanted) → wanted_by (after js k) ≡ w
         → CallIn text (filling text js v) (filled text js v) (length (declared js)) j q k numbers (after js k) w
         → AsWanted text (after js k) numbers (stands v.formed k below).body w
         → (c : ℕ) × (seen (one_of (filled_in text js) j) ≡ Calls q c) × (declaration_at filled_text c ≡ written_retuning text js k numbers)
-    by_wanting wanting.Nothing x c a =
+    by_wanting None x c a =
         (k, ap seen (still j l) ∙ c, own_parts text js v k below numbers shape ∙ sym a ∙ sym (written_parts text js v k below numbers shape))
-    by_wanting (wanting.Amount f p) x c a =
+    by_wanting (Some w) x c a =
         let r = filling text js v in
         let n = length (declared js) in
         let z : length (program_of r.items) + c.0 ≡ n + c.0 = omega (arith, items_program text js v) in (
