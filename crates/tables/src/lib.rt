@@ -44,7 +44,7 @@ pub const CODES: usize = ORDERS_AT + ORDER_WIDTH * ORDERS;
 
 // The forms of rows.
 // Kept as it is: lent tables may have any number as a form, and the test of validity asks for ranges of forms; an enum would want a match from the number to
-// it before each of those matches.
+// it before each of those matches. So would those for the codes below.
 pub const UNUSED_FORM: u32 = 0;
 
 pub const INTERVAL_FORM: u32 = 1;

@@ -378,7 +378,8 @@ fn are_in_bounds(kinds: &[u16], numbers: &[i32], bounds: Bounds) -> bool
     ok
 }
 
-// Whether each of a block is x. (With no way out of the loop they go many at once.)
+// Whether each of a block is x.
+// Kept as it is: by the library's `all`, with a way out at each, a run of zeros takes three instructions a number; by this loop it takes one for two.
 fn is_block_of<T: Copy + PartialEq>(block: &[T], x: T) -> bool
     ensures { result ≡ list_all (λ y. T.eq y x) block.now }
 {
