@@ -58,7 +58,8 @@ pub struct Head {
     pub value: u8,
 }
 
-// What a line asks: its frame, as far as code needs it. A bad frame is answered as the others are.
+// What a line asks: its frame, as far as code needs it.
+// Kept as it is: a bad frame is one of six kinds, and is answered as the others are.
 #[derive(Clone, Copy)]
 pub enum Decoded {
     Bad,

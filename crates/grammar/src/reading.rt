@@ -114,6 +114,7 @@ fn read_symbols(text: &[u8], next: &[u8], acts: &[u8], items: &mut [Item]) -> Re
     let mut node = BEGIN;
     let mut at = 0;
     let mut count = 0;
+    // Kept as it is: it goes from node to node, and only some steps give an item.
     while node != FINISH {
         let symbol = reader::find_symbol(text, at);
         let terminal = terminal_of(text, symbol);

@@ -44,6 +44,7 @@ pub struct Chord {
 }
 
 // The desk after a frame, the number, and how many bytes of the buffer are the answer.
+// Kept as it is, with `Told` and `Stepped`: whatever its number, a frame has an answer and a desk after it (`Gives`), so no Result says it.
 #[derive(Clone, Copy)]
 pub struct Answered {
     pub desk: Desk,

@@ -60,6 +60,7 @@ fn load_from(file: &mut impl Read, text: &mut [u8]) -> io::Result<usize>
     ensures { Within result text.old }
 {
     let mut n: usize = 0;
+    // Kept as it is: each read brings as many bytes as it can.
     while n < text.len() {
         let more = read_some(file, &mut text[n..])?;
         if more == 0 {
