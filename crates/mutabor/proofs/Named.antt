@@ -7,12 +7,12 @@ use native.Mathlib.Omega.{arith}
 use lib.ListN.{length, take}
 use lib.Seq.{take_all}
 use Rattle.limits.specs.Limits.{most_rows}
+use Rattle.std.specs.Prelude.{Ok}
 use Rattle.status.specs.Status.{done}
 use Rattle.grammar.specs.declared.Item.{Item}
 use Rattle.grammar.specs.Reading.{read_items}
 use Rattle.names.specs.Names.{declared, meanings}
 use Rattle.names.specs.Inner.{beginnings, distinct, BothPasses}
-use Rattle.names.specs.declared.Naming.{Naming}
 use Rattle.names.proofs.Lists.{begun_taken}
 use Rattle.names.proofs.Meanings.{Accepted, accepted}
 use Rattle.placeholders.specs.Filling.{settled}
@@ -29,10 +29,10 @@ use Rattle.mutabor.specs.Reading.{by_verdict, Leaves}
 use Rattle.mutabor.specs.Inner.{Resolved}
 use Rattle.mutabor.proofs.Steps.{if_zero_holds}
 
-module _ (text : List ℕ) (is : List Item) {names starts : List ℕ} {is' : List Item} {names' starts' : List ℕ} {r : Naming}
-    (b : BothPasses text is names starts r is' names' starts') (h : r.number ≡ done) where
+module _ (text : List ℕ) (is : List Item) {names starts : List ℕ} {is' : List Item} {names' starts' : List ℕ} {n : ℕ}
+    (b : BothPasses text is names starts (Ok n) is' names' starts') where
   meant : (meanings text is).number ≡ done
-  meant = sym b.number ∙ h
+  meant = b.told.0
 
   js : List Item
   js = (meanings text is).items
@@ -44,23 +44,23 @@ module _ (text : List ℕ) (is : List Item) {names starts : List ℕ} {is' : Lis
   unfolding js
   left = b.left ∙ known.left
 
-  kept : r.declarations ≡ length (declared is)
+  kept : n ≡ length (declared is)
   kept = b.count ∙ known.kept
 
   same_beginnings : beginnings js ≡ beginnings is
   unfolding js
   same_beginnings = known.settles.same_starts 0
 
-  begun : take r.declarations starts' ≡ beginnings js
+  begun : take n starts' ≡ beginnings js
   begun =
-      let n = as_many 0 is in
-      let d : distinct text is ≡ length (beginnings is) = known.kept ∙ sym n in
+      let m = as_many 0 is in
+      let d : distinct text is ≡ length (beginnings is) = known.kept ∙ sym m in
       ap (λ (k : ℕ). take k starts') b.count ∙ ap (take (distinct text is)) b.begun ∙ begun_taken (beginnings is) starts (distinct text is) (omega arith)
       ∙ take_all (distinct text is) (beginnings is) (omega arith) ∙ sym same_beginnings
 
   -- the items with their meanings
   module _ (f : (read_items text).items ≡ is) (g : (read_items text).number ≡ done) where
-    pub resolved_now : (m : length starts' ≡ most_rows) → Resolved text is' starts' r.declarations
+    pub resolved_now : (m : length starts' ≡ most_rows) → Resolved text is' starts' n
     unfolding js
     resolved_now m =
         let few = declared_few text (meanings text is).items (formed_meant text is (subst FormedText f (read_formed text g)) meant) in

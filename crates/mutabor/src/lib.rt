@@ -130,15 +130,13 @@ fn take_items(
 {
     let mut declared = [0u32; MOST_DECLARATIONS];
     let mut starts = [0u32; ROWS];
-    let named = resolve_names(text, &mut items[..count], &mut declared, &mut starts);
-    if named.number != DONE {
-        return TextReading {
-            number: named.number,
-            place: named.place,
-        };
+    match resolve_names(text, &mut items[..count], &mut declared, &mut starts) {
+        Ok(n) => take_names(text, items, count, &mut starts, n, numbers, codes),
+        Err(wrong_name) => TextReading {
+            number: wrong_name.reason.number(),
+            place: wrong_name.place,
+        },
     }
-    let n = named.declarations;
-    take_names(text, items, count, &mut starts, n, numbers, codes)
 }
 
 // Reads the symbols (2, 3, 4, 9), and goes on with the items.
