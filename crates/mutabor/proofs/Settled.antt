@@ -15,7 +15,7 @@ use Rattle.names.specs.Names.{declared, meanings}
 use Rattle.names.specs.Inner.{beginnings}
 use Rattle.names.proofs.Meanings.{AllMean, accepted}
 use Rattle.placeholders.specs.declared.Settling.{Settling}
-use Rattle.std.specs.Prelude.{Option, None}
+use Rattle.std.specs.Prelude.{Option, Some, None}
 use Rattle.placeholders.specs.Placeholders.{fault_of}
 use Rattle.placeholders.specs.Filling.{filled_in, settled}
 use Rattle.placeholders.specs.Inner.{Roomy, left_by, Settles}

@@ -11,34 +11,27 @@ use Rattle.std.specs.Prelude.{Option, Some, None, Ok, Err}
 use Rattle.status.specs.declared.Reason.TheVariants.{NameTwice}
 use Rattle.grammar.specs.declared.Kind.{Kind}
 use Rattle.grammar.specs.declared.Item.{Item}
+use Rattle.grammar.specs.declared.Item.TheVariants as item
 use Rattle.grammar.specs.Reading.{most_bytes}
-use Rattle.names.specs.declared.Role.{Role}
-use Rattle.names.specs.declared.Role.TheVariants as role
 use Rattle.names.specs.Parts.{Part, declares, gives, uses, says, part}
 use Rattle.names.specs.Names.{Named, named_by, declared, bearer_of, no_repeat, repeat_at, twice_from}
-use Rattle.names.specs.Inner.{role_of, packed, named_of, Kept, beginning_by, beginnings_from, beginnings, distinct_from, begun_with, InText, FirstPass}
+use Rattle.names.specs.Inner.{packed, named_of, Kept, beginning_by, beginnings_from, beginnings, distinct_from, begun_with, InText, FirstPass}
 use Rattle.names.proofs.Searching.{no_repeat_at}
 use Rattle.names.proofs.Marks.{kept_names, kept_now}
+use Rattle.names.proofs.PartsTold.{declared_part}
 use Rattle.names.proofs.Lists.{head_fits, head_rest, head_taken, here, begun_set, drop_map}
 
--- ---- what an item's role tells
+-- ---- an item that declares no name
 
-role_declares : (q : Part) {k : Kind} {p : ℕ} → role_of q ≡ role.Declares k p → q ≡ declares k p
-role_declares (declares k p) e = cc
-role_declares (gives g a b) e = let z : ◌≡◌ {A = ℕ} 0 1 = cc in absurd (omega arith)
-role_declares (uses u a p) e = let z : ◌≡◌ {A = ℕ} 0 1 = cc in absurd (omega arith)
-role_declares (says m) e = let z : ◌≡◌ {A = ℕ} 0 1 = cc in absurd (omega arith)
-
--- an item that declares no name
 NoName : Part → Type 0
 NoName q = ((ds : List Named) → named_by q ds ≡ ds) × ((i : ℕ) (xs : List ℕ) → beginning_by i q xs ≡ xs)
 
-role_other : (q : Part) → ((k : Kind) (p : ℕ) → role_of q ≡ role.Declares k p → ⊥) → NoName q
+no_name : (q : Part) → ((k : Kind) (p : ℕ) → q ≡ declares k p → ⊥) → NoName q
 unfolding NoName
-role_other (declares k p) h = absurd (h k p refl)
-role_other (gives g a b) h = (λ ds. refl, λ i xs. refl)
-role_other (uses u a p) h = (λ ds. refl, λ i xs. refl)
-role_other (says m) h = (λ ds. refl, λ i xs. refl)
+no_name (declares k p) h = absurd (h k p refl)
+no_name (gives g a b) h = (λ ds. refl, λ i xs. refl)
+no_name (uses u a p) h = (λ ds. refl, λ i xs. refl)
+no_name (says m) h = (λ ds. refl, λ i xs. refl)
 
 -- ---- the declarations before the n-th, and those from it on
 
@@ -145,16 +138,16 @@ module _ (text : List ℕ) (is : List Item) (names₀ starts₀ : List ℕ) wher
         let e : distinct_from text [] (declared is) ≡ n = omega arith in
         record { told = (rw t, rw t); count = sym e; kept = rw e p.kept; begun = rw e p.begun }
 
-    -- the item x that stands here has the role r
-    module _ (h : i < length is) (none : Item) {r : Role} (e : r ≡ role_of (part (get_or is i none))) where
+    -- the item that stands here
+    module _ (h : i < length is) (none : Item) where
       abbrev after : List Item
       after = drop (i + 1) is
 
       -- it declares nothing
-      pub passed_on : ((k : Kind) (q : ℕ) → r ≡ role.Declares k q → ⊥) → Passed l m n (i + 1)
+      pub passed_on : ((k : Kind) (q : ℕ) → get_or is i none ≡ item.Declared k q → ⊥) → Passed l m n (i + 1)
       unfolding declared beginnings_from NoName
       passed_on o =
-          let w = role_other (part (get_or is i none)) (λ k q g. o k q (e ∙ g)) in
+          let w = no_name (part (get_or is i none)) (λ k q e. o k q (declared_part (get_or is i none) e)) in
           let s : declared (drop i is) ≡ declared after = ap declared (here is i none h) ∙ w.0 (declared after) in
           let b : beginnings_from i (drop i is) ≡ beginnings_from (i + 1) after =
           ap (beginnings_from i) (here is i none h) ∙ w.1 i (beginnings_from (suc i) after) ∙ ap (λ j. beginnings_from j after) (sym (add-one i)) in
@@ -173,18 +166,18 @@ module _ (text : List ℕ) (is : List Item) (names₀ starts₀ : List ℕ) wher
           }
 
       -- it declares a name of the kind k at the place q
-      module _ {k : Kind} {q : ℕ} (g : r ≡ role.Declares k q) where
+      module _ {k : Kind} {q : ℕ} (g : get_or is i none ≡ item.Declared k q) where
         names_here : drop n (declared is) ≡ record { kind = k; place = q } ∷ declared after
         unfolding declared
         names_here =
             p.names ∙ ap declared (here is i none h)
-            ∙ ap (λ a. named_by a (declared after)) (role_declares (part (get_or is i none)) (sym e ∙ g))
+            ∙ ap (λ a. named_by a (declared after)) (ap part g)
 
         starts_here : drop n (beginnings is) ≡ i ∷ beginnings_from (i + 1) after
         unfolding beginnings_from
         starts_here =
             p.starts ∙ ap (beginnings_from i) (here is i none h)
-            ∙ ap (λ a. beginning_by i a (beginnings_from (suc i) after)) (role_declares (part (get_or is i none)) (sym e ∙ g))
+            ∙ ap (λ a. beginning_by i a (beginnings_from (suc i) after)) (ap part g)
             ∙ ap (λ j. i ∷ beginnings_from j after) (sym (add-one i))
 
         near_here : InText (record { kind = k; place = q } ∷ declared after)

@@ -2,6 +2,7 @@ pub mod Searching
 pub mod Lists
 pub mod Marks
 pub mod Chains
+pub mod PartsTold
 pub mod FirstPass
 pub mod SecondPass
 pub mod BothPasses

@@ -1,8 +1,9 @@
 -- Laws of the second pass over the items: what has become of those in front of an item.
 -- Assumes nothing.
 use Rattle.std.specs.Prelude.{Option, Some, None, Ok, Err}
+use Rattle.std.proofs.lemmas.Option.{none-some, same_Some}
 use Prim.Native.Nat.{ℕ, suc, ◌+◌, ◌≤◌, ◌<◌}
-use mathlib.Core.Path.{◌≡◌, refl, sym, ◌∙◌, ap, subst}
+use mathlib.Core.Path.{◌≡◌, refl, sym, ◌∙◌, ap}
 use mathlib.Core.List.{List, [], ◌∷◌, ◌++◌}
 use native.Mathlib.Omega.{arith}
 use lib.ListN.{length, get_or, take, drop, set, length-set, drop_of_length-le, take-append-drop}
@@ -10,17 +11,15 @@ use Rattle.status.specs.Status.{done, name_not_declared}
 use Rattle.status.specs.declared.Reason.TheVariants.{NameNotDeclared}
 use Rattle.symbols.specs.Names.{name_at}
 use Rattle.grammar.specs.declared.Item.{Item}
-use Rattle.grammar.specs.declared.Item.TheVariants as item
 use Rattle.grammar.specs.Items.{with_place}
-use Rattle.names.specs.declared.Role.{Role}
-use Rattle.names.specs.declared.Role.TheVariants as role
 use Rattle.names.specs.declared.Scope.{Scope}
 use Rattle.names.specs.Parts.{Part, declares, gives, uses, says, part, Use, add, subtract, base, position, start, order, trigger}
 use Rattle.names.specs.Names.{Named, called_in, meant, numbered, Resolved, all, missing, and_then, if_found, resolved_by, resolved, unless_missing}
-use Rattle.names.specs.Inner.{scope, role_of, kinds_in, begun_with, if_called, rewritten_by, rewritten, SecondPass}
+use Rattle.names.specs.Inner.{scope, used_name, kinds_in, begun_with, if_called, rewritten_by, rewritten, SecondPass}
+use Rattle.names.proofs.PartsTold.{numbered_part}
 use Rattle.names.proofs.Lists.{here, head_at, head_rest, begun_set, begun_same, begun_all, begun_at}
 
--- ---- what an item's role tells
+-- ---- what the use of a name tells
 
 kinds_meant : (u : Use) → kinds_in (scope u) ≡ meant u
 kinds_meant add = refl
@@ -38,13 +37,13 @@ record Using (q : Part) (s : Scope) (p : ℕ) : Type 0 where
   is : q ≡ uses use' amount p
   meaning : kinds_in s ≡ meant use'
 
-role_uses : (q : Part) {s : Scope} {p : ℕ} → role_of q ≡ role.Uses s p → Using q s p
-role_uses (declares k p) e = let z : ◌≡◌ {A = ℕ} 0 1 = cc in absurd (omega arith)
-role_uses (gives g a b) e = let z : ◌≡◌ {A = ℕ} 0 1 = cc in absurd (omega arith)
-role_uses (uses u a p) {s} e =
-    let f : s ≡ scope u = cc in
-    record { use' = u; amount = a; is = cc; meaning = ap kinds_in f ∙ kinds_meant u }
-role_uses (says m) e = let z : ◌≡◌ {A = ℕ} 0 1 = cc in absurd (omega arith)
+name_used : (q : Part) {s : Scope} {p : ℕ} → used_name q ≡ Some (s, p) → Using q s p
+name_used (declares k p) e = absurd (none-some _ e)
+name_used (gives g a b) e = absurd (none-some _ e)
+name_used (uses u a p) e =
+    let f = same_Some _ _ e in
+    record { use' = u; amount = a; is = ap (λ x. uses u a x.1) f; meaning = ap (λ x. kinds_in x.0) (sym f) ∙ kinds_meant u }
+name_used (says m) e = absurd (none-some _ e)
 
 module _ (text : List ℕ) (ds : List Named) where
   -- an item that uses no name
@@ -53,52 +52,14 @@ module _ (text : List ℕ) (ds : List Named) where
       ((i : Item) (is rest : List Item) → rewritten_by text ds q i is rest ≡ i ∷ rest)
       × ((i : Item) (rest : Resolved) → resolved_by text ds i q rest ≡ and_then i rest)
 
-  role_stays : (q : Part) → ((s : Scope) (p : ℕ) → role_of q ≡ role.Uses s p → ⊥) → Stays q
+  unused : (q : Part) → used_name q ≡ None → Stays q
   unfolding Stays
-  role_stays (declares k p) h = (λ i is rest. refl, λ i rest. refl)
-  role_stays (gives g a b) h = (λ i is rest. refl, λ i rest. refl)
-  role_stays (uses u a p) h = absurd (h (scope u) p refl)
-  role_stays (says m) h = (λ i is rest. refl, λ i rest. refl)
+  unused (declares k p) h = (λ i is rest. refl, λ i rest. refl)
+  unused (gives g a b) h = (λ i is rest. refl, λ i rest. refl)
+  unused (uses u a p) h = absurd (none-some _ (sym h))
+  unused (says m) h = (λ i is rest. refl, λ i rest. refl)
 
--- ---- an item that uses a name, and the same with a number in its place
-
-Rebuilt : Part → Item → Type 0
-Rebuilt (declares k p) x = Unit
-Rebuilt (gives g a b) x = Unit
-Rebuilt (uses u a p) x = numbered u a p ≡ x
-Rebuilt (says m) x = Unit
-
-rebuilt : (x : Item) → Rebuilt (part x) x
-unfolding Rebuilt
-rebuilt (item.Declared a b) = tt
-rebuilt (item.Ratio a b) = tt
-rebuilt (item.Root a b) = tt
-rebuilt (item.Add a b) = refl
-rebuilt (item.Subtract a b) = refl
-rebuilt (item.Frequency a) = tt
-rebuilt (item.Base a) = refl
-rebuilt (item.AnchorKey a) = tt
-rebuilt item.MutedPosition = tt
-rebuilt item.KeptPosition = tt
-rebuilt (item.TonePosition a) = refl
-rebuilt item.AnchorKept = tt
-rebuilt (item.Amount a b) = tt
-rebuilt item.WidthKept = tt
-rebuilt item.Period = tt
-rebuilt item.Onward = tt
-rebuilt (item.Letter a) = tt
-rebuilt (item.Start a b) = refl
-rebuilt (item.Order a b) = refl
-rebuilt (item.Trigger a) = refl
-rebuilt (item.Key a) = tt
-rebuilt (item.StarredKey a) = tt
-rebuilt (item.AmountName a b) = tt
-rebuilt (item.Placeholder a) = tt
-rebuilt (item.Argument a) = tt
-
-pub numbered_part : (x : Item) {u : Use} {a p : ℕ} → part x ≡ uses u a p → numbered u a p ≡ x
-unfolding Rebuilt
-numbered_part x e = subst (λ q. Rebuilt q x) e (rebuilt x)
+-- ---- the same item with a number in its name's place
 
 -- another place in it
 replaced : (u : Use) (a n p : ℕ) → with_place (numbered u a p) n ≡ numbered u a n
@@ -173,7 +134,7 @@ module _ (text : List ℕ) (ds : List Named) (is : List Item) where
           left = p.held ∙ begun_all (rewritten text ds is) is i (omega arith) h;
         }
 
-    -- the item that stands here has the role r
+    -- the item that stands here uses r
     module _ (h : i < length is) (none : Item) where
       short : i ≤ length (rewritten text ds is)
       short = omega (arith, length_rewritten text ds is)
@@ -183,16 +144,16 @@ module _ (text : List ℕ) (ds : List Named) (is : List Item) where
           ap (λ t. get_or t i none) p.held
           ∙ begun_at (rewritten text ds is) is i none short h
 
-      module _ {r : Role} (e : r ≡ role_of (part (get_or is i none))) where
+      module _ {r : Option (Scope × ℕ)} (e : r ≡ used_name (part (get_or is i none))) where
         abbrev after : List Item
         after = drop (i + 1) is
 
         -- it uses no name
-        pub replacing_on : ((s : Scope) (q : ℕ) → r ≡ role.Uses s q → ⊥) → Replacing l (i + 1)
+        pub replacing_on : r ≡ None → Replacing l (i + 1)
         unfolding rewritten resolved Stays
         replacing_on o =
             let x = get_or is i none in
-            let w = role_stays text ds (part x) (λ s q g. o s q (e ∙ g)) in
+            let w = unused text ds (part x) (sym e ∙ o) in
             let y : drop i (rewritten text ds is) ≡ x ∷ rewritten text ds after =
             p.rest ∙ ap (rewritten text ds) (here is i none h) ∙ w.0 x after (rewritten text ds after) in
             let m : missing_in (resolved text ds (drop i is)) ≡ missing_in (resolved text ds after) =
@@ -207,9 +168,9 @@ module _ (text : List ℕ) (ds : List Named) (is : List Item) where
             }
 
         -- it uses a name at the place q
-        module _ {s : Scope} {q : ℕ} (g : r ≡ role.Uses s q) {f : Option ℕ} (c : f ≡ called_in text ds (kinds_in s) (name_at text q)) where
+        module _ {s : Scope} {q : ℕ} (g : r ≡ Some (s, q)) {f : Option ℕ} (c : f ≡ called_in text ds (kinds_in s) (name_at text q)) where
           the_use : Using (part (get_or is i none)) s q
-          the_use = role_uses (part (get_or is i none)) (sym e ∙ g)
+          the_use = name_used (part (get_or is i none)) (sym e ∙ g)
 
           called : f ≡ called_in text ds (meant the_use.use') (name_at text q)
           called = c ∙ ap (λ ks. called_in text ds ks (name_at text q)) the_use.meaning

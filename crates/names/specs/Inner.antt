@@ -9,8 +9,6 @@ pub use Rattle.limits.specs.Limits.{most_bytes, most_declarations}
 use Rattle.status.specs.declared.Refusal.{Refusal}
 use Rattle.status.specs.Reasons.{number_of}
 use Rattle.status.specs.Status.{done, name_twice}
-use Rattle.names.specs.declared.Role.{Role}
-use Rattle.names.specs.declared.Role.TheVariants as role
 use Rattle.names.specs.declared.Scope.{Scope}
 use Rattle.names.specs.declared.Scope.TheVariants.{Intervals, Tones, Starts, Orders, Harmonies}
 use Rattle.names.specs.Parts.{Part, declares, gives, uses, says, part, Use, add, subtract, base, position, start, order, trigger}
@@ -27,11 +25,12 @@ scope start = Starts
 scope order = Orders
 scope trigger = Harmonies
 
-abbrev pub role_of : Part → Role
-role_of (declares k p) = role.Declares k p
-role_of (gives g a b) = role.Nothing
-role_of (uses u a p) = role.Uses (scope u) p
-role_of (says m) = role.Nothing
+-- the use of a name: its scope and the name's place
+abbrev pub used_name : Part → Option (Scope × ℕ)
+used_name (declares k p) = None
+used_name (gives g a b) = None
+used_name (uses u a p) = Some (scope u, p)
+used_name (says m) = None
 
 -- the kinds that are meant, in their order
 abbrev pub kinds_in : Scope → List Kind

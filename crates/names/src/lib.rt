@@ -9,7 +9,7 @@ ghost use Rattle.grammar.specs.Reading.{most_bytes};
 ghost use Rattle.grammar.specs.Items.{most_items};
 ghost use Rattle.names.specs.Parts.{part};
 ghost use Rattle.names.specs.Names.{bearer_of, called_in};
-ghost use Rattle.names.specs.Inner.{role_of, tag_of, mark_of, mark_room, packed, unpacked, named_of, Kept, Chained, kinds_in, Declarable, Room, FirstPass, SecondPass, BothPasses, most_declarations};
+ghost use Rattle.names.specs.Inner.{used_name, tag_of, mark_of, mark_room, packed, unpacked, named_of, Kept, Chained, kinds_in, Declarable, Room, FirstPass, SecondPass, BothPasses, most_declarations};
 
 use grammar::{Item, Kind};
 use limits::MOST_DECLARATIONS;
@@ -45,27 +45,19 @@ enum Scope {
     Harmonies,
 }
 
-// What an item does with a name, and the name's place.
-#[derive(Clone, Copy)]
-enum Role {
-    Nothing,
-    Declares(Kind, u32),
-    Uses(Scope, u32),
-}
-
-fn role_of(item: Item) -> Role
-    ensures { result ≡ role_of (part item) }
+// What the name that an item uses may mean, and the name's place.
+fn used_name(item: Item) -> Option<(Scope, u32)>
+    ensures { result ≡ used_name (part item) }
 {
     match item {
-        Item::Declared(kind, place) => Role::Declares(kind, place),
-        Item::Add(_, place) => Role::Uses(Scope::Intervals, place),
-        Item::Subtract(_, place) => Role::Uses(Scope::Intervals, place),
-        Item::Base(place) => Role::Uses(Scope::Tones, place),
-        Item::TonePosition(place) => Role::Uses(Scope::Tones, place),
-        Item::Start(_, place) => Role::Uses(Scope::Starts, place),
-        Item::Order(_, place) => Role::Uses(Scope::Orders, place),
-        Item::Trigger(place) => Role::Uses(Scope::Harmonies, place),
-        _ => Role::Nothing,
+        Item::Add(_, place) => Some((Scope::Intervals, place)),
+        Item::Subtract(_, place) => Some((Scope::Intervals, place)),
+        Item::Base(place) => Some((Scope::Tones, place)),
+        Item::TonePosition(place) => Some((Scope::Tones, place)),
+        Item::Start(_, place) => Some((Scope::Starts, place)),
+        Item::Order(_, place) => Some((Scope::Orders, place)),
+        Item::Trigger(place) => Some((Scope::Harmonies, place)),
+        _ => None,
     }
 }
 
@@ -222,7 +214,7 @@ fn declare_all(
 {
     let mut n = 0;
     for i in 0..items.len() {
-        let Role::Declares(kind, place) = role_of(items[i]) else {
+        let Item::Declared(kind, place) = items[i] else {
             continue;
         };
         let found = find_declaration(text, &declared[..n], heads, links, kind, place as usize);
@@ -253,7 +245,7 @@ fn resolve_uses(
     ensures { SecondPass text.now (named_of declared.now) items.old result items.new }
 {
     for i in 0..items.len() {
-        let Role::Uses(scope, place) = role_of(items[i]) else {
+        let Some((scope, place)) = used_name(items[i]) else {
             continue;
         };
         let Some(number) = find_meaning(text, declared, heads, links, scope, place as usize) else {

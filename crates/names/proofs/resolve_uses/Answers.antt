@@ -4,7 +4,7 @@ use native.Mathlib.Omega.{arith}
 use lib.ListN.{set, length-map}
 use Rattle.grammar.specs.Items.{with_place}
 use Rattle.names.specs.Parts.{part}
-use Rattle.names.specs.Inner.{role_of, unpacked}
+use Rattle.names.specs.Inner.{used_name, unpacked}
 use Rattle.names.proofs.Searching.{called_found}
 use Rattle.names.proofs.SecondPass.{replacing_none, replacing_all, item_here, replacing_on, replacing_stop, replacing_more}
 use Rattle.names.proofs.resolve_uses.Goals as goal
@@ -15,23 +15,23 @@ loop-i-init c =
 
 pub loop-i-preserved-in_default : goal.loop-i-preserved-in_default
 loop-i-preserved-in_default c =
-    let e = c.role_of.ensures ∙ ap (λ x. role_of (part x)) (item_here _ _ _ c.loop-i.invariant c.loop-i-test.true _) in
-    replacing_on _ _ _ c.loop-i.invariant c.loop-i-test.true _ e c.in_default.not-Uses
+    let e = c.used_name.ensures ∙ ap (λ x. used_name (part x)) (item_here _ _ _ c.loop-i.invariant c.loop-i-test.true _) in
+    replacing_on _ _ _ c.loop-i.invariant c.loop-i-test.true _ e c.in_default.is
 
 pub returns-in_default-find_meaning : goal.returns-in_default-find_meaning
 returns-in_default-find_meaning c =
-    let e = c.role_of.ensures ∙ ap (λ x. role_of (part x)) (item_here _ _ _ c.loop-i.invariant c.loop-i-test.true _) in
-    replacing_stop _ _ _ c.loop-i.invariant c.loop-i-test.true _ e c.in-Uses.is c.find_meaning.ensures c.in_default-find_meaning.is
+    let e = c.used_name.ensures ∙ ap (λ x. used_name (part x)) (item_here _ _ _ c.loop-i.invariant c.loop-i-test.true _) in
+    replacing_stop _ _ _ c.loop-i.invariant c.loop-i-test.true _ e c.in-Some.is c.find_meaning.ensures c.in_default-find_meaning.is
 
 pub overflow_cast-number : goal.overflow_cast-number
 overflow_cast-number c =
-    let w = (called_found _ _ _ _ (sym c.find_meaning.ensures ∙ c.in-Some.is)).below in
+    let w = (called_found _ _ _ _ (sym c.find_meaning.ensures ∙ c.in-Some-find_meaning.is)).below in
     omega (arith, length-map c.args.declared.now unpacked, c.requires.chained.few)
 
 pub loop-i-preserved : goal.loop-i-preserved
 loop-i-preserved c =
-    let e = c.role_of.ensures ∙ ap (λ x. role_of (part x)) (item_here _ _ _ c.loop-i.invariant c.loop-i-test.true _) in
-    replacing_more _ _ _ c.loop-i.invariant c.loop-i-test.true _ e c.in-Uses.is c.find_meaning.ensures c.in-Some.is (ap (set c.loop-i.items c.loop-i.i) (c.with_place.ensures ∙ ap (λ x. with_place x c.in-Some.number) (item_here _ _ _ c.loop-i.invariant c.loop-i-test.true _)))
+    let e = c.used_name.ensures ∙ ap (λ x. used_name (part x)) (item_here _ _ _ c.loop-i.invariant c.loop-i-test.true _) in
+    replacing_more _ _ _ c.loop-i.invariant c.loop-i-test.true _ e c.in-Some.is c.find_meaning.ensures c.in-Some-find_meaning.is (ap (set c.loop-i.items c.loop-i.i) (c.with_place.ensures ∙ ap (λ x. with_place x c.in-Some-find_meaning.number) (item_here _ _ _ c.loop-i.invariant c.loop-i-test.true _)))
 
 pub returns : goal.returns
 returns c =

@@ -1,4 +1,4 @@
--- An item that declares or uses a name is told by its variant; every other one has no name.
+-- An item that uses a name is told by its variant; every other one uses none.
 use mathlib.Core.Path.{◌≡◌, refl}
 use mathlib.Core.List.{List, [], ◌∷◌}
 use Prim.Native.Nat.{ℕ}
@@ -8,17 +8,17 @@ use denote.Enum.Declared.{tag_of}
 use Rattle.grammar.specs.declared.Item.{Item}
 use Rattle.grammar.specs.declared.Item.TheVariants as item
 use Rattle.grammar.specs.contracts.Item as variants
-use Rattle.names.specs.declared.Role.TheVariants.{Nothing}
+use Rattle.std.specs.Prelude.{None}
 use Rattle.names.specs.Parts.{part}
-use Rattle.names.specs.Inner.{role_of}
-use Rattle.names.proofs.role_of.Goals as goal
+use Rattle.names.specs.Inner.{used_name}
+use Rattle.names.proofs.used_name.Goals as goal
 
 nameless : List ℕ
-nameless = 1 ∷ 2 ∷ 5 ∷ 7 ∷ 8 ∷ 9 ∷ 11 ∷ 12 ∷ 13 ∷ 14 ∷ 15 ∷ 16 ∷ 20 ∷ 21 ∷ 22 ∷ 23 ∷ 24 ∷ []
+nameless = 0 ∷ 1 ∷ 2 ∷ 5 ∷ 7 ∷ 8 ∷ 9 ∷ 11 ∷ 12 ∷ 13 ∷ 14 ∷ 15 ∷ 16 ∷ 20 ∷ 21 ∷ 22 ∷ 23 ∷ 24 ∷ []
 
-without : (i : Item) → OneOf nameless (tag_of variants.the_type i) → Nothing ≡ role_of (part i)
+without : (i : Item) → OneOf nameless (tag_of variants.the_type i) → None ≡ used_name (part i)
 unfolding nameless
-without (item.Declared a b) h = absurd (miss nameless 0 tt h)
+without (item.Declared a b) h = refl
 without (item.Ratio a b) h = refl
 without (item.Root a b) h = refl
 without (item.Add a b) h = absurd (miss nameless 3 tt h)
@@ -44,9 +44,6 @@ without (item.AmountName a b) h = refl
 without (item.Placeholder a) h = refl
 without (item.Argument a) h = refl
 
-pub returns-in-Declared : goal.returns-in-Declared
-returns-in-Declared c = rw c.in-Declared.is
-
 pub returns-in-Add : goal.returns-in-Add
 returns-in-Add c = rw c.in-Add.is
 
@@ -70,4 +67,4 @@ returns-in-Trigger c = rw c.in-Trigger.is
 
 pub returns-in_default : goal.returns-in_default
 unfolding nameless
-returns-in_default c = without c.args.item (opened c.in_default.in_default-own.keys9)
+returns-in_default c = without c.args.item (opened c.in_default.in_default-own.keys8)
