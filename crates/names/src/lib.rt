@@ -101,86 +101,65 @@ fn declares(text: &[u8], kept: u32, mark: u32, at: usize) -> bool
     spelling::same_name(text, (kept / MARK_ROOM) as usize, at)
 }
 
-// The declaration that is of the kind and has the name at `at`: it is in the chain of the bucket of its mark.
-fn find_declaration(
-    text: &[u8],
-    declared: &[u32],
-    heads: &[u16],
-    links: &[u16],
-    kind: Kind,
-    at: usize,
-) -> Option<usize>
-    requires kept { Kept text.now declared.now }
-    requires chained { Chained declared.now heads.now links.now }
-    ensures { result ≡ bearer_of text.now (named_of declared.now) kind (name_at text.now at) }
-{
-    let mark = mark_of(text, kind, at);
-    let mut next = heads[mark as usize % BUCKETS];
-    while next != 0 {
-        let row = next as usize - 1;
-        if declares(text, declared[row], mark, at) {
-            return Some(row);
+// The declarations of a text that are kept, and the chains of their buckets.
+#[derive(Clone, Copy)]
+struct Declarations<'a> {
+    text: &'a [u8],
+    kept: &'a [u32],
+    heads: &'a [u16],
+    links: &'a [u16],
+    ghost of_text: { Kept text.now kept.now },
+    ghost chained: { Chained kept.now heads.now links.now },
+}
+
+impl Declarations<'_> {
+    // The declaration that is of the kind and has the name at `at`: it is in the chain of the bucket of its mark.
+    fn find(self, kind: Kind, at: usize) -> Option<usize>
+        ensures { result ≡ bearer_of self.entry.text.now (named_of self.entry.kept.now) kind (name_at self.entry.text.now at) }
+    {
+        let mark = mark_of(self.text, kind, at);
+        let mut next = self.heads[mark as usize % BUCKETS];
+        while next != 0 {
+            let row = next as usize - 1;
+            if declares(self.text, self.kept[row], mark, at) {
+                return Some(row);
+            }
+            next = self.links[row];
         }
-        next = links[row];
+        None
     }
-    None
-}
 
-// The retuning of the name at `at`, else the tone system.
-fn find_start(
-    text: &[u8],
-    declared: &[u32],
-    heads: &[u16],
-    links: &[u16],
-    at: usize,
-) -> Option<usize>
-    requires kept { Kept text.now declared.now }
-    requires chained { Chained declared.now heads.now links.now }
-    ensures { result ≡ called_in text.now (named_of declared.now) (kinds_in Scope.Starts) (name_at text.now at) }
-{
-    match find_declaration(text, declared, heads, links, Kind::Retuning, at) {
-        Some(row) => Some(row),
-        None => find_declaration(text, declared, heads, links, Kind::System, at),
+    // The retuning of the name at `at`, else the tone system.
+    fn find_start(self, at: usize) -> Option<usize>
+        ensures { result ≡ called_in self.entry.text.now (named_of self.entry.kept.now) (kinds_in Scope.Starts) (name_at self.entry.text.now at) }
+    {
+        match self.find(Kind::Retuning, at) {
+            Some(row) => Some(row),
+            None => self.find(Kind::System, at),
+        }
     }
-}
 
-// The retuning or the tone system of the name at `at`, else the logic.
-fn find_order(
-    text: &[u8],
-    declared: &[u32],
-    heads: &[u16],
-    links: &[u16],
-    at: usize,
-) -> Option<usize>
-    requires kept { Kept text.now declared.now }
-    requires chained { Chained declared.now heads.now links.now }
-    ensures { result ≡ called_in text.now (named_of declared.now) (kinds_in Scope.Orders) (name_at text.now at) }
-{
-    match find_start(text, declared, heads, links, at) {
-        Some(row) => Some(row),
-        None => find_declaration(text, declared, heads, links, Kind::Logic, at),
+    // The retuning or the tone system of the name at `at`, else the logic.
+    fn find_order(self, at: usize) -> Option<usize>
+        ensures { result ≡ called_in self.entry.text.now (named_of self.entry.kept.now) (kinds_in Scope.Orders) (name_at self.entry.text.now at) }
+    {
+        match self.find_start(at) {
+            Some(row) => Some(row),
+            None => self.find(Kind::Logic, at),
+        }
     }
-}
 
-// What the name at `at` means.
-fn find_meaning(
-    text: &[u8],
-    declared: &[u32],
-    heads: &[u16],
-    links: &[u16],
-    scope: Scope,
-    at: usize,
-) -> Option<usize>
-    requires kept { Kept text.now declared.now }
-    requires chained { Chained declared.now heads.now links.now }
-    ensures { result ≡ called_in text.now (named_of declared.now) (kinds_in scope) (name_at text.now at) }
-{
-    match scope {
-        Scope::Intervals => find_declaration(text, declared, heads, links, Kind::Interval, at),
-        Scope::Tones => find_declaration(text, declared, heads, links, Kind::Tone, at),
-        Scope::Starts => find_start(text, declared, heads, links, at),
-        Scope::Orders => find_order(text, declared, heads, links, at),
-        Scope::Harmonies => find_declaration(text, declared, heads, links, Kind::Harmony, at),
+    // What the name at `at` means.
+    fn find_meaning(self, scope: Scope, at: usize) -> Option<usize>
+        ensures { result ≡ called_in self.entry.text.now (named_of self.entry.kept.now) (kinds_in scope) (name_at self.entry.text.now at) }
+    {
+        match scope {
+            Scope::Intervals => self.find(Kind::Interval, at),
+            Scope::Tones => self.find(Kind::Tone, at),
+            Scope::Starts => self.find_start(at),
+            Scope::Orders => self.find_order(at),
+            Scope::Harmonies => self.find(Kind::Harmony, at),
+        }
     }
 }
 
@@ -217,8 +196,13 @@ fn declare_all(
         let Item::Declared(kind, place) = items[i] else {
             continue;
         };
-        let found = find_declaration(text, &declared[..n], heads, links, kind, place as usize);
-        if let Some(_) = found {
+        let before = Declarations {
+            text,
+            kept: &declared[..n],
+            heads,
+            links,
+        };
+        if let Some(_) = before.find(kind, place as usize) {
             return Err(Refusal {
                 reason: Reason::NameTwice,
                 place,
@@ -233,22 +217,14 @@ fn declare_all(
 }
 
 // Replaces the place of each used name by the number of its declaration, up to the first that is not declared.
-fn resolve_uses(
-    text: &[u8],
-    items: &mut [Item],
-    declared: &[u32],
-    heads: &[u16],
-    links: &[u16],
-) -> Result<(), Refusal>
-    requires kept { Kept text.now declared.now }
-    requires chained { Chained declared.now heads.now links.now }
-    ensures { SecondPass text.now (named_of declared.now) items.old result items.new }
+fn resolve_uses(items: &mut [Item], known: Declarations<'_>) -> Result<(), Refusal>
+    ensures { SecondPass known.entry.text.now (named_of known.entry.kept.now) items.old result items.new }
 {
     for i in 0..items.len() {
         let Some((scope, place)) = used_name(items[i]) else {
             continue;
         };
-        let Some(number) = find_meaning(text, declared, heads, links, scope, place as usize) else {
+        let Some(number) = known.find_meaning(scope, place as usize) else {
             return Err(Refusal {
                 reason: Reason::NameNotDeclared,
                 place,
@@ -275,6 +251,12 @@ pub fn resolve_names(
     let mut heads = [0u16; BUCKETS];
     let mut links = [0u16; DECLARATIONS];
     let n = declare_all(text, items, declared, starts, &mut heads, &mut links)?;
-    resolve_uses(text, items, &declared[..n], &heads, &links)?;
+    let known = Declarations {
+        text,
+        kept: &declared[..n],
+        heads: &heads,
+        links: &links,
+    };
+    resolve_uses(items, known)?;
     Ok(n)
 }

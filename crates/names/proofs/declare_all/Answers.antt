@@ -33,18 +33,18 @@ pub loop-i-preserved-in_default : goal.loop-i-preserved-in_default
 loop-i-preserved-in_default c =
     (passed_on _ _ _ _ c.loop-i.invariant.0 c.loop-i-test.true _ c.in_default.not-Declared, c.loop-i.invariant.1)
 
-pub slice_bounds-find_declaration-end : goal.slice_bounds-find_declaration-end
-slice_bounds-find_declaration-end c =
+pub slice_bounds-before-end : goal.slice_bounds-before-end
+slice_bounds-before-end c =
     let r = room_here c.requires.declarable c.requires.room c.loop-i.invariant.0 c.loop-i-test.true _ c.in-Declared.is in
     omega (arith, r.in_names)
 
-pub find_declaration-found-requires : goal.find_declaration-found-requires
-find_declaration-found-requires c =
-    record { kept = passed_kept _ _ _ _ c.loop-i.invariant.0; chained = c.loop-i.invariant.1 }
+pub invariant_of-before : goal.invariant_of-before
+invariant_of-before c =
+    record { of_text = passed_kept _ _ _ _ c.loop-i.invariant.0; chained = c.loop-i.invariant.1 }
 
 pub returns-in-Some-clause-first_pass : goal.returns-in-Some-clause-first_pass
 returns-in-Some-clause-first_pass c =
-    passed_stop _ _ _ _ c.loop-i.invariant.0 c.loop-i-test.true _ c.in-Declared.is c.find_declaration-found.ensures c.in-Some.is
+    passed_stop _ _ _ _ c.loop-i.invariant.0 c.loop-i-test.true _ c.in-Declared.is c.find.ensures c.in-Some.is
 
 pub pack-requires : goal.pack-requires
 pack-requires c =
@@ -81,7 +81,7 @@ overflow_add-n c =
 pub loop-i-preserved : goal.loop-i-preserved
 loop-i-preserved c =
     let r = room_here c.requires.declarable c.requires.room c.loop-i.invariant.0 c.loop-i-test.true _ c.in-Declared.is in
-    (passed_more _ _ _ _ c.loop-i.invariant.0 c.loop-i-test.true _ c.in-Declared.is c.find_declaration-found.ensures c.in_default-found.is c.pack.ensures r.in_names r.in_starts, c.chain_row.ensures)
+    (passed_more _ _ _ _ c.loop-i.invariant.0 c.loop-i-test.true _ c.in-Declared.is c.find.ensures c.in_default-find.is c.pack.ensures r.in_names r.in_starts, c.chain_row.ensures)
 
 pub returns : goal.returns
 returns c =

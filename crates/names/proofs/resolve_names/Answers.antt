@@ -15,16 +15,16 @@ returns-in_err-n c =
     let p = err_from_is_err_and c.from_residual.result c.from_residual.ensures.1 in
     rw (p.1, p.2) (both_stop _ _ _ _ c.in_err-n.ensures.first_pass)
 
-pub slice_bounds-resolve_uses-end : goal.slice_bounds-resolve_uses-end
-slice_bounds-resolve_uses-end c =
+pub slice_bounds-known-end : goal.slice_bounds-known-end
+slice_bounds-known-end c =
     omega (arith, first_few _ _ c.in_ok-n.ensures.first_pass c.requires.declarable, c.requires.room.names, c.declare_all.auto.declared)
 
-pub slice_bounds-resolve_uses-end-2 : goal.slice_bounds-resolve_uses-end-2
-slice_bounds-resolve_uses-end-2 c =
+pub slice_bounds-known-end-2 : goal.slice_bounds-known-end-2
+slice_bounds-known-end-2 c =
     sym (length-take-le _ _ (omega (arith, first_few _ _ c.in_ok-n.ensures.first_pass c.requires.declarable, c.requires.room.names, c.declare_all.auto.declared)))
 
-pub resolve_uses-requires-clause-kept : goal.resolve_uses-requires-clause-kept
-resolve_uses-requires-clause-kept c = first_found _ _ c.in_ok-n.ensures.first_pass
+pub invariant_of-known : goal.invariant_of-known
+invariant_of-known c = record { of_text = first_found _ _ c.in_ok-n.ensures.first_pass; chained = c.in_ok-n.ensures.chained_2 }
 
 pub returns-in_err-resolve_uses : goal.returns-in_err-resolve_uses
 returns-in_err-resolve_uses c =

@@ -26,7 +26,7 @@ returns-in_default-find_meaning c =
 pub overflow_cast-number : goal.overflow_cast-number
 overflow_cast-number c =
     let w = (called_found _ _ _ _ (sym c.find_meaning.ensures ∙ c.in-Some-find_meaning.is)).below in
-    omega (arith, length-map c.args.declared.now unpacked, c.requires.chained.few)
+    omega (arith, length-map c.args.known.kept.now unpacked, c.args.known.chained.few)
 
 pub loop-i-preserved : goal.loop-i-preserved
 loop-i-preserved c =

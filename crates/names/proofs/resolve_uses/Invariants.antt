@@ -6,7 +6,7 @@ use Rattle.names.proofs.SecondPass.{Replacing}
 use Rattle.names.proofs.resolve_uses.Given as goal
 
 abbrev pub invariant-loop-i : goal.invariant-loop-i
-invariant-loop-i l = Replacing l.text (named_of l.declared) l.initial.items l.items l.i
+invariant-loop-i l = Replacing l.known.text.now (named_of l.known.kept.now) l.initial.items l.items l.i
 
 abbrev pub decreases-loop-i : goal.decreases-loop-i
 decreases-loop-i l = length l.items - l.i

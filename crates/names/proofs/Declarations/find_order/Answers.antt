@@ -3,11 +3,11 @@ use mathlib.Core.Path.{sym, ◌∙◌}
 use mathlib.Core.List.{[], ◌∷◌}
 use Rattle.grammar.specs.declared.Kind.TheVariants.{Retuning, System, Logic}
 use Rattle.names.proofs.Searching.{called_one, called_here, called_on}
-use Rattle.names.proofs.find_order.Goals as goal
+use Rattle.names.proofs.Declarations.find_order.Goals as goal
 
 pub returns-in-None : goal.returns-in-None
 returns-in-None c =
-    c.find_declaration.ensures
+    c.find.ensures
     ∙ called_one _ _ _ _
     ∙ sym (called_on _ _ _ (Retuning ∷ System ∷ []) (Logic ∷ []) (sym c.find_start.ensures ∙ c.in-None.is))
 
