@@ -6,11 +6,9 @@ use Prim.Native.Nat.{ℕ, ◌≤◌}
 use native.Mathlib.Omega.{arith}
 use lib.ListN.{length, take, drop, length-append}
 use lib.Seq.{take_at}
-use Rattle.std.specs.Prelude.{Ok, Err}
+use Rattle.std.specs.Prelude.{Result, Ok, Err}
 use Rattle.status.specs.Status.{done}
 use Rattle.status.specs.declared.Refusal.{Refusal}
-use Rattle.status.specs.Reasons.{number_of}
-use Rattle.status.proofs.ReasonNumbers.{never_done}
 use Rattle.grammar.specs.declared.Item.{Item}
 use Rattle.grammar.specs.Items.{holding}
 use Rattle.grammar.specs.Reading.{read_items, Answered}
@@ -18,14 +16,12 @@ use Rattle.names.specs.Names.{meanings}
 use Rattle.tables.specs.Layout.{Tables}
 use Rattle.program.specs.Text.{by_meaning, read_text}
 use Rattle.filling.specs.Inner.{blank}
-use Rattle.mutabor.specs.declared.TextReading.{TextReading}
 use Rattle.mutabor.specs.Reading.{by_verdict, Leaves}
 use Rattle.mutabor.proofs.Steps.{items_refused, items_read}
 
 -- the text is refused
-pub not_read : (text : List ℕ) (e : Refusal) → Answered (read_items text) (Err e) → {q : TextReading} → {after : Tables}
-    → q.number ≡ number_of e.reason → q.place ≡ e.place → after ≡ blank → Leaves (by_verdict blank (read_text text)) q after
-not_read text e w f g h = items_refused text (λ z. never_done e.reason (sym w.0 ∙ z)) (f ∙ sym w.0) (g ∙ sym w.1) h
+pub not_read : (text : List ℕ) (e : Refusal) → Answered (read_items text) (Err e) → {after : Tables} → after ≡ blank → Leaves (by_verdict blank (read_text text)) (Err e) after
+not_read text e w h = items_refused text w.0 w.1 h
 
 -- or its items are read, so many
 module _ (text : List ℕ) (items : List Item) {items' : List Item} {n : ℕ} (w : Answered (read_items text) (Ok n)) (h : items' ≡ holding (read_items text).items items) where
@@ -42,6 +38,6 @@ module _ (text : List ℕ) (items : List Item) {items' : List Item} {n : ℕ} (w
       let is = (read_items text).items in
       omega (arith, w.0, ap length h, length-append is (drop (length is) items))
 
-  module _ {q : TextReading} {after : Tables} where
+  module _ {q : Result Unit Refusal} {after : Tables} where
     pub names_meant : Leaves (by_verdict blank (by_meaning text (meanings text (take n items')))) q after → Leaves (by_verdict blank (read_text text)) q after
     names_meant x = items_read text all_read (subst (λ (l : List Item). Leaves (by_verdict blank (by_meaning text (meanings text l))) q after) (sym same_items) x)

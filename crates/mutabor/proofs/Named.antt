@@ -7,7 +7,7 @@ use native.Mathlib.Omega.{arith}
 use lib.ListN.{length, take}
 use lib.Seq.{take_all}
 use Rattle.limits.specs.Limits.{most_rows}
-use Rattle.std.specs.Prelude.{Ok}
+use Rattle.std.specs.Prelude.{Result, Ok}
 use Rattle.status.specs.Status.{done}
 use Rattle.grammar.specs.declared.Item.{Item}
 use Rattle.grammar.specs.Reading.{read_items}
@@ -24,7 +24,7 @@ use Rattle.program.proofs.ReadFormed.{read_formed}
 use Rattle.program.proofs.Numbered.{formed_meant}
 use Rattle.program.proofs.AllowedText.{declared_few}
 use Rattle.filling.specs.Inner.{blank}
-use Rattle.mutabor.specs.declared.TextReading.{TextReading}
+use Rattle.status.specs.declared.Refusal.{Refusal}
 use Rattle.mutabor.specs.Reading.{by_verdict, Leaves}
 use Rattle.mutabor.specs.Inner.{Resolved}
 use Rattle.mutabor.proofs.Steps.{if_zero_holds}
@@ -76,7 +76,7 @@ module _ (text : List ℕ) (is : List Item) {names starts : List ℕ} {is' : Lis
         }
 
     -- what is left then is what is left of the names' meanings
-    pub names_resolved : {q : TextReading} {after : Tables} → Leaves (by_verdict blank (by_settling (settled text is'))) q after
+    pub names_resolved : {q : Result Unit Refusal} {after : Tables} → Leaves (by_verdict blank (by_settling (settled text is'))) q after
         → Leaves (by_verdict blank (by_meaning text (meanings text is))) q after
     unfolding js
     names_resolved {q} {after} w =

@@ -7,15 +7,15 @@ use native.Mathlib.Omega.{arith}
 use lib.ListN.{length, take, drop, length-append}
 use lib.Seq.{take_at}
 use Rattle.limits.specs.Limits.{most_bytes}
-use Rattle.status.specs.Status.{done}
+use Rattle.status.specs.declared.Refusal.{Refusal}
 use Rattle.grammar.specs.declared.Item.{Item}
 use Rattle.grammar.specs.Items.{holding}
 use Rattle.grammar.specs.Reading.{read_items}
 use Rattle.names.specs.Names.{declared, meanings}
 use Rattle.names.specs.Inner.{beginnings}
 use Rattle.names.proofs.Meanings.{AllMean, accepted}
-use Rattle.placeholders.specs.declared.Settling.{Settling}
-use Rattle.std.specs.Prelude.{Option, Some, None}
+use Rattle.placeholders.specs.declared.Settled.{Settled}
+use Rattle.std.specs.Prelude.{Option, None, Result, Ok, Err}
 use Rattle.placeholders.specs.Placeholders.{fault_of}
 use Rattle.placeholders.specs.Filling.{filled_in, settled}
 use Rattle.placeholders.specs.Inner.{Roomy, left_by, Settles}
@@ -32,10 +32,9 @@ use Rattle.program.proofs.Numbered.{formed_meant}
 use Rattle.program.proofs.AllowedText.{few_filled, declared_few, filled_declared, filled_items, filled_allowed}
 use Rattle.valuation.specs.Inner.{Ready}
 use Rattle.filling.specs.Inner.{blank}
-use Rattle.mutabor.specs.declared.TextReading.{TextReading}
 use Rattle.mutabor.specs.Reading.{by_verdict, Leaves}
 use Rattle.mutabor.specs.Inner.{Resolved}
-use Rattle.mutabor.proofs.Steps.{if_zero_holds, names_refused}
+use Rattle.mutabor.proofs.Steps.{if_zero_holds, part_refused}
 
 module _ {text : List ℕ} {is : List Item} {starts : List ℕ} {n : ℕ} (w : Resolved text is starts n) where
   formed : FormedText is
@@ -58,15 +57,14 @@ module _ {text : List ℕ} {is : List Item} {starts : List ℕ} {n : ℕ} (w : R
         fits_starts = omega (arith, f, as_many 0 (filled_in text is), filled_declared text is formed, declared_few text is formed, w.room);
       }
 
-  module _ {items : List Item} {r : Settling} {items' : List Item} {starts' : List ℕ} (s : Settles text is items r items' starts') where
-    pub not_settled : {q : TextReading} {after : Tables} → (r.number ≡ 0 → ⊥) → q.number ≡ r.number → q.place ≡ r.place → after ≡ blank
-        → Leaves (by_verdict blank (by_settling (settled text is))) q after
-    not_settled h e f g =
-        names_refused (settled text is).number (settled text is).place _ (λ z. h (s.number ∙ z)) (e ∙ s.number) (f ∙ s.place) g
+  module _ {items items' : List Item} {starts' : List ℕ} where
+    pub not_settled : {e : Refusal} {after : Tables} → Settles text is items (Err e) items' starts' → after ≡ blank
+        → Leaves (by_verdict blank (by_settling (settled text is))) (Err e) after
+    not_settled s g = part_refused (settled text is).number (settled text is).place _ s.told.0 s.told.1 g
 
-    module _ (h : r.number ≡ done) where
+    module _ {r : Settled} (s : Settles text is items (Ok r) items' starts') where
       right : (fault_of text is ≡ None) × ((settled text is).items ≡ filled_in text is)
-      right = settled_done text is (sym s.number ∙ h)
+      right = settled_done text is s.told.0
 
       these : left_by (fault_of text is) is (filled_in text is) ≡ filled_in text is
       these = ap (λ (f : Option ℕ). left_by f is (filled_in text is)) right.0
@@ -88,10 +86,10 @@ module _ {text : List ℕ} {is : List Item} {starts : List ℕ} {n : ℕ} (w : R
           omega (arith, same_count, ap length left, length-append is' (drop (length is') items))
 
       pub starts_within : r.declarations ≤ length starts'
-      starts_within = s.within
+      starts_within = omega (arith, s.declarations, s.begun.within)
 
       begun : take r.declarations starts' ≡ beginnings (filled_in text is)
-      begun = s.begun ∙ ap beginnings these
+      begun = ap (λ (k : ℕ). take k starts') s.declarations ∙ s.begun.begun ∙ ap beginnings these
 
       -- as the slices have them now
       pub ready_now : Ready (take r.items items') (take r.declarations starts')
@@ -99,9 +97,9 @@ module _ {text : List ℕ} {is : List Item} {starts : List ℕ} {n : ℕ} (w : R
           subst (λ (l : List Item). Ready l (take r.declarations starts')) (sym counted)
           (record { begun = begun; allowed = filled_allowed text is formed means })
 
-      pub settled_on : {q : TextReading} {after : Tables}
+      pub settled_on : {q : Result Unit Refusal} {after : Tables}
           → Leaves (by_verdict blank (by_value (program_of (take r.items items')) (valued (program_of (take r.items items'))))) q after
           → Leaves (by_verdict blank (by_settling (settled text is))) q after
       settled_on {q} {after} v =
           let x = subst (λ (l : List Item). Leaves (by_verdict blank (by_value (program_of l) (valued (program_of l)))) q after) (counted ∙ sym right.1) v in
-          subst (λ (z : Verdict). Leaves (by_verdict blank z) q after) (sym (if_zero_holds (settled text is).number (settled text is).place _ (sym s.number ∙ h))) x
+          subst (λ (z : Verdict). Leaves (by_verdict blank z) q after) (sym (if_zero_holds (settled text is).number (settled text is).place _ s.told.0)) x

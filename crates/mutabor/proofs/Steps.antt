@@ -6,7 +6,11 @@ use mathlib.Core.List.{List}
 use Prim.Native.Nat.{ℕ, zero, suc, ◌*◌}
 use lib.IntN.{pos}
 use lib.ListN.{length, replicate, length-replicate}
-use Rattle.status.specs.Status.{text_too_long}
+use Rattle.std.specs.Prelude.{Result, Err}
+use Rattle.status.specs.declared.Reason.TheVariants.{TextTooLong}
+use Rattle.status.specs.declared.Refusal.{Refusal}
+use Rattle.status.specs.Reasons.{number_of}
+use Rattle.status.proofs.ReasonNumbers.{never_done}
 use Rattle.tables.specs.Layout.{Tables, full_size, row_width, most_rows, most_tones, most_changes, most_orders, counts_size}
 use Rattle.tables.proofs.Sections.{same_tables}
 use Rattle.validity.proofs.Sizes.{sizes_of}
@@ -14,7 +18,6 @@ use Rattle.grammar.specs.Reading.{read_items}
 use Rattle.names.specs.Names.{meanings}
 use Rattle.program.specs.Text.{Verdict, refused, accepted, if_zero, by_meaning, read_text}
 use Rattle.filling.specs.Inner.{blank}
-use Rattle.mutabor.specs.declared.TextReading.{TextReading}
 use Rattle.mutabor.specs.Reading.{Left, zeroed, by_verdict, reading, Leaves}
 use Rattle.mutabor.specs.Inner.{Cleared}
 
@@ -45,8 +48,8 @@ same_verdict t e (accepted p) = refl
 
 -- ---- what is left where a text is refused
 
-pub refuses : {r : TextReading} (n p : ℕ) {after : Tables} → r.number ≡ n → r.place ≡ p → after ≡ blank → Leaves (by_verdict blank (refused n p)) r after
-refuses n p e f g = record { number = e; place = f; tables = g ∙ sym blank_zeroed }
+pub refuses : (n p : ℕ) {e : Refusal} {after : Tables} → n ≡ number_of e.reason → p ≡ e.place → after ≡ blank → Leaves (by_verdict blank (refused n p)) (Err e) after
+refuses n p f g h = record { told = (f, g); tables = h ∙ sym blank_zeroed }
 
 -- ---- the tables' sizes, and then the text
 
@@ -58,13 +61,13 @@ not_false : (b : Bool) → not b ≡ false → b ≡ true
 not_false true h = refl
 not_false false h = sym h
 
-pub too_small : (text : List ℕ) {t : Tables} {now : Tables} {b : Bool} {r : TextReading} → Cleared t now → b ≡ full_size now → not b ≡ true
-    → r.number ≡ text_too_long → r.place ≡ 0 → Leaves (reading text t) r now
+pub too_small : (text : List ℕ) {t : Tables} {now : Tables} {b : Bool} → Cleared t now → b ≡ full_size now → not b ≡ true
+    → Leaves (reading text t) (Err (record { reason = TextTooLong; place = 0 })) now
 unfolding reading
-too_small text {t} {b = b} w f g n p =
+too_small text {t} {b = b} w f g =
     let e = w.zeros in
     let s : full_size t ≡ false = sym (ap full_size e ∙ size_kept t) ∙ sym f ∙ not_true b g in
-    rw s (record { number = n; place = p; tables = e })
+    rw s (record { told = (refl, refl); tables = e })
 
 pub large_enough : {t now : Tables} {b : Bool} → Cleared t now → b ≡ full_size now → not b ≡ false → full_size t ≡ true
 large_enough {t} {b = b} w f g = sym (ap full_size w.zeros ∙ size_kept t) ∙ sym f ∙ not_false b g
@@ -72,7 +75,7 @@ large_enough {t} {b = b} w f g = sym (ap full_size w.zeros ∙ size_kept t) ∙ 
 pub now_blank : {t now : Tables} → Cleared t now → full_size t ≡ true → now ≡ blank
 now_blank {t} w h = w.zeros ∙ cleared_blank t h
 
-pub goes_on : (text : List ℕ) (t : Tables) {r : TextReading} {after : Tables} → full_size t ≡ true → Leaves (by_verdict blank (read_text text)) r after → Leaves (reading text t) r after
+pub goes_on : (text : List ℕ) (t : Tables) {r : Result Unit Refusal} {after : Tables} → full_size t ≡ true → Leaves (by_verdict blank (read_text text)) r after → Leaves (reading text t) r after
 unfolding reading
 goes_on text t {r} {after} h w = rw h (subst (λ (o : Left). Leaves o r after) (sym (same_verdict t (cleared_blank t h) (read_text text))) w)
 
@@ -85,20 +88,20 @@ if_not_zero (suc n) p v h = refl
 pub if_zero_holds : (n p : ℕ) (v : Verdict) → n ≡ 0 → if_zero n p v ≡ v
 if_zero_holds n p v h = rw h
 
--- 2, 3, 4 and 9
-pub items_refused : (text : List ℕ) {r : TextReading} {after : Tables} → ((read_items text).number ≡ 0 → ⊥) → r.number ≡ (read_items text).number → r.place ≡ (read_items text).place
-    → after ≡ blank → Leaves (by_verdict blank (read_text text)) r after
-unfolding read_text
-items_refused text {r} {after} h e f g =
-    subst (λ (v : Verdict). Leaves (by_verdict blank v) r after) (sym (if_not_zero (read_items text).number (read_items text).place (by_meaning text (meanings text (read_items text).items)) h)) (refuses _ _ e f g)
+-- the number and the place of a part that refuses
+pub part_refused : (n p : ℕ) (v : Verdict) {e : Refusal} {after : Tables} → n ≡ number_of e.reason → p ≡ e.place → after ≡ blank
+    → Leaves (by_verdict blank (if_zero n p v)) (Err e) after
+part_refused n p v {e} {after} f g h =
+    subst (λ (x : Verdict). Leaves (by_verdict blank x) (Err e) after) (sym (if_not_zero n p v (λ z. never_done e.reason (sym f ∙ z)))) (refuses n p f g h)
 
-pub items_read : (text : List ℕ) {r : TextReading} {after : Tables} → (read_items text).number ≡ 0
+-- 2, 3, 4 and 9
+pub items_refused : (text : List ℕ) {e : Refusal} {after : Tables} → (read_items text).number ≡ number_of e.reason → (read_items text).place ≡ e.place
+    → after ≡ blank → Leaves (by_verdict blank (read_text text)) (Err e) after
+unfolding read_text
+items_refused text f g h = part_refused (read_items text).number (read_items text).place (by_meaning text (meanings text (read_items text).items)) f g h
+
+pub items_read : (text : List ℕ) {r : Result Unit Refusal} {after : Tables} → (read_items text).number ≡ 0
     → Leaves (by_verdict blank (by_meaning text (meanings text (read_items text).items))) r after → Leaves (by_verdict blank (read_text text)) r after
 unfolding read_text
 items_read text {r} {after} h w =
     subst (λ (v : Verdict). Leaves (by_verdict blank v) r after) (sym (if_zero_holds (read_items text).number (read_items text).place (by_meaning text (meanings text (read_items text).items)) h)) w
-
--- 5 and 6, and 24
-pub names_refused : (n p : ℕ) (v : Verdict) {r : TextReading} {after : Tables} → (n ≡ 0 → ⊥) → r.number ≡ n → r.place ≡ p → after ≡ blank
-    → Leaves (by_verdict blank (if_zero n p v)) r after
-names_refused n p v {r} {after} h e f g = subst (λ (x : Verdict). Leaves (by_verdict blank x) r after) (sym (if_not_zero n p v h)) (refuses n p e f g)

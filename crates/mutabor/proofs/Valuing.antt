@@ -7,6 +7,8 @@ use Prim.Native.Nat.{ℕ, zero, suc, ◌+◌, ◌<◌}
 use native.Mathlib.Omega.{arith}
 use lib.IntN.{ℤ, pos}
 use lib.ListN.{length}
+use Rattle.status.specs.declared.Refusal.{Refusal}
+use Rattle.status.specs.Reasons.{number_of}
 use Rattle.status.specs.Status.{depends_on_itself, value_out_of_range}
 use Rattle.values.specs.Values.{is_beyond, circular, first_from, verdict, value_at, outcome}
 use Rattle.values.specs.Rows.{rows, Resolved}
@@ -23,7 +25,6 @@ use Rattle.valuation.specs.Inner.{Ready}
 use Rattle.valuation.proofs.Ready.{ready_number}
 use Rattle.filling.specs.Tables.{tables_of}
 use Rattle.filling.specs.Inner.{Valued, blank}
-use Rattle.mutabor.specs.declared.TextReading.{TextReading}
 use Rattle.mutabor.specs.Reading.{by_verdict, Leaves}
 use Rattle.mutabor.proofs.Steps.{refuses}
 
@@ -85,20 +86,20 @@ module _ {is : List Item} {starts : List ℕ} {o : Result Unit Fault} {values : 
     small = λ i l. w.small h i (omega (arith, e));
   }
 
-  module _ {r : TextReading} {after : Tables} where
+  module _ {after : Tables} where
     -- 7
-    pub circular_refused : {i : ℕ} → o ≡ Err (Circular i) → r.number ≡ depends_on_itself → r.place ≡ place_of p i → after ≡ blank
-        → Leaves (by_verdict blank (by_value p (valued p))) r after
-    circular_refused {i} h q f g =
-        subst (λ (x : Result Unit Fault). Leaves (by_verdict blank (by_value p x)) r after) (sym (is_valued ∙ h)) (refuses depends_on_itself (place_of p i) q f g)
+    pub circular_refused : {i : ℕ} {e : Refusal} → o ≡ Err (Circular i) → depends_on_itself ≡ number_of e.reason → place_of p i ≡ e.place → after ≡ blank
+        → Leaves (by_verdict blank (by_value p (valued p))) (Err e) after
+    circular_refused {i} {e} h q f g =
+        subst (λ (x : Result Unit Fault). Leaves (by_verdict blank (by_value p x)) (Err e) after) (sym (is_valued ∙ h)) (refuses depends_on_itself (place_of p i) q f g)
 
     -- 8
-    pub beyond_refused : {i : ℕ} → o ≡ Err (OutOfRange i) → r.number ≡ value_out_of_range → r.place ≡ place_of p i → after ≡ blank
-        → Leaves (by_verdict blank (by_value p (valued p))) r after
-    beyond_refused {i} h q f g =
-        subst (λ (x : Result Unit Fault). Leaves (by_verdict blank (by_value p x)) r after) (sym (is_valued ∙ h)) (refuses value_out_of_range (place_of p i) q f g)
+    pub beyond_refused : {i : ℕ} {e : Refusal} → o ≡ Err (OutOfRange i) → value_out_of_range ≡ number_of e.reason → place_of p i ≡ e.place → after ≡ blank
+        → Leaves (by_verdict blank (by_value p (valued p))) (Err e) after
+    beyond_refused {i} {e} h q f g =
+        subst (λ (x : Result Unit Fault). Leaves (by_verdict blank (by_value p x)) (Err e) after) (sym (is_valued ∙ h)) (refuses value_out_of_range (place_of p i) q f g)
 
     -- done
-    pub all_done : o ≡ Ok tt → r.number ≡ 0 → r.place ≡ 0 → after ≡ tables_of p → Leaves (by_verdict blank (by_value p (valued p))) r after
-    all_done h q f g =
-        subst (λ (x : Result Unit Fault). Leaves (by_verdict blank (by_value p x)) r after) (sym (is_valued ∙ h)) (record { number = q; place = f; tables = g })
+    pub all_done : o ≡ Ok tt → after ≡ tables_of p → Leaves (by_verdict blank (by_value p (valued p))) (Ok tt) after
+    all_done h g =
+        subst (λ (x : Result Unit Fault). Leaves (by_verdict blank (by_value p x)) (Ok tt) after) (sym (is_valued ∙ h)) (record { told = (refl, refl); tables = g })

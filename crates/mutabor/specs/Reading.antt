@@ -1,9 +1,10 @@
 -- What a text leaves: a number and a place, and the later content of every lent table. Document 01, "Numbers returned", column "Leaves".
-use Rattle.std.specs.Prelude.{◌≡◌, cond, List, ℕ, ℤ, pos, length, replicate}
+use Rattle.std.specs.Prelude.{◌≡◌, cond, List, ℕ, ℤ, pos, length, replicate, Result}
+use Rattle.status.specs.declared.Refusal.{Refusal}
 use Rattle.status.specs.Status.{done, text_too_long}
+use Rattle.names.specs.Inner.{Tells}
 use Rattle.tables.specs.Layout.{Tables, full_size}
 use Rattle.program.specs.Text.{Verdict, refused, accepted, read_text}
-use Rattle.mutabor.specs.declared.TextReading.{TextReading}
 use Rattle.filling.specs.Tables.{tables_of}
 
 pub record Left : Type 0 where
@@ -39,8 +40,7 @@ by_verdict t (accepted p) = record { number = done; place = 0; tables = tables_o
 unfoldable pub reading : List ℕ → Tables → Left
 reading text t = by_verdict t (cond (full_size t) (read_text text) (refused text_too_long 0))
 
--- the whole result of a call, with the lent tables after it
-pub record Leaves (o : Left) (r : TextReading) (after : Tables) : Type 0 where
-  pub number : r.number ≡ o.number
-  pub place : r.place ≡ o.place
+-- the whole result of a call, with the lent tables after it: done at place 0, or the refusal with its number and place
+pub record Leaves (o : Left) (r : Result Unit Refusal) (after : Tables) : Type 0 where
+  pub told : Tells o.number o.place r
   pub tables : after ≡ o.tables

@@ -22,20 +22,13 @@ use grammar::{Item, Kind};
 use limits::MOST_DECLARATIONS;
 use names::resolve_names;
 use placeholders::settle;
-use status::{DEPENDS_ON_ITSELF, DONE, TEXT_TOO_LONG, VALUE_OUT_OF_RANGE};
+use status::{Reason, Refusal};
 use tables::{ROWS, has_full_size};
 use valuation::value_declarations;
 use values::Fault;
 
 // Room for an item at every symbol of the longest text, its end too, and two at each call.
 const MOST_ITEMS: usize = 33_857;
-
-// The number, and the place of a refusal.
-#[derive(Clone, Copy)]
-pub struct TextReading {
-    pub number: u8,
-    pub place: u32,
-}
 
 fn clear_tables(numbers: &mut [i32], codes: &mut [u16])
     ensures { Cleared (tables_in numbers.old codes.old) (tables_in numbers.new codes.new) }
@@ -51,7 +44,7 @@ fn place_of(items: &[Item], starts: &[u32], d: usize) -> u32
     ensures { result ≡ place_of (program_of items.now) d }
 {
     let Item::Declared(_, place) = items[starts[d] as usize] else {
-        return 0;
+        unreachable!()
     };
     place
 }
@@ -62,27 +55,24 @@ fn take_declarations(
     starts: &[u32],
     numbers: &mut [i32],
     codes: &mut [u16],
-) -> TextReading
+) -> Result<(), Refusal>
     requires ready { Ready items.now starts.now }
     requires codes_value { tables_in numbers.old codes.old ≡ blank }
     ensures { Leaves (by_verdict blank (by_value (program_of items.now) (valued (program_of items.now)))) result (tables_in numbers.new codes.new) }
 {
     let mut values = [0i64; ROWS];
     match value_declarations(items, starts, &mut values) {
-        Err(Fault::Circular(d)) => TextReading {
-            number: DEPENDS_ON_ITSELF,
+        Err(Fault::Circular(d)) => Err(Refusal {
+            reason: Reason::DependsOnItself,
             place: place_of(items, starts, d),
-        },
-        Err(Fault::OutOfRange(d)) => TextReading {
-            number: VALUE_OUT_OF_RANGE,
+        }),
+        Err(Fault::OutOfRange(d)) => Err(Refusal {
+            reason: Reason::ValueOutOfRange,
             place: place_of(items, starts, d),
-        },
+        }),
         Ok(()) => {
             write_tables(items, starts, &values, numbers, codes);
-            TextReading {
-                number: DONE,
-                place: 0,
-            }
+            Ok(())
         }
     }
 }
@@ -96,20 +86,14 @@ fn take_names(
     n: usize,
     numbers: &mut [i32],
     codes: &mut [u16],
-) -> TextReading
+) -> Result<(), Refusal>
     requires counted { count ≤ length items.old }
     requires size { length items.old ≡ most_items }
     requires resolved { Resolved text.now (take count items.old) starts.old n }
     requires codes_value { tables_in numbers.old codes.old ≡ blank }
     ensures { Leaves (by_verdict blank (by_settling (settled text.now (take count items.old)))) result (tables_in numbers.new codes.new) }
 {
-    let settled = settle(text, items, count, starts, n);
-    if settled.number != DONE {
-        return TextReading {
-            number: settled.number,
-            place: settled.place,
-        };
-    }
+    let settled = settle(text, items, count, starts, n)?;
     let items = &items[..settled.items];
     take_declarations(items, &starts[..settled.declarations], numbers, codes)
 }
@@ -121,7 +105,7 @@ fn take_items(
     count: usize,
     numbers: &mut [i32],
     codes: &mut [u16],
-) -> TextReading
+) -> Result<(), Refusal>
     requires counted { count ≤ length items.old }
     requires size { length items.old ≡ most_items }
     requires text_value { ((read_items text.now).items ≡ take count items.old) × ((read_items text.now).number ≡ done) }
@@ -130,41 +114,29 @@ fn take_items(
 {
     let mut declared = [0u32; MOST_DECLARATIONS];
     let mut starts = [0u32; ROWS];
-    match resolve_names(text, &mut items[..count], &mut declared, &mut starts) {
-        Ok(n) => take_names(text, items, count, &mut starts, n, numbers, codes),
-        Err(wrong_name) => TextReading {
-            number: wrong_name.reason.number(),
-            place: wrong_name.place,
-        },
-    }
+    let n = resolve_names(text, &mut items[..count], &mut declared, &mut starts)?;
+    take_names(text, items, count, &mut starts, n, numbers, codes)
 }
 
 // Reads the symbols (2, 3, 4, 9), and goes on with the items.
-fn take_symbols(text: &[u8], numbers: &mut [i32], codes: &mut [u16]) -> TextReading
+fn take_symbols(text: &[u8], numbers: &mut [i32], codes: &mut [u16]) -> Result<(), Refusal>
     requires { tables_in numbers.old codes.old ≡ blank }
     ensures { Leaves (by_verdict blank (read_text text.now)) result (tables_in numbers.new codes.new) }
 {
     // These items are zeros, as which the array is cleared at once.
     let mut items = [Item::Declared(Kind::Interval, 0); MOST_ITEMS];
-    match read_items(text, &mut items) {
-        Ok(count) => take_items(text, &mut items, count, numbers, codes),
-        Err(refusal) => TextReading {
-            number: refusal.reason.number(),
-            place: refusal.place,
-        },
-    }
+    let count = read_items(text, &mut items)?;
+    take_items(text, &mut items, count, numbers, codes)
 }
 
 // Reads a text into the tables. Where it is refused, or a table is not of full size, every table is zero.
-pub fn read_text(text: &[u8], numbers: &mut [i32], codes: &mut [u16]) -> TextReading
+pub fn read_text(text: &[u8], numbers: &mut [i32], codes: &mut [u16]) -> Result<(), Refusal>
     ensures { Leaves (reading text.now (tables_in numbers.old codes.old)) result (tables_in numbers.new codes.new) }
 {
     clear_tables(numbers, codes);
     if !has_full_size(numbers, codes) {
-        return TextReading {
-            number: TEXT_TOO_LONG,
-            place: 0,
-        };
+        let reason = Reason::TextTooLong;
+        return Err(Refusal { reason, place: 0 });
     }
     take_symbols(text, numbers, codes)
 }

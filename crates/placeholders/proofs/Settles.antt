@@ -33,11 +33,11 @@ module _ (text : List ℕ) (is : List Item) {starts : List ℕ} {n : ℕ} (b : B
   unfolding settled
   settles_wrong z {items} h =
       let g = fault_of_step z in
-      record { answered = rw g (refl, refl); left = rw g h; begun = rw g (all_begun b) }
+      record { told = rw g (refl, refl); count = tt; declarations = tt; left = rw g h; begun = rw g (all_begun b) }
 
   pub settles_filled : f ≡ None → {items : List Item} {r : Settled} {items' : List Item} {starts' : List ℕ} → Fills text is items r items' starts'
       → Settles text is items (Ok r) items' starts'
   unfolding settled
   settles_filled z {items} w =
       let g = fault_of_step z in
-      record { answered = rw g (refl, refl, w.count, begun_count w.begun); left = rw g w.left; begun = rw g (all_begun w.begun) }
+      record { told = rw g (refl, refl); count = rw g w.count; declarations = rw g (begun_count w.begun); left = rw g w.left; begun = rw g (all_begun w.begun) }

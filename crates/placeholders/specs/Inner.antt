@@ -1,13 +1,10 @@
 -- What the contracts of private functions and of those who call cite: no part of the rules.
-use Rattle.std.specs.Prelude.{◌≡◌, true, false, List, [], ◌∷◌, ℕ, suc, ◌≤◌, eqb, length, get_or, take, drop, Option, Some, None, Result, Ok, Err}
+use Rattle.std.specs.Prelude.{◌≡◌, true, false, List, [], ◌∷◌, ℕ, suc, ◌≤◌, eqb, length, get_or, take, drop, Option, Some, None, Result, IfOk}
 use Rattle.symbols.specs.Names.{name_at}
-use Rattle.status.specs.Status.{done}
 use Rattle.status.specs.declared.Refusal.{Refusal}
-use Rattle.status.specs.Reasons.{number_of}
 use Rattle.grammar.specs.declared.Item.{Item}
 use Rattle.grammar.specs.Items.{most_items, holding}
-use Rattle.names.specs.Names.{Meant}
-use Rattle.names.specs.Inner.{beginnings}
+use Rattle.names.specs.Inner.{beginnings, Tells}
 use Rattle.placeholders.specs.declared.Seen.TheVariants.{Other, Declares, Names, Wants, Calls, Hands}
 use Rattle.placeholders.specs.declared.Settled.{Settled}
 use Rattle.placeholders.specs.declared.writing.WrittenCall.{WrittenCall}
@@ -80,12 +77,9 @@ abbrev pub left_by : Option ℕ → List Item → List Item → List Item
 left_by None is new = new
 left_by (Some p) is new = is
 
--- how a call answers, by the items that are left: how many items and declarations they are, or the refusal
-abbrev pub Answered : Meant → List Item → Result Settled Refusal → Type 0
-Answered m left (Ok s) = (m.number ≡ done) × (m.place ≡ 0) × (s.items ≡ length left) × (s.declarations ≡ length (beginnings left))
-Answered m left (Err e) = (m.number ≡ number_of e.reason) × (m.place ≡ e.place)
-
 pub record Settles (text : List ℕ) (is items : List Item) (r : Result Settled Refusal) (items' : List Item) (starts' : List ℕ) : Type 0 where
-  pub answered : Answered (settled text is) (left_by (fault_of text is) is (filled_in text is)) r
+  pub told : Tells (settled text is).number (settled text is).place r
+  pub count : IfOk r (λ s. s.items ≡ length (left_by (fault_of text is) is (filled_in text is)))
+  pub declarations : IfOk r (λ s. s.declarations ≡ length (beginnings (left_by (fault_of text is) is (filled_in text is))))
   pub left : items' ≡ holding (left_by (fault_of text is) is (filled_in text is)) items
   pub begun : Begun (left_by (fault_of text is) is (filled_in text is)) starts' (length (beginnings (left_by (fault_of text is) is (filled_in text is))))

@@ -16,8 +16,8 @@ bounds c = inside c.requires.ready c.requires.d_in_bounds
 pub bounds-items-starts : goal.bounds-items-starts
 bounds-items-starts c = inside c.requires.ready c.requires.d_in_bounds
 
-pub returns-in_default : goal.returns-in_default
-returns-in_default c = let n = declared_here c.requires.ready c.requires.d_in_bounds _ in absurd (c.in_default.not-Declared _ _ n.1)
+pub unreachable-requires : goal.unreachable-requires
+unreachable-requires c = let n = declared_here c.requires.ready c.requires.d_in_bounds _ in absurd (c.in_default.not-Declared _ _ n.1)
 
 pub returns : goal.returns
 returns c = let n = declared_here c.requires.ready c.requires.d_in_bounds _ in same_place (sym c.in-Declared.is ∙ n.1)

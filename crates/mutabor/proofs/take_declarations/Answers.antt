@@ -1,5 +1,5 @@
 -- The declarations are valued; the text is refused at the name of one, or its tables are written.
-use mathlib.Core.Path.{refl, ◌∙◌, ap}
+use mathlib.Core.Path.{refl, sym, ◌∙◌, ap}
 use Rattle.std.specs.Prelude.{Err}
 use Rattle.program.specs.Program.{program_of}
 use Rattle.program.specs.Text.{place_of}
@@ -23,13 +23,13 @@ write_tables-requires c =
 pub returns-in-Err-Circular : goal.returns-in-Err-Circular
 returns-in-Err-Circular c =
     let e = c.in-Err-Circular.is ∙ ap Err c.in-Err-Circular.field-0-is in
-    circular_refused c.requires.ready c.value_declarations.ensures e refl (c.place_of.ensures ∙ ap (place_of (program_of c.args.items.now)) c.in-Err-Circular.d-is) c.requires.codes_value
+    circular_refused c.requires.ready c.value_declarations.ensures e refl (sym (c.place_of.ensures ∙ ap (place_of (program_of c.args.items.now)) c.in-Err-Circular.d-is)) c.requires.codes_value
 
 pub returns-in-Err-OutOfRange : goal.returns-in-Err-OutOfRange
 returns-in-Err-OutOfRange c =
     let e = c.in-Err-OutOfRange.is ∙ ap Err c.in-Err-OutOfRange.field-0-is in
-    beyond_refused c.requires.ready c.value_declarations.ensures e refl (c.place_of-in-Err-OutOfRange.ensures ∙ ap (place_of (program_of c.args.items.now)) c.in-Err-OutOfRange.d-is)
+    beyond_refused c.requires.ready c.value_declarations.ensures e refl (sym (c.place_of-in-Err-OutOfRange.ensures ∙ ap (place_of (program_of c.args.items.now)) c.in-Err-OutOfRange.d-is))
     c.requires.codes_value
 
 pub returns-in-Ok : goal.returns-in-Ok
-returns-in-Ok c = all_done c.requires.ready c.value_declarations.ensures c.in-Ok.is refl refl c.write_tables.ensures
+returns-in-Ok c = all_done c.requires.ready c.value_declarations.ensures c.in-Ok.is c.write_tables.ensures
