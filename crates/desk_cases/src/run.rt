@@ -1,8 +1,8 @@
 // A text read into fresh tables, and frames answered one after the other.
 use answers::{SMALLEST_BUFFER, answer_refusal};
-use mutabor::{TextReading, read_text};
+use mutabor::read_text;
 use protocol::{Desk, answer};
-use status::DONE;
+use status::Refusal;
 use std::io;
 use tables::{CODES, NUMBERS};
 
@@ -35,9 +35,9 @@ fn answer_frames(rt: &impl Print, frames: &[u8], numbers: &[i32], codes: &[u16])
     Ok(())
 }
 
-fn write_refusal(rt: &impl Print, reading: TextReading) -> io::Result<()> {
+fn write_refusal(rt: &impl Print, refusal: Refusal) -> io::Result<()> {
     let mut buffer = [0u8; SMALLEST_BUFFER];
-    let length = answer_refusal(&mut buffer, reading.number, reading.place);
+    let length = answer_refusal(&mut buffer, refusal.reason.number(), refusal.place);
     send(rt, &buffer, length)
 }
 
@@ -47,9 +47,8 @@ pub fn run_case(rt: &impl Print, name: &[u8], text: &[u8], frames: &[u8]) -> io:
     rt.write_all(b"\n")?;
     let mut numbers = [0i32; NUMBERS];
     let mut codes = [0u16; CODES];
-    let reading = read_text(text, &mut numbers, &mut codes);
-    if reading.number != DONE {
-        return write_refusal(rt, reading);
+    match read_text(text, &mut numbers, &mut codes) {
+        Ok(()) => answer_frames(rt, frames, &numbers, &codes),
+        Err(refusal) => write_refusal(rt, refusal),
     }
-    answer_frames(rt, frames, &numbers, &codes)
 }

@@ -9,7 +9,7 @@ ghost use Rattle.opening.specs.Opening.{opening, Opens};
 use answers::SMALLEST_BUFFER;
 use mutabor::read_text;
 use protocol::Desk;
-use status::{BUFFER_TOO_SMALL, DONE};
+use status::BUFFER_TOO_SMALL;
 
 // Why a text opens no desk: its number, and how many bytes of the buffer are its line.
 #[derive(Clone, Copy)]
@@ -35,11 +35,10 @@ pub fn open_text(
             length: 0,
         });
     }
-    let reading = read_text(text, numbers, codes);
-    let number = reading.number;
-    if number == DONE {
+    let Err(refusal) = read_text(text, numbers, codes) else {
         return Ok(Desk::start());
-    }
-    let length = answers::answer_refusal(buffer, number, reading.place);
+    };
+    let number = refusal.reason.number();
+    let length = answers::answer_refusal(buffer, number, refusal.place);
     Err(Refused { number, length })
 }

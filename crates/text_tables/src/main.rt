@@ -27,6 +27,7 @@
 ghost use Rattle.std.specs.Prelude.{◌≤◌, length, IfOk, IfSome};
 
 use mutabor::read_text;
+use status::DONE;
 use std::io;
 use std::io::{ErrorKind, Read, Write};
 use tables::{
@@ -130,10 +131,13 @@ fn answer_text(
     numbers: &mut [i32; NUMBERS],
     codes: &mut [u16; CODES],
 ) -> io::Result<()> {
-    let reading = read_text(text, numbers, codes);
+    let (number, place) = match read_text(text, numbers, codes) {
+        Ok(()) => (DONE, 0),
+        Err(refusal) => (refusal.reason.number(), refusal.place),
+    };
     let mut out = room.as_mut_slice();
-    out.write_all(&[reading.number])?;
-    out.write_all(&reading.place.to_be_bytes())?;
+    out.write_all(&[number])?;
+    out.write_all(&place.to_be_bytes())?;
     put_tables(&mut out, numbers, codes)?;
     let end = ROOM.saturating_sub(out.len());
     output.write_all(&room[..end])

@@ -11,6 +11,7 @@ use Rattle.protocol.specs.Answers.{valid_desk}
 use Rattle.opening.proofs.Ready.{ready, opens, opens_small, opens_read, accepted_line, accepted_desk, refused_line, refused_desk}
 use Rattle.std.specs.Prelude.{Ok, Err}
 use Rattle.status.specs.Status.{done}
+use Rattle.status.proofs.ReasonNumbers.{never_done}
 use Rattle.opening.proofs.open_text.Goals.{Start}
 use Rattle.opening.proofs.open_text.Goals as goal
 
@@ -29,11 +30,11 @@ returns-then-buffer-lt-SMALLEST_BUFFER c =
       right = tt;
     }
 
-pub returns-then-number-eq-DONE : goal.returns-then-number-eq-DONE
-returns-then-number-eq-DONE c =
-    let a = (goal.at.returns-then-number-eq-DONE c).Start in
-    let g = c.read_text-reading.ensures in
-    let n : (left a).number ≡ 0 = sym g.number ∙ c.if-number-eq-DONE.true in
+pub returns-in_default : goal.returns-in_default
+returns-in_default c =
+    let a = (goal.at.returns-in_default c).Start in
+    let g = c.in_default.ensures in
+    let n : (left a).number ≡ 0 = g.told.0 in
     let e = accepted_line (left a) n in
     record {
       opens = opens (opens_read a.args.text.now (lent a) _ c.if-buffer-lt-SMALLEST_BUFFER.false) (record {
@@ -47,13 +48,15 @@ returns-then-number-eq-DONE c =
 pub returns : goal.returns
 returns c =
     let a = (goal.at.returns c).Start in
-    let g = c.read_text-reading.ensures in
+    let g = c.in-Err.ensures in
     let r = c.answer_refusal-length.ensures in
-    let n : (left a).number ≡ done → ⊥ = λ n. c.if-number-eq-DONE.false (g.number ∙ n) in
-    let e = (λ x. line_of (refusal_bytes (g.number x) (g.place x))) ∙ sym (refused_line (left a) n) in
+    let n : (left a).number ≡ done → ⊥ = λ n. never_done c.in-Err.refusal.reason (sym g.told.0 ∙ n) in
+    let number = c.number-number.ensures ∙ sym g.told.0 in
+    let place = sym g.told.1 in
+    let e = (λ x. line_of (refusal_bytes (number x) (place x))) ∙ sym (refused_line (left a) n) in
     record {
       opens = opens (opens_read a.args.text.now (lent a) _ c.if-buffer-lt-SMALLEST_BUFFER.false) (record {
-        result = (λ x. Err (record { number = g.number x; length = (r.0 ∙ ap length e) x })) ∙ refused_desk (left a) n;
+        result = (λ x. Err (record { number = number x; length = (r.0 ∙ ap length e) x })) ∙ refused_desk (left a) n;
         tables = g.tables;
         buffer = r.1 ∙ ap (λ (x : List ℕ). begun_with x a.args.buffer.now) e;
       });
