@@ -6,18 +6,7 @@ ghost use Rattle.status.specs.Reasons.{number_of};
 
 pub const DONE: u8 = 0;
 
-// Of a text.
-pub const TEXT_TOO_LONG: u8 = 1;
-
-pub const NAME_TWICE: u8 = 5;
-
-pub const NAME_NOT_DECLARED: u8 = 6;
-
-pub const DEPENDS_ON_ITSELF: u8 = 7;
-
-pub const VALUE_OUT_OF_RANGE: u8 = 8;
-
-pub const PLACEHOLDER_WRONG: u8 = 24;
+// Kept as it is: these are bytes of the desk's answers, and a call hands its state back beside one, whatever it is (`replied`, `Gives`).
 
 // Of a retuning.
 pub const DIVISION_BY_ZERO: u8 = 25;
