@@ -57,7 +57,7 @@ module _ (t : Tables) (v : valid_tables t ≡ true) where
     called_right k (System b P from to) e l = h
     called_right k (Retuning r from to) e l = h
     called_right k (Logic c s from to) e l = rw (lt-ltb k (row_count t) l, e)
-    called_right k (Harmony needed named) e l = h
+    called_right k (Harmony needed n) e l = h
     called_right k Pattern e l = h
 
     pub struck_right : active_right t (struck t a x).active ≡ true

@@ -172,21 +172,18 @@ impl Board<'_> {
     {
         let letters = frames::letters_of(frame, line);
         let pressed = self.press_all(desk, frame, letters);
-        let next = pressed.desk;
-        let tuning = next.tuning;
         let number = pressed.number;
-        let all = pressed.numbers;
         let n = presses::press_count(frame);
         let length = presses::answer_presses(
             buffer,
             frame,
             &letters[..n],
-            &all[..n],
+            &pressed.numbers[..n],
             number,
-            tuning,
+            pressed.desk.tuning,
         );
         Answered {
-            desk: next,
+            desk: pressed.desk,
             number,
             length,
         }

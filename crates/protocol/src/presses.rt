@@ -111,10 +111,9 @@ impl Board<'_> {
         ensures leaves { result ≡ step_leaves (step_of (tables_on self.now) desk press) }
         ensures stays { valid_desk (tables_on self.now) result.desk ≡ true }
     {
-        let searched = self.search_frame(desk, press);
+        let Search { keys, found } = self.search_frame(desk, press);
         let head = head_of(press);
-        let keys = searched.keys;
-        self.strike(desk.with_keys(keys), head.house, searched.found)
+        self.strike(desk.with_keys(keys), head.house, found)
     }
 
     // The presses of a frame one after the other, each from the desk that the one before it left. (One way for a letter, a key and a row: with two the

@@ -19,6 +19,7 @@ use tables::{
 use tuning::{Reply, State};
 
 // How many orders are gathered together.
+// Kept as it is: orders are searched as records in a lent slice, by one thin function, so those of a logic are gathered into records, a part at a time.
 const PART: usize = 16;
 
 // What is found: a logic, or a declaration that is called itself.
@@ -173,9 +174,8 @@ fn make_call(tables: Tables, desk: Desk, house: u8, called: Result<u32, u8>) -> 
 {
     let s = desk.tuning;
     let reply = call_found(tables, s, called);
-    let tuning = reply.state;
     Stepped {
-        desk: desk.with_tuning(tuning),
+        desk: desk.with_tuning(reply.state),
         number: reply.number,
     }
 }
@@ -187,9 +187,7 @@ impl Board<'_> {
         requires within { Within (tables_on self.now) (called_after (tables_on self.now) desk found) }
         ensures { result ≡ struck_leaves (tables_on self.now) house desk found }
     {
-        let pressed = press_found(self.tables.rows(), desk.active, found);
-        let active = pressed.active;
-        let called = pressed.called;
+        let Press { active, called } = press_found(self.tables.rows(), desk.active, found);
         make_call(self.tables, desk.with_active(active), house, called)
     }
 

@@ -34,7 +34,7 @@ impl fmt::Display for Failure {
     }
 }
 
-// A read, again where a signal broke it off.
+// A read, again where a signal broke it off. A proved loop has to end, so it counts up to a number that no run comes to.
 fn read_some<R: Read>(file: &mut R, buffer: &mut [u8]) -> io::Result<usize>
     ensures bound { ReadsAtMost result buffer.new }
     ensures bytes { ReadConsumes (R.remaining file.old) (R.remaining file.new) result buffer.new }

@@ -21,12 +21,12 @@ long a = search length_mapped
 pub returns-clause-stays : goal.returns-clause-stays
 returns-clause-stays c =
     let t = tables_on c.args.self.now in
-    let r = c.search_frame-searched.result in
+    let r = c.search_frame-found.result in
     let v = tables_right t c.args.desk c.requires.desk_value in
     let left =
     c.strike.ensures
     ∙ ap (λ (d : Desk). struck_leaves t c.head_of-head.result.house d r.found) c.with_keys.ensures
     ∙ ap (λ (x : Head). struck_leaves t x.house (with_keys r.keys c.args.desk) r.found) c.head_of-head.ensures
-    ∙ c.search_frame-searched.ensures.leaves in
+    ∙ c.search_frame-found.ensures.leaves in
     ap (λ (q : Stepped). valid_desk t q.desk) left
     ∙ right_valid t v _ (change_right_step t v c.args.desk (valid_right t c.args.desk c.requires.desk_value (long (goal.at.returns-clause-stays c).Start)) c.args.press)
