@@ -1,21 +1,23 @@
 -- Laws of names: of the name that stands at a place, and of the test that two names are the same.
 -- Assumes nothing.
-use Prim.Native.Nat.{ℕ, ◌+◌, ◌-◌, ◌<◌, ◌≤◌}
+use Prim.Native.Nat.{ℕ, suc, min, ◌+◌, ◌-◌, ◌<◌, ◌≤◌}
 use mathlib.Core.Path.{◌≡◌, refl, sym, ◌∙◌, ap}
 use mathlib.Core.Logic.{◌↔◌}
 use mathlib.Core.List.{List, [], ◌∷◌, map}
-use mathlib.Core.Bool.{Bool, true, false, and-eq-true_iff, false≢true}
+use mathlib.Core.Bool.{Bool, true, false, not, cond, ◌&&◌, and-eq-true_iff, false≢true}
 use native.Mathlib.Omega.{arith}
 use borrow.Author.Tests.{eqb-true, eq-eqb}
-use lib.ListN.{length, get_or, drop_of_length-le}
-use lib.Dec.{eqb}
+use lib.ListN.{length, get_or, drop, drop_of_length-le}
+use lib.Dec.{ltb, eqb}
 use Rattle.std.specs.Bool.{IsTrue, Decides}
-use Rattle.std.specs.Prelude.{None, Some}
+use Rattle.std.specs.Prelude.{Option, None, Some, unwrap_or}
 use Rattle.std.specs.Char.{to_ascii_lowercase, to_ascii_uppercase, is_ascii_alphabetic}
 use Rattle.std.proofs.lemmas.Bool.Decides.{same_from_decides, nat_tests}
-use Rattle.symbols.specs.Bytes.{among, is_capital, in_name, small, same, take_while}
+use Rattle.std.specs.List.{position_or_len, zip}
+use Rattle.std.proofs.lemmas.Slice.Zip.{length-zip}
+use Rattle.symbols.specs.Bytes.{among, is_digit, is_capital, is_letter, in_name, small, same, take_while}
 use Rattle.symbols.specs.Names.{spelled, name_at, letter_of}
-use Rattle.symbols.proofs.Scan.{drop_here}
+use Rattle.symbols.proofs.Scan.{drop_here, found_or_length}
 
 -- the test that two names are the same is true just where the lists are equal
 pub same_true : (xs ys : List ℕ) → same xs ys ≡ true → xs ≡ ys
@@ -71,6 +73,67 @@ same_lower r a b e = same_from_decides r (same (spelled a) (spelled b)) e tells
       λ q. sym (spelled_lower a) ∙ same_true (spelled a) (spelled b) q ∙ spelled_lower b,
       λ q. ap (λ (l : List ℕ). same l (spelled b)) (spelled_lower a ∙ q ∙ sym (spelled_lower b)) ∙ same_refl (spelled b),
     )
+
+-- past the end of a text 0 is read, which is in no name
+pub zero_outside : in_name 0 ≡ false
+unfolding in_name is_letter is_digit is_capital
+zero_outside = refl
+
+small_in_name : (b : ℕ) → in_name (small b) ≡ in_name b
+unfolding in_name is_letter is_digit is_capital small
+small_in_name b = grind (arith, nat_tests)
+
+both_in_name : (x y : ℕ) → eqb (small x) (small y) ≡ true → in_name x ≡ in_name y
+both_in_name x y e = sym (small_in_name x) ∙ ap in_name (eqb-true _ _ e) ∙ small_in_name y
+
+-- two names go on with the same letter
+abbrev pub same_letter : ℕ × ℕ → Bool
+same_letter p = in_name p.0 && eqb (small p.0) (small p.1)
+
+-- how far two texts go on with the same letters
+abbrev pub common : List ℕ → List ℕ → ℕ
+common a b = position_or_len (λ p. not (same_letter p)) (zip a b)
+
+-- the names that two texts begin with are the same just where neither goes on there
+abbrev ends : List ℕ → List ℕ → ℕ → Bool
+ends a b n = not (in_name (get_or a n 0)) && not (in_name (get_or b n 0))
+
+pub same_ends : (a b : List ℕ) → ends a b (common a b) ≡ same (spelled (take_while in_name a)) (spelled (take_while in_name b))
+unfolding same spelled take_while
+same_ends [] [] = rw zero_outside
+same_ends [] (y ∷ ys) = rw zero_outside (go (in_name y))
+  where
+    go : (u : Bool) → not u ≡ same [] (map small (elim u [ true ↦ y ∷ take_while in_name ys | false ↦ [] ]))
+    go true = refl
+    go false = refl
+same_ends (x ∷ xs) [] = rw zero_outside (go (in_name x))
+  where
+    go : (t : Bool) → not t && true ≡ same (map small (elim t [ true ↦ x ∷ take_while in_name xs | false ↦ [] ])) []
+    go true = refl
+    go false = refl
+same_ends (x ∷ xs) (y ∷ ys) = go (in_name x) (in_name y) (eqb (small x) (small y)) refl refl refl (same_ends xs ys)
+  where
+    go : (t u s : Bool) → in_name x ≡ t → in_name y ≡ u → eqb (small x) (small y) ≡ s
+        → ends xs ys (common xs ys) ≡ same (map small (take_while in_name xs)) (map small (take_while in_name ys))
+        → ends (x ∷ xs) (y ∷ ys) (cond (not (not (t && s))) (1 + common xs ys) 0)
+        ≡ same (map small (elim t [ true ↦ x ∷ take_while in_name xs | false ↦ [] ])) (map small (elim u [ true ↦ y ∷ take_while in_name ys | false ↦ [] ]))
+    go false false s p q e ih = rw (p, q)
+    go false true s p q e ih = rw (p, q)
+    go true false false p q e ih = rw p
+    go true true false p q e ih = rw (p, e)
+    go true false true p q e ih = absurd (false≢true (sym q ∙ sym (both_in_name x y e) ∙ p))
+    go true true true p q e ih = let k : 1 + common xs ys ≡ suc (common xs ys) = omega arith in rw (e, k) ih
+
+-- the walk over the pairs finds that place, or comes to the end of the shorter text
+pub common_found : (a b : List ℕ) {shorter : ℕ} → shorter ≡ min (length a) (length b) → {r : Option ℕ}
+    → r ≡ cond (ltb (common a b) (length (zip a b))) (Some (common a b)) None
+    → unwrap_or r shorter ≡ common a b
+common_found a b s e = rw (s, ← length-zip a b) (found_or_length (λ p. not (same_letter p)) (zip a b) e)
+
+pub names_compared : (text : List ℕ) (p q : ℕ) {a b : List ℕ} → a ≡ drop p text → b ≡ drop q text → {n : ℕ} → n ≡ common a b
+    → ends a b n ≡ same (name_at text p) (name_at text q)
+unfolding name_at
+names_compared text p q {a} {b} e f g = rw (g, ← e, ← f) (same_ends a b)
 
 -- one byte as a letter
 pub letter_none : (l : List ℕ) → length l ≡ 0 → None ≡ letter_of l

@@ -6,12 +6,13 @@ use mathlib.Core.List.{List, [], ◌∷◌}
 use mathlib.Core.Bool.{Bool, true, false, not, cond, ◌&&◌, and-true, and-false}
 use Rattle.std.specs.Prelude.{Option, None, Some, unwrap_or}
 use Rattle.std.specs.List.{position_or_len}
+use Rattle.std.proofs.lemmas.List.Sums.{prefix_len-le-length}
 use native.Mathlib.Nat.{add-zero, add-suc, suc-add}
 use native.Mathlib.Numerals.{add-one}
 use native.Mathlib.Omega.{arith}
 use native.Mathlib.Decide.{dec_lt}
 use borrow.Author.Tests.{lt-ltb, le-ltb, eq-eqb, ne_eqb}
-use lib.ListN.{length, get_or, take, drop, drop_of_length-le, length-take}
+use lib.ListN.{length, get_or, take, drop, drop_of_length-le}
 use lib.Seq.{drop-cons, drop-drop}
 use lib.Dec.{ltb, eqb}
 use Rattle.symbols.specs.declared.MarkKind.{MarkKind}
@@ -62,21 +63,26 @@ run_length p (b ∷ rest) = go (p b) (run_length p rest)
     go true e = rw e (omega arith)
     go false e = refl
 
-pub run_short : (p : ℕ → Bool) (rest : List ℕ) → length (take_while p rest) ≤ length rest
-run_short p rest = let h = ap length (while_front p rest) in omega (arith, simp length-take at h)
+-- what `position` answers, with the length in place of nothing
+pub found_or_length : {X : Type 0} (p : X → Bool) (xs : List X) {r : Option ℕ}
+    → r ≡ cond (ltb (position_or_len p xs) (length xs)) (Some (position_or_len p xs)) None
+    → unwrap_or r (length xs) ≡ position_or_len p xs
+found_or_length p xs e = rw e (go (dec_lt (position_or_len p xs) (length xs)))
+  where
+    n : ℕ
+    n = position_or_len p xs
+
+    go : Dec (n < length xs) → unwrap_or (cond (ltb n (length xs)) (Some n) None) (length xs) ≡ n
+    go (yes h) = rw (lt-ltb _ _ h)
+    go (no h) =
+        let k : length xs ≤ n = omega arith in
+        rw (le-ltb _ _ k) (omega (arith, prefix_len-le-length (λ x. not (p x)) xs))
 
 pub run_found : (p : ℕ → Bool) (at : ℕ) (rest : List ℕ) {r : Option ℕ}
     → r ≡ cond (ltb (position_or_len (λ b. not (p b)) rest) (length rest)) (Some (position_or_len (λ b. not (p b)) rest)) None
     → at + unwrap_or r (length rest) ≡ run_end p at rest
 unfolding run_end
-run_found p at rest e = rw (e, run_length p rest) (go (dec_lt (length (take_while p rest)) (length rest)))
-  where
-    n : ℕ
-    n = length (take_while p rest)
-
-    go : Dec (n < length rest) → at + unwrap_or (cond (ltb n (length rest)) (Some n) None) (length rest) ≡ at + n
-    go (yes h) = rw (lt-ltb _ _ h)
-    go (no h) = let k : length rest ≤ n = omega arith in rw (le-ltb _ _ k) (omega (arith, run_short p rest))
+run_found p at rest e = ap (λ (k : ℕ). at + k) (found_or_length (λ b. not (p b)) rest e ∙ run_length p rest)
 
 -- a run ends at or after its place
 pub run_from : (p : ℕ → Bool) (at : ℕ) (rest : List ℕ) {w : ℕ} → w ≡ run_end p at rest → at ≤ w

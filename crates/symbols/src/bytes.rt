@@ -1,7 +1,7 @@
 // The kinds of bytes.
 #![tactic(auto, unfolding(crate::specs::Bytes::is_blank, crate::specs::Bytes::is_digit, crate::specs::Bytes::is_hex_digit, crate::specs::Bytes::is_capital, crate::specs::Bytes::is_letter, crate::specs::Bytes::in_name, crate::specs::Bytes::small))]
 
-ghost use Rattle.std.specs.Prelude.{◌≡◌, min, length};
+ghost use Rattle.std.specs.Prelude.{◌≡◌, min, length, drop};
 ghost use Rattle.std.proofs.Math.Seq.{slice};
 ghost use Rattle.symbols.specs.Bytes.{is_blank, is_digit, is_hex_digit, is_letter, in_name, small};
 
@@ -46,4 +46,11 @@ pub fn part(text: &[u8], start: usize, end: usize) -> &[u8]
     ensures { result.now ≡ slice start end text.now }
 {
     text.get(start..end.min(text.len())).unwrap_or_default()
+}
+
+// The bytes from `start` on, as far as the text has them.
+pub fn rest(text: &[u8], start: usize) -> &[u8]
+    ensures { result.now ≡ drop start text.now }
+{
+    text.get(start..).unwrap_or_default()
 }
