@@ -10,7 +10,7 @@ use Rattle.cents.proofs.measure.measure_of.Goals as goal
 holds : (c : goal.After-div_euclid) → Holds c.div_euclid.result c.args.a c.args.p c.args.q
 holds c =
     measured c.args.a c.logarithm_of.result c.logarithm_of-2.result c.requires.0 c.requires.1 c.logarithm_of.ensures.1 c.logarithm_of-2.ensures.1
-    c.args.p c.args.q c.div_euclid.result c.logarithm_of.ensures.0 c.logarithm_of-2.ensures.0 c.div_euclid.ensures
+    c.args.p c.args.q c.div_euclid.result c.logarithm_of.ensures.0 c.logarithm_of-2.ensures.0 (rw c.scale-x.ensures at c.div_euclid.ensures)
 
 wide : (c : goal.After-div_euclid) → to_z w64 (of_z w64 c.div_euclid.result) ≡ c.div_euclid.result
 wide c = let f : SFits w64 c.div_euclid.result = omega (signed, abs c.div_euclid.result, (holds c).small) in to_z-of_z f
