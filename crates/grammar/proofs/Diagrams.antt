@@ -4,11 +4,11 @@ use mathlib.Core.Bool.{Bool, true, false, cond}
 use mathlib.Core.List.{List, [], ◌∷◌}
 use Rattle.std.specs.Prelude.{Option, Some, None}
 use mathlib.Core.Path.{◌≡◌, refl, sym, ◌∙◌, ap, subst}
-use Prim.Native.Nat.{ℕ, ◌*◌, ◌/◌, ◌%◌, ◌<◌}
+use Prim.Native.Nat.{ℕ, ◌*◌, ◌/◌, ◌%◌, ◌≤◌, ◌<◌}
 use native.Mathlib.Omega.{arith}
 use borrow.Author.Tests.{eqb-true}
 use lib.Dec.{T, eqb, ltb, ltb→lt, eqb→eq}
-use lib.ListN.{length, get_or}
+use lib.ListN.{length, get_or, get_or-eq_default}
 use Rattle.grammar.specs.declared.Action.{Action}
 use Rattle.grammar.specs.declared.Action.TheVariants.{Pass}
 use Rattle.grammar.specs.Syntax.{Terminal, end, nothing, Node, Finish, Rule, rules}
@@ -113,6 +113,17 @@ end_at_finish n t {r} e f = go (same_terminal r.symbol end) refl
     go : (b : Bool) → same_terminal r.symbol end ≡ b → t ≡ end
     go true q = p.1 ∙ same_terminal_holds r.symbol end q
     go false q = let w = rw (q, f) at (both_right (cond (is_nothing r.symbol) false true) _ p.0) in absurd w
+
+-- ---- where there is no move
+
+pub past_nodes : (k t : ℕ) → node_count ≤ k → None ≡ move_of k t
+unfolding move_of picked rules
+past_nodes k t h = ap (λ (q : Node). move_by (picked (rules q) (terminal_at t))) (sym (get_or-eq_default nodes Finish h))
+
+pub past_terminals : (k t : ℕ) → terminal_count ≤ t → None ≡ move_of k t
+unfolding move_of
+past_terminals k t h =
+    ap move_by (sym (none_at_nothing (node_at k))) ∙ ap (λ (u : Terminal). move_by (picked (rules (node_at k)) u)) (sym (get_or-eq_default terminals nothing h))
 
 -- ---- where a rule leads to
 

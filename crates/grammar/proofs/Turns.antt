@@ -2,7 +2,7 @@
 -- Assumes nothing.
 use mathlib.Core.Bool.{Bool, true, false, cond}
 use mathlib.Core.List.{List, [], ◌∷◌, ◌++◌, append-nil}
-use Rattle.std.specs.Prelude.{Option, Some, None, Result, Ok, Err, IsErrAnd}
+use Rattle.std.specs.Prelude.{Option, Some, None, Result, Ok, Err}
 use mathlib.Core.Path.{◌≡◌, refl, sym, ◌∙◌, ap, subst}
 use Prim.Native.Nat.{ℕ, ◌+◌, ◌-◌, ◌^◌, ◌≤◌, ◌<◌}
 use native.Mathlib.Omega.{arith}
@@ -32,6 +32,7 @@ use Rattle.grammar.specs.declared.Action.TheVariants.{Pass, Declare, Hold, Held,
 use Rattle.grammar.specs.declared.Item.{Item}
 use Rattle.grammar.specs.declared.Progress.{Progress}
 use Rattle.grammar.specs.declared.Span.{Span}
+use Rattle.grammar.specs.declared.Stopped.{Stopped}
 use Rattle.status.specs.declared.Reason.{Reason}
 use Rattle.status.specs.declared.Reason.TheVariants.{TextTooLong, NoSymbol, SymbolNotAllowed, ItemTooMany}
 use Rattle.status.specs.declared.Refusal.{Refusal}
@@ -267,12 +268,16 @@ midway_first text before h k = record {
 }
 
 -- what a call answers, and what the slice holds then
-abbrev pub Answer : (text : List ℕ) (before items : List Item) → Result ℕ Refusal → Type 0
+abbrev pub Answer : (text : List ℕ) (before items : List Item) → Result ℕ Stopped → Type 0
 Answer text before items r = Answered (read_items text) r × (items ≡ holding (read_items text).items before)
 
-pub too_long : (text : List ℕ) (items : List Item) → most_bytes < length text → Answer text items items (Err (refusal TextTooLong 0))
+-- reading stops with so many items
+abbrev pub stopped_with : Refusal → ℕ → Stopped
+stopped_with e n = record { refusal = e; count = n }
+
+pub too_long : (text : List ℕ) (items : List Item) → most_bytes < length text → Answer text items items (Err (stopped_with (refusal TextTooLong 0) 0))
 unfolding read_items
-too_long text items h = rw (lt-leb (length text) most_bytes h) ((refl, refl), refl)
+too_long text items h = rw (lt-leb (length text) most_bytes h) ((refl, refl, refl), refl)
 
 -- why a symbol is refused for which there is no rule
 reason_number : (b : Bool) → cond b no_symbol symbol_not_allowed ≡ number_of (cond b NoSymbol SymbolNotAllowed)
@@ -293,8 +298,10 @@ module _ {text : List ℕ} {before items : List Item} {n : Node} {s : Progress} 
   holds : {r : Read} → read_items text ≡ r → r.items ≡ st.so_far_case → items ≡ holding (read_items text).items before
   holds e f = st.held ∙ ap (λ (l : List Item). holding l before) (sym (ap (λ (q : Read). q.items) e ∙ f))
 
-  stopped : (e : Refusal) → read_from text (standing n s) (symbols_from text at) ≡ refused_at (number_of e.reason) e.place → Answer text before items (Err e)
-  stopped e q = let r = stops q in ((ap (λ (q : Read). q.number) r, ap (λ (q : Read). q.place) r), holds r refl)
+  stopped : (e : Refusal) → read_from text (standing n s) (symbols_from text at) ≡ refused_at (number_of e.reason) e.place → Answer text before items (Err (stopped_with e count))
+  stopped e q =
+      let r = stops q in
+      ((st.counted ∙ sym (ap (λ (q : Read). length q.items) r), ap (λ (q : Read). q.number) r, ap (λ (q : Read). q.place) r), holds r refl)
 
   completed : read_from text (standing n s) (symbols_from text at) ≡ read_whole → Answer text before items (Ok count)
   completed q =
@@ -313,7 +320,7 @@ module _ {text : List ℕ} {before items : List Item} {n : Node} {s : Progress} 
         ∙ turned_by text n s y (going_on text (after y)) e
 
     unruled : picked (rules n) (terminal_of text y) ≡ None → (e : Refusal) → not_allowed (terminal_of text y) ≡ number_of e.reason → start_of y ≡ e.place
-        → Answer text before items (Err e)
+        → Answer text before items (Err (stopped_with e count))
     unruled p e k q = stopped e (reads p ∙ ap (λ (m : ℕ). refused_at m (start_of y)) k ∙ ap (refused_at (number_of e.reason)) q)
 
     -- a rule leads to o
@@ -321,7 +328,7 @@ module _ {text : List ℕ} {before items : List Item} {n : Node} {s : Progress} 
       reads_on : read_from text (standing n s) (symbols_from text at) ≡ turned text (then_at r.next o) (going_on text (after y))
       reads_on = reads picks ∙ ap (λ (p : Outcome). turned text (then_at r.next p) (going_on text (after y))) (sym eo)
 
-      refused : (e : Refusal) → o ≡ Err e → Answer text before items (Err e)
+      refused : (e : Refusal) → o ≡ Err e → Answer text before items (Err (stopped_with e count))
       refused e q = stopped e (reads_on ∙ rw q)
 
       finished : {t : Progress} → o ≡ Ok (t, None) → r.next ≡ Finish → Answer text before items (Ok count)
@@ -404,11 +411,6 @@ module _ {text : List ℕ} {before items : List Item} {n : Node} {s : Progress} 
             },
           )
 
--- a refusal that is handed on
-pub handed_on : (r : Result ℕ Refusal) {e : Refusal} → IsErrAnd r (λ f. f ≡ e) → r ≡ Err e
-handed_on (Ok n) h = absurd h
-handed_on (Err f) h = ap (λ (g : Refusal). Err g) h
-
 -- ---- the loop: reading stands at the node of which the code holds the number, or is finished
 
 pub record Walking (text : List ℕ) (before items : List Item) (s : Progress) (node at count : ℕ) : Type 0 where
@@ -454,7 +456,7 @@ module _ {text : List ℕ} {before items : List Item} {s : Progress} {node at co
 
     module _ {t : ℕ} (et : t ≡ terminal_number (terminal_of text y)) {x : Span} (ex : x ≡ span_of y) where
       pub walk_unruled : None ≡ move_of node t → {k : Reason} → k ≡ cond (eqb t (terminal_number nothing)) NoSymbol SymbolNotAllowed
-          → Answer text before items (Err (refusal k x.start))
+          → Answer text before items (Err (stopped_with (refusal k x.start) count))
       walk_unruled e {k} ek =
           let q = no_rule w.stands (terminal_of text y) (e ∙ rw (w.number, et)) in
           rw (ex, ek, et) (unruled (w.midway n) ey q _ (reason_number (eqb (terminal_number (terminal_of text y)) (terminal_number nothing))) refl)
@@ -470,7 +472,7 @@ module _ {text : List ℕ} {before items : List Item} {s : Progress} {node at co
         next_is : (k ≡ node_number Finish → ⊥) → by.rule.next ≡ Finish → ⊥
         next_is m f = m (by.leads ∙ ap node_number f)
 
-        pub walk_refused : {f : Refusal} → o ≡ Err f → Answer text before items (Err f)
+        pub walk_refused : {f : Refusal} → o ≡ Err f → Answer text before items (Err (stopped_with f count))
         walk_refused {f} q = refused (w.midway n) ey by.picks done_so f q
 
         module _ {u : Progress} where

@@ -28,6 +28,7 @@ use Rattle.grammar.specs.declared.FirstNumber.{FirstNumber}
 use Rattle.grammar.specs.declared.NextTerm.{NextTerm}
 use Rattle.grammar.specs.declared.Progress.{Progress}
 use Rattle.grammar.specs.declared.Span.{Span}
+use Rattle.grammar.specs.declared.Stopped.{Stopped}
 use Rattle.symbols.specs.Symbols.{symbols}
 use Rattle.symbols.specs.declared.Symbol.{Symbol}
 use Rattle.grammar.specs.Syntax.{Terminal, Node, Begin, Rule, rules}
@@ -331,7 +332,7 @@ read_from text s (y ∷ ys) =
 unfoldable pub read_items : List ℕ → Read
 read_items text = cond (leb (length text) most_bytes) (read_from text begun (symbols text)) (refused_at text_too_long 0)
 
--- as a call answers it: how many items, or the refusal
-abbrev pub Answered : Read → Result ℕ Refusal → Type 0
+-- as a call answers it: how many items there are, and, where it ends before the text does, the refusal
+abbrev pub Answered : Read → Result ℕ Stopped → Type 0
 Answered r (Ok count) = (count ≡ length r.items) × (r.number ≡ done) × (r.place ≡ 0)
-Answered r (Err e) = (r.number ≡ number_of e.reason) × (r.place ≡ e.place)
+Answered r (Err e) = (e.count ≡ length r.items) × (r.number ≡ number_of e.refusal.reason) × (r.place ≡ e.refusal.place)

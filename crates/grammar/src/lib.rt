@@ -197,3 +197,10 @@ pub struct Span {
 
 // What an action leads to: more progress, perhaps with an item, or a refusal.
 pub type Outcome = Result<(Progress, Option<Item>), Refusal>;
+
+// Why a pass over a text ends at a refusal, and how much it leaves behind: so many items that it has read, or declarations that it has kept.
+#[derive(Clone, Copy)]
+pub struct Stopped {
+    pub refusal: Refusal,
+    pub count: usize,
+}

@@ -1,10 +1,12 @@
 // The moves of the syntax diagrams.
-ghost use Rattle.std.specs.Prelude.{◌≡◌, ◌<◌, get_or};
+ghost use Rattle.std.specs.Prelude.{◌≡◌, get_or};
 ghost use Rattle.grammar.specs.Terminals.{terminal_number};
-ghost use Rattle.grammar.specs.Moves.{action_at, move_of, node_count, Moves};
+ghost use Rattle.grammar.specs.Moves.{action_at, move_of, Moves};
 
 use crate::terminals::Terminal;
 use crate::{Action, Form, Kind, MarkUse, NameUse, NumberUse};
+
+const NODES: u8 = 83;
 
 const TERMINALS: usize = 31;
 
@@ -185,12 +187,14 @@ pub const ACTIONS: [u8; 2573] = *b"\
     \x00\x00\x00\x00\x00\x00\x00\x00\x00\x00\x00\x72\x00\x00\x00\x00\x00\x00\x00\x00\x00\x00\x00\x00\x00\x00\x00\x00\x00\x00\x00\
     \x00\x00\x00\x00\x00\x00\x00\x00\x00\x00\x00\x00\x00\x00\x00\x00\x00\x00\x00\x00\x00\x00\x00\x00\x00\x00\x00\x00\x00\x00\x00";
 
-// What is done at a node on a terminal, and then the next node, by the tables `NEXT` and `ACTIONS`.
+// What is done at a node on a terminal, and then the next node, by the tables `NEXT` and `ACTIONS`. Past the nodes there is no move.
 pub fn move_at(next: &[u8], acts: &[u8], node: u8, terminal: Terminal) -> Option<(Action, u8)>
-    requires moves { Moves next.now acts.now }
-    requires node { node < node_count }
+    requires { Moves next.now acts.now }
     ensures { result ≡ move_of node (terminal_number terminal) }
 {
+    if NODES <= node {
+        return None;
+    }
     let place = node as usize * TERMINALS + terminal.number();
     let then = next[place];
     if then == 0 {

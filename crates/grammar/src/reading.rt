@@ -8,7 +8,7 @@ ghost use Rattle.grammar.specs.Moves.{Moves};
 ghost use Rattle.grammar.specs.Items.{holding, most_items};
 
 use crate::terminals::Terminal;
-use crate::{Counts, FirstNumber, Item, NextTerm, Progress, Span, actions, moves};
+use crate::{Counts, FirstNumber, Item, NextTerm, Progress, Span, Stopped, actions, moves};
 use limits::MOST_BYTES;
 use status::{Reason, Refusal};
 use symbols::{Symbol, spelling, words};
@@ -103,7 +103,7 @@ fn begin() -> Progress
 }
 
 // Reads a text of allowed length symbol by symbol; each item goes into the next place of the slice.
-fn read_symbols(text: &[u8], next: &[u8], acts: &[u8], items: &mut [Item]) -> Result<usize, Refusal>
+fn read_symbols(text: &[u8], next: &[u8], acts: &[u8], items: &mut [Item]) -> Result<usize, Stopped>
     requires text_len_bound { length text.now ≤ most_bytes }
     requires moves { Moves next.now acts.now }
     requires len { length items.old ≡ most_items }
@@ -120,12 +120,16 @@ fn read_symbols(text: &[u8], next: &[u8], acts: &[u8], items: &mut [Item]) -> Re
         let terminal = terminal_of(text, symbol);
         let x = span_of(symbol);
         let Some((action, then)) = moves::move_at(next, acts, node, terminal) else {
-            return Err(Refusal {
+            let refusal = Refusal {
                 reason: reason_of(terminal),
                 place: x.start,
-            });
+            };
+            return Err(Stopped { refusal, count });
         };
-        let (more, item) = actions::act(text, s, action, x)?;
+        let (more, item) = match actions::act(text, s, action, x) {
+            Ok(step) => step,
+            Err(refusal) => return Err(Stopped { refusal, count }),
+        };
         s = more;
         node = then;
         at = x.end as usize;
@@ -137,17 +141,18 @@ fn read_symbols(text: &[u8], next: &[u8], acts: &[u8], items: &mut [Item]) -> Re
     Ok(count)
 }
 
-// The items of a text go into the first places of the slice.
-pub fn read_items(text: &[u8], items: &mut [Item]) -> Result<usize, Refusal>
+// The items of a text go into the first places of the slice. How many there are, on a refusal too.
+pub fn read_items(text: &[u8], items: &mut [Item]) -> Result<usize, Stopped>
     requires { length items.old ≡ most_items }
     ensures answered { Answered (read_items text.now) result }
     ensures items { items.new ≡ holding (read_items text.now).items items.old }
 {
     if MOST_BYTES < text.len() {
-        return Err(Refusal {
+        let refusal = Refusal {
             reason: Reason::TextTooLong,
             place: 0,
-        });
+        };
+        return Err(Stopped { refusal, count: 0 });
     }
     let next = moves::NEXT;
     let acts = moves::ACTIONS;

@@ -2,7 +2,7 @@
 use Rattle.std.specs.Prelude.{◌≡◌, cond, List, ℕ, ℤ, pos, length, replicate, Result}
 use Rattle.status.specs.declared.Refusal.{Refusal}
 use Rattle.status.specs.Status.{done, text_too_long}
-use Rattle.names.specs.Inner.{Tells}
+use Rattle.status.specs.Reasons.{Tells}
 use Rattle.tables.specs.Layout.{Tables, full_size}
 use Rattle.program.specs.Text.{Verdict, refused, accepted, read_text}
 use Rattle.filling.specs.Tables.{tables_of}

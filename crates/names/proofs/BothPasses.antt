@@ -12,6 +12,7 @@ use Rattle.status.specs.Reasons.{number_of}
 use Rattle.status.specs.Status.{done, name_twice}
 use Rattle.status.proofs.ReasonNumbers.{never_done}
 use Rattle.grammar.specs.declared.Item.{Item}
+use Rattle.grammar.specs.declared.Stopped.{Stopped}
 use Rattle.names.specs.Names.{declared, Repeat, no_repeat, repeat_at, twice_from, resolved, unless_missing, Meant, meanings}
 use Rattle.names.specs.Inner.{named_of, packed, Kept, begun_with, distinct, rewritten, left_items, number_if, place_if, Declarable, most_declarations, FirstPass, SecondPass, BothPasses}
 use Rattle.names.proofs.Marks.{kept_names, kept_now}
@@ -65,17 +66,17 @@ module _ (text : List ℕ) (is : List Item) where
         (distinct_once text [] (declared is) n (omega (arith, first.count)))
 
   module _ (names starts : List ℕ) where
-    pub both_stop : {e : Refusal} {names' starts' : List ℕ} → FirstPass text is names starts (Err e) names' starts'
+    pub both_stop : {e : Stopped} {names' starts' : List ℕ} → FirstPass text is names starts (Err e) names' starts'
         → BothPasses text is names starts (Err e) is names' starts'
     both_stop {e} {names'} {starts'} first = go _ refl
       where
         go : (f : Repeat) → twice_from text [] (declared is) ≡ f
             → BothPasses text is names starts (Err e) is names' starts'
-        go no_repeat t = absurd (never_done e.reason (sym first.told.0 ∙ ap (number_if name_twice) t))
+        go no_repeat t = absurd (never_done e.refusal.reason (sym first.told.0 ∙ ap (number_if name_twice) t))
         go (repeat_at p) t =
             record {
               told = (twice_number t ∙ sym (ap (number_if name_twice) t) ∙ first.told.0, twice_place t ∙ sym (ap place_if t) ∙ first.told.1);
-              count = tt;
+              count = first.count;
               left = sym (twice_left t);
               kept = first.kept;
               begun = first.begun;
@@ -105,11 +106,11 @@ module _ (text : List ℕ) (is : List Item) where
 
     pub both_missing : {n : ℕ} {names' starts' : List ℕ} (first : FirstPass text is names starts (Ok n) names' starts')
         → {e : Refusal} {is' : List Item} → SecondPass text (named_of (take n names')) is (Err e) is'
-        → BothPasses text is names starts (Err e) is' names' starts'
+        → BothPasses text is names starts (Err (record { refusal = e; count = n })) is' names' starts'
     both_missing first {e} second =
         record {
           told = subst (λ (m : Meant). (m.number ≡ number_of e.reason) × (m.place ≡ e.place)) (meant_now first second) (on_declared first second).told;
-          count = tt;
+          count = first.count;
           left = left_now first second;
           kept = first.kept;
           begun = first.begun;

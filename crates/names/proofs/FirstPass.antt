@@ -194,13 +194,13 @@ module _ (text : List ℕ) (is : List Item) (names₀ starts₀ : List ℕ) wher
           found_before = found ∙ ap (λ ds. bearer_of text ds k (name_at text q)) (kept_names text (declared is) names₀ n p.few p.kept)
 
           -- the name stood before in its kind
-          pub passed_stop : {j : ℕ} → f ≡ Some j → FirstPass text is names₀ starts₀ (Err (record { reason = NameTwice; place = q })) l m
+          pub passed_stop : {j : ℕ} → f ≡ Some j → FirstPass text is names₀ starts₀ (Err (record { refusal = record { reason = NameTwice; place = q }; count = n })) l m
           passed_stop z =
               let t : twice_from text [] (declared is) ≡ repeat_at q = sym p.twice ∙ twice_stop text (declared is) n names_here found_before z in
               let s = distinct_stop text (declared is) n names_here found_before z in
               let c = p.distinct in
               let e : distinct_from text [] (declared is) ≡ n = omega arith in
-              record { told = (rw t, rw t); count = tt; kept = rw e p.kept; begun = rw e p.begun }
+              record { told = (rw t, rw t); count = sym e; kept = rw e p.kept; begun = rw e p.begun }
 
           -- it is kept
           pub passed_more : f ≡ None → {v : ℕ} → v ≡ packed text (record { kind = k; place = q }) → n < length l → n < length m

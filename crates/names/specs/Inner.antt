@@ -1,13 +1,14 @@
 -- What the passes over the items keep, and what they leave: for the contracts of functions.
-use Rattle.std.specs.Prelude.{◌≡◌, true, false, List, [], ◌∷◌, ◌++◌, map, ℕ, zero, suc, ◌+◌, ◌*◌, ◌/◌, ◌%◌, ◌≤◌, ◌<◌, eqb, length, get_or, take, drop, Option, Some, None, Result, Ok, Err, IfOk}
+use Rattle.std.specs.Prelude.{◌≡◌, true, false, List, [], ◌∷◌, ◌++◌, map, ℕ, zero, suc, ◌+◌, ◌*◌, ◌/◌, ◌%◌, ◌≤◌, ◌<◌, eqb, length, get_or, take, drop, Option, Some, None, Result, Ok, Err}
 use Rattle.symbols.specs.Names.{name_at}
 use Rattle.grammar.specs.declared.Kind.{Kind}
 use Rattle.grammar.specs.declared.Kind.TheVariants.{Order as AnOrder}
 use Rattle.grammar.specs.declared.Item.{Item}
+use Rattle.grammar.specs.declared.Stopped.{Stopped}
 use Rattle.grammar.specs.Moves.{kinds, kind_number}
 pub use Rattle.limits.specs.Limits.{most_bytes, most_declarations}
 use Rattle.status.specs.declared.Refusal.{Refusal}
-use Rattle.status.specs.Reasons.{number_of}
+use Rattle.status.specs.Reasons.{Tells}
 use Rattle.status.specs.Status.{done, name_twice}
 use Rattle.names.specs.declared.Scope.{Scope}
 use Rattle.names.specs.declared.Scope.TheVariants.{Intervals, Tones, Starts, Orders, Harmonies}
@@ -188,15 +189,20 @@ abbrev pub place_if : Repeat → ℕ
 place_if no_repeat = 0
 place_if (repeat_at p) = p
 
--- a pass answers with a number and a place: where it refuses, with the reason's number and its place, else with 0 and 0
-abbrev pub Tells : {A : Type 0} → ℕ → ℕ → Result A Refusal → Type 0
-Tells number place (Ok x) = (number ≡ done) × (place ≡ 0)
-Tells number place (Err e) = (number ≡ number_of e.reason) × (place ≡ e.place)
+-- why a pass stops, without what it keeps
+abbrev pub without_count : Result ℕ Stopped → Result ℕ Refusal
+without_count (Ok n) = Ok n
+without_count (Err e) = Err e.refusal
+
+-- how many declarations are kept, on a refusal too
+abbrev pub kept_count : Result ℕ Stopped → ℕ
+kept_count (Ok n) = n
+kept_count (Err e) = e.count
 
 -- the first pass: names used twice in a kind; `names` and `starts` before and after it
-pub record FirstPass (text : List ℕ) (is : List Item) (names starts : List ℕ) (r : Result ℕ Refusal) (names' starts' : List ℕ) : Type 0 where
-  pub told : Tells (number_if name_twice (twice_from text [] (declared is))) (place_if (twice_from text [] (declared is))) r
-  pub count : IfOk r (λ n. n ≡ distinct text is)
+pub record FirstPass (text : List ℕ) (is : List Item) (names starts : List ℕ) (r : Result ℕ Stopped) (names' starts' : List ℕ) : Type 0 where
+  pub told : Tells (number_if name_twice (twice_from text [] (declared is))) (place_if (twice_from text [] (declared is))) (without_count r)
+  pub count : kept_count r ≡ distinct text is
   pub kept : names' ≡ begun_with (distinct text is) (map (packed text) (declared is)) names
   pub begun : starts' ≡ begun_with (distinct text is) (beginnings is) starts
 
@@ -206,9 +212,9 @@ pub record SecondPass (text : List ℕ) (ds : List Named) (is : List Item) (r : 
   pub left : is' ≡ rewritten text ds is
 
 -- both passes
-pub record BothPasses (text : List ℕ) (is : List Item) (names starts : List ℕ) (r : Result ℕ Refusal) (is' : List Item) (names' starts' : List ℕ) : Type 0 where
-  pub told : Tells (meanings text is).number (meanings text is).place r
-  pub count : IfOk r (λ n. n ≡ distinct text is)
+pub record BothPasses (text : List ℕ) (is : List Item) (names starts : List ℕ) (r : Result ℕ Stopped) (is' : List Item) (names' starts' : List ℕ) : Type 0 where
+  pub told : Tells (meanings text is).number (meanings text is).place (without_count r)
+  pub count : kept_count r ≡ distinct text is
   pub left : is' ≡ left_items text is
   pub kept : names' ≡ begun_with (distinct text is) (map (packed text) (declared is)) names
   pub begun : starts' ≡ begun_with (distinct text is) (beginnings is) starts

@@ -11,7 +11,7 @@ ghost use Rattle.names.specs.Parts.{part};
 ghost use Rattle.names.specs.Names.{bearer_of, called_in};
 ghost use Rattle.names.specs.Inner.{used_name, tag_of, mark_of, mark_room, packed, unpacked, named_of, Kept, Chained, kinds_in, Declarable, Room, FirstPass, SecondPass, BothPasses, most_declarations};
 
-use grammar::{Item, Kind};
+use grammar::{Item, Kind, Stopped};
 use limits::MOST_DECLARATIONS;
 use status::{Reason, Refusal};
 use symbols::{bytes, spelling};
@@ -183,7 +183,7 @@ fn declare_all(
     starts: &mut [u32],
     heads: &mut [u16],
     links: &mut [u16],
-) -> Result<usize, Refusal>
+) -> Result<usize, Stopped>
     requires fits { length items.now ≤ most_items }
     requires declarable { Declarable items.now }
     requires room { Room declared.old starts.old }
@@ -203,10 +203,11 @@ fn declare_all(
             links,
         };
         if let Some(_) = before.find(kind, place as usize) {
-            return Err(Refusal {
+            let refusal = Refusal {
                 reason: Reason::NameTwice,
                 place,
-            });
+            };
+            return Err(Stopped { refusal, count: n });
         }
         declared[n] = pack(text, kind, place);
         starts[n] = i as u32;
@@ -236,13 +237,13 @@ fn resolve_uses(items: &mut [Item], known: Declarations<'_>) -> Result<(), Refus
 }
 
 // Keeps the declared names and the indexes of their items, and replaces each used name by the number of its declaration.
-// The result is how many declarations are kept.
+// The result tells how many declarations are kept, on a refusal too.
 pub fn resolve_names(
     text: &[u8],
     items: &mut [Item],
     declared: &mut [u32],
     starts: &mut [u32],
-) -> Result<usize, Refusal>
+) -> Result<usize, Stopped>
     requires fits { length items.old ≤ most_items }
     requires declarable { Declarable items.old }
     requires room { Room declared.old starts.old }
@@ -257,6 +258,8 @@ pub fn resolve_names(
         heads: &heads,
         links: &links,
     };
-    resolve_uses(items, known)?;
-    Ok(n)
+    match resolve_uses(items, known) {
+        Ok(()) => Ok(n),
+        Err(refusal) => Err(Stopped { refusal, count: n }),
+    }
 }

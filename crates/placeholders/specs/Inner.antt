@@ -4,7 +4,8 @@ use Rattle.symbols.specs.Names.{name_at}
 use Rattle.status.specs.declared.Refusal.{Refusal}
 use Rattle.grammar.specs.declared.Item.{Item}
 use Rattle.grammar.specs.Items.{most_items, holding}
-use Rattle.names.specs.Inner.{beginnings, Tells}
+use Rattle.names.specs.Inner.{beginnings}
+use Rattle.status.specs.Reasons.{Tells}
 use Rattle.placeholders.specs.declared.Seen.TheVariants.{Other, Declares, Names, Wants, Calls, Hands}
 use Rattle.placeholders.specs.declared.Settled.{Settled}
 use Rattle.placeholders.specs.declared.writing.WrittenCall.{WrittenCall}

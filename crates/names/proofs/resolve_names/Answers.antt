@@ -26,10 +26,8 @@ slice_bounds-known-end-2 c =
 pub invariant_of-known : goal.invariant_of-known
 invariant_of-known c = record { of_text = first_found _ _ c.in_ok-n.ensures.first_pass; chained = c.in_ok-n.ensures.chained_2 }
 
-pub returns-in_err-resolve_uses : goal.returns-in_err-resolve_uses
-returns-in_err-resolve_uses c =
-    let p = err_from_is_err_and c.from_residual-in_err-resolve_uses.result c.from_residual-in_err-resolve_uses.ensures.1 in
-    rw (p.1, p.2) (both_missing _ _ _ _ c.in_ok-n.ensures.first_pass c.in_err-resolve_uses.ensures)
+pub returns-in-Err : goal.returns-in-Err
+returns-in-Err c = both_missing _ _ _ _ c.in_ok-n.ensures.first_pass c.in-Err.ensures
 
-pub returns : goal.returns
-returns c = both_done _ _ _ _ c.in_ok-n.ensures.first_pass c.in_ok-resolve_uses.ensures
+pub returns-in-Ok : goal.returns-in-Ok
+returns-in-Ok c = both_done _ _ _ _ c.in_ok-n.ensures.first_pass c.in-Ok.ensures
