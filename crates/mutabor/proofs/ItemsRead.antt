@@ -10,6 +10,7 @@ use Rattle.std.specs.Prelude.{Result, Ok, Err}
 use Rattle.status.specs.Status.{done}
 use Rattle.status.specs.declared.Refusal.{Refusal}
 use Rattle.grammar.specs.declared.Item.{Item}
+use Rattle.grammar.specs.declared.Stopped.{Stopped}
 use Rattle.grammar.specs.Items.{holding}
 use Rattle.grammar.specs.Reading.{read_items, Answered}
 use Rattle.names.specs.Names.{meanings}
@@ -20,8 +21,8 @@ use Rattle.mutabor.specs.Reading.{by_verdict, Leaves}
 use Rattle.mutabor.proofs.Steps.{items_refused, items_read}
 
 -- the text is refused
-pub not_read : (text : List ℕ) (e : Refusal) → Answered (read_items text) (Err e) → {after : Tables} → after ≡ blank → Leaves (by_verdict blank (read_text text)) (Err e) after
-not_read text e w h = items_refused text w.0 w.1 h
+pub not_read : (text : List ℕ) (e : Stopped) → Answered (read_items text) (Err e) → {after : Tables} → after ≡ blank → Leaves (by_verdict blank (read_text text)) (Err e.refusal) after
+not_read text e w h = items_refused text w.1 w.2 h
 
 -- or its items are read, so many
 module _ (text : List ℕ) (items : List Item) {items' : List Item} {n : ℕ} (w : Answered (read_items text) (Ok n)) (h : items' ≡ holding (read_items text).items items) where

@@ -114,7 +114,10 @@ fn take_items(
 {
     let mut declared = [0u32; MOST_DECLARATIONS];
     let mut starts = [0u32; ROWS];
-    let n = resolve_names(text, &mut items[..count], &mut declared, &mut starts)?;
+    let n = match resolve_names(text, &mut items[..count], &mut declared, &mut starts) {
+        Ok(n) => n,
+        Err(unresolved) => return Err(unresolved.refusal),
+    };
     take_names(text, items, count, &mut starts, n, numbers, codes)
 }
 
@@ -125,7 +128,10 @@ fn take_symbols(text: &[u8], numbers: &mut [i32], codes: &mut [u16]) -> Result<(
 {
     // These items are zeros, as which the array is cleared at once.
     let mut items = [Item::Declared(Kind::Interval, 0); MOST_ITEMS];
-    let count = read_items(text, &mut items)?;
+    let count = match read_items(text, &mut items) {
+        Ok(count) => count,
+        Err(unread) => return Err(unread.refusal),
+    };
     take_items(text, &mut items, count, numbers, codes)
 }
 

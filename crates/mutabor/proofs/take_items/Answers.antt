@@ -5,7 +5,6 @@ use mathlib.Core.Path.{◌≡◌, subst, ◌∙◌}
 use native.Mathlib.Omega.{arith}
 use lib.ListN.{length, take, drop, length-append, length-drop}
 use lib.Seq.{length-take-le, take_at}
-use Rattle.std.proofs.lemmas.Result.{err_from_is_err_and}
 use Rattle.grammar.specs.declared.Item.{Item}
 use Rattle.names.specs.Inner.{Declarable}
 use Rattle.names.proofs.Limits.{read_declarable}
@@ -21,11 +20,10 @@ resolve_names-requires c =
       room = record { names = omega arith; starts = omega arith };
     }
 
-pub returns-in_err-n : goal.returns-in_err-n
-returns-in_err-n c =
-    let p = err_from_is_err_and c.from_residual.result c.from_residual.ensures.1 in
-    let w = c.in_err-n.ensures.told in
-    rw (p.1, p.2) (part_refused _ _ _ w.0 w.1 c.requires.codes_value)
+pub returns-in-Err : goal.returns-in-Err
+returns-in-Err c =
+    let w = c.in-Err.ensures.told in
+    part_refused _ _ _ w.0 w.1 c.requires.codes_value
 
 -- as many items as before, and the others behind them
 size_now : {count : ℕ} (items new : List Item) → count ≤ length items → length new ≡ length (take count items) → length new ≡ count
@@ -39,12 +37,12 @@ take_names-requires c =
       counted = simp length-append (omega (arith, n));
       size = simp length-append (omega (arith, n, length-drop c.args.count c.args.items.now, c.requires.counted, c.requires.size));
       resolved = rw (take_at c.resolve_names.new.items rest c.args.count n)
-          (resolved_now _ _ c.in_ok-n.ensures c.requires.text_value.0 c.requires.text_value.1 (omega (arith, c.resolve_names.auto.starts)));
+          (resolved_now _ _ c.in-Ok.ensures c.requires.text_value.0 c.requires.text_value.1 (omega (arith, c.resolve_names.auto.starts)));
       codes_value = c.requires.codes_value;
     }
 
 pub returns : goal.returns
 returns c =
     let n = size_now c.args.items.now c.resolve_names.new.items c.requires.counted c.resolve_names.auto.items in
-    names_resolved _ _ c.in_ok-n.ensures c.requires.text_value.0 c.requires.text_value.1
+    names_resolved _ _ c.in-Ok.ensures c.requires.text_value.0 c.requires.text_value.1
     (rw (take_at c.resolve_names.new.items (drop c.args.count c.args.items.now) c.args.count n) at c.take_names.ensures)
