@@ -24,8 +24,14 @@ pub fn natural(z: i32) -> u32
 }
 
 // The number at a place, or 0 past the end.
-fn number_at(table: &[i32], at: usize) -> i32
+pub fn number_at(table: &[i32], at: usize) -> i32
     ensures { result ≡ get_or table.now at (pos 0) }
+{
+    table.get(at).copied().unwrap_or(0)
+}
+
+fn code_at(table: &[u16], at: usize) -> u16
+    ensures { result ≡ get_or table.now at 0 }
 {
     table.get(at).copied().unwrap_or(0)
 }
@@ -142,6 +148,20 @@ fn change_of(code: u16, z: i32) -> ToneChange
         MOVE_CODE => ToneChange::Move(Interval(z)),
         _ => ToneChange::Set(Pitch(z)),
     }
+}
+
+// Tone i of the tone systems.
+pub fn tone_at(sounding: &[u16], tones: &[i32], i: usize) -> Tone
+    ensures { result ≡ tone_of (get_or sounding.now i 0) (get_or tones.now i (pos 0)) }
+{
+    tone_of(code_at(sounding, i), number_at(tones, i))
+}
+
+// Change i of the tones retunings.
+pub fn change_at(kinds: &[u16], changes: &[i32], i: usize) -> ToneChange
+    ensures { result ≡ change_of (get_or kinds.now i 0) (get_or changes.now i (pos 0)) }
+{
+    change_of(code_at(kinds, i), number_at(changes, i))
 }
 
 // What kinds and numbers stand for, at the start of an array; its other places are unused.
