@@ -26,7 +26,7 @@ use status::{BAD_FRAME, BUFFER_TOO_SMALL, DONE, KEY_SILENT, KEY_UNPLAYABLE, TABL
 use tables::{LOGIC_FORM, Tables, decode};
 use triggers::Called;
 use tuning::{State, Tone, is_playable};
-use validity::are_valid;
+use validity::valid_tables;
 
 // What the desk holds from frame to frame, for both houses: the tuning, the active logic, by the number of its declaration, and the held keys.
 #[derive(Clone, Copy, PartialEq, Eq)]
@@ -119,15 +119,13 @@ fn has_logic(tables: Tables, i: u32) -> bool
 pub fn is_valid(numbers: &[i32], codes: &[u16], desk: Desk) -> bool
     ensures { result ≡ valid_desk (tables_in numbers.now codes.now) desk }
 {
-    let Some(tables) = Tables::new(numbers, codes) else {
-        return false;
-    };
-    if !are_valid(tables) {
+    if !valid_tables(numbers, codes) {
         return false;
     }
     if !desk.tuning.is_valid() {
         return false;
     }
+    let tables = Tables { numbers, codes };
     match desk.active {
         None => true,
         Some(i) => has_logic(tables, i),

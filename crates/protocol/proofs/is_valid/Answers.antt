@@ -1,12 +1,7 @@
--- Tables that are not of full size are not right.
-use Rattle.std.proofs.Common.{◌≡◌, true, false, sym}
-use Rattle.tables.specs.Layout.{tables_in, full_size}
-use Rattle.validity.proofs.Runs.{differs}
-use Rattle.validity.proofs.Sizes.{unsized}
-use Rattle.protocol.proofs.Ways.{desk_tables}
+-- Right tables are of full size.
+use Rattle.std.proofs.Common.{sym, ◌∙◌}
+use Rattle.validity.proofs.Laws.{slices_valid}
 use Rattle.protocol.proofs.is_valid.Goals as goal
 
-pub returns-in_default : goal.returns-in_default
-returns-in_default c =
-    let t = tables_in c.args.numbers.now c.args.codes.now in
-    desk_tables t c.args.desk (sym (unsized t (differs (full_size t) (λ h. let e : false ≡ true = c.in_default.ensures.full.1 h in cc))))
+pub invariant_of-tables : goal.invariant_of-tables
+invariant_of-tables c = record { full = slices_valid c.args.numbers.now c.args.codes.now (sym c.valid_tables.ensures ∙ c.if-not-valid_tables.false) }
