@@ -146,19 +146,35 @@ abbrev pub or_else : Option ℕ → Option ℕ → Option ℕ
 or_else None o = o
 or_else (Some k) o = Some k
 
+first_append : (p : ℕ → Bool) (cs ks ds ls : List ℕ) → length cs ≡ length ks
+    → first_order p (cs ++ ds) (ks ++ ls) ≡ or_else (first_order p cs ks) (first_order p ds ls)
+unfolding first_order
+first_append p [] [] ds ls e = refl
+first_append p [] (k ∷ ks) ds ls e = let z : ⊥ = omega arith in absurd z
+first_append p (c ∷ cs) [] ds ls e = let z : ⊥ = omega arith in absurd z
+first_append p (c ∷ cs) (k ∷ ks) ds ls e = go (p c) (first_append p cs ks ds ls (omega arith))
+  where
+    go : (b : Bool) → first_order p (cs ++ ds) (ks ++ ls) ≡ or_else (first_order p cs ks) (first_order p ds ls)
+        → elim b [ true ↦ Some k | false ↦ first_order p (cs ++ ds) (ks ++ ls) ]
+        ≡ or_else (elim b [ true ↦ Some k | false ↦ first_order p cs ks ]) (first_order p ds ls)
+    go true later = refl
+    go false later = later
+
+-- the columns of a list of orders and of more behind it
+columns_append : (part behind : List ℕ) → Paired part
+    → (triggers_in (part ++ behind) ≡ triggers_in part ++ triggers_in behind) × (calls_in (part ++ behind) ≡ calls_in part ++ calls_in behind)
+unfolding column
+columns_append [] behind h = (refl, refl)
+columns_append (c ∷ []) behind h = absurd h
+columns_append (c ∷ k ∷ part) behind h = let e = columns_append part behind h in (ap (λ (l : List ℕ). c ∷ l) e.0, ap (λ (l : List ℕ). k ∷ l) e.1)
+
 abbrev pub order_among : (ℕ → Bool) → List ℕ → Option ℕ
 order_among p os = first_order p (triggers_in os) (calls_in os)
 
 pub among_append : (p : ℕ → Bool) (part behind : List ℕ) → Paired part → order_among p (part ++ behind) ≡ or_else (order_among p part) (order_among p behind)
-unfolding first_order column
-among_append p [] behind h = refl
-among_append p (c ∷ []) behind h = absurd h
-among_append p (c ∷ k ∷ part) behind h = go (p c) (among_append p part behind h)
-  where
-    go : (b : Bool) → order_among p (part ++ behind) ≡ or_else (order_among p part) (order_among p behind)
-        → elim b [ true ↦ Some k | false ↦ order_among p (part ++ behind) ] ≡ or_else (elim b [ true ↦ Some k | false ↦ order_among p part ]) (order_among p behind)
-    go true later = refl
-    go false later = later
+among_append p part behind h =
+    let e = columns_append part behind h in
+    rw (e.0, e.1) (first_append p (triggers_in part) (calls_in part) (triggers_in behind) (calls_in behind) (as_many part h))
 
 -- an even number of codes from the front of orders are orders, and so is the rest
 front_paired : (part behind : List ℕ) (n : ℕ) → length part ≡ order_width * n → Paired (part ++ behind) → Paired part × Paired behind
