@@ -1,8 +1,8 @@
 // "Sequences add factor times measure": values, terms and ranges.
-ghost use Rattle.std.specs.Prelude.{◌≡◌, ◌+◌, ◌≤◌, nat_abs};
+ghost use Rattle.std.specs.Prelude.{◌≡◌, ◌+◌, ◌*◌, ◌≤◌, nat_abs};
 ghost use Rattle.values.specs.Values.{farthest_tone, within, ranged, plus, shifted, weight};
 ghost use Rattle.values.specs.Rows.{meant};
-ghost use Rattle.values.specs.Inner.{size, largest_factor, largest_measure, largest_product, largest_sum, begun, taken, Small};
+ghost use Rattle.values.specs.Inner.{size, farthest_step, largest_measure, largest_product, largest_sum, begun, taken, Small};
 
 use crate::uses::Use;
 use crate::{Origin, Range, Term, Value};
@@ -42,7 +42,7 @@ impl Range {
 
 // The factor of a term, with its sign.
 fn weigh(term: Term) -> i64
-    ensures { (result ≡ weight term) × (nat_abs result ≤ largest_factor) }
+    ensures { (result ≡ weight term) × (nat_abs result ≡ term.factor) }
 {
     let factor = i64::from(term.factor);
     if term.minus { -factor } else { factor }
@@ -52,7 +52,7 @@ fn weigh(term: Term) -> i64
 #[tactic(auto, unfolding(crate::specs::Values::plus))]
 fn add_term(sum: Value, term: Term, value: Value) -> Value
     requires { (size sum ≤ largest_sum) × (size value ≤ farthest_tone) }
-    ensures { (result ≡ plus sum term value) × (size result ≤ size sum + largest_product) }
+    ensures { (result ≡ plus sum term value) × (size result ≤ size sum + term.factor * farthest_tone) }
 {
     Some(sum? + value? * weigh(term))
 }
@@ -75,7 +75,7 @@ pub fn begin(origin: Origin) -> Parts
 // With one use more, whose declaration has this value.
 pub fn take(parts: Parts, used: Use, value: Value) -> Parts
     requires { Small parts largest_product × (size value ≤ farthest_tone) }
-    ensures { (result ≡ taken parts used value) × (size result.start ≤ largest_measure) × (size result.sum ≤ size parts.sum + largest_product) }
+    ensures { (result ≡ taken parts used value) × (size result.start ≤ largest_measure) × (size result.sum ≤ size parts.sum + farthest_step used) }
 {
     let Parts { start, sum } = parts;
     match used {

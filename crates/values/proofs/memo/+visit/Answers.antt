@@ -1,5 +1,5 @@
 -- The measure is `left`. The loop's invariant: the uses before `place` are gathered in `parts`, and the memo has grown.
-use Prim.Native.Nat.{ℕ, ◌+◌, ◌<◌}
+use Prim.Native.Nat.{ℕ, ◌+◌, ◌≤◌, ◌<◌}
 use mathlib.Core.Path.{◌≡◌, ◌∙◌, ap}
 use mathlib.Core.List.{◌∷◌}
 use native.Mathlib.Omega.{arith}
@@ -7,7 +7,7 @@ use borrow.Author.Rules.{rules}
 use lib.ListN.{length, get_or}
 use Rattle.values.specs.Values.{ranged}
 use Rattle.values.specs.Rows.{no_row, own_in}
-use Rattle.values.specs.Inner.{used_in}
+use Rattle.values.specs.Inner.{largest_product, used_in, farthest_step}
 use Rattle.values.proofs.Used.{uses_from, place_passed, place_used, uses_out}
 use Rattle.values.proofs.Visits.{Going, visited_zero, going_start, going_same, going_used, used_small, going_on_step, going_out, going_end}
 use Rattle.values.proofs.memo.+visit.Goals.{After-of}
@@ -74,9 +74,10 @@ pub loop-place-preserved : goal.loop-place-preserved
 loop-place-preserved t c =
     let next = (goal.at.loop-place-preserved t c).After-of in
     let below : c.of.result < length c.args.rows.now = rw c.of.ensures (used_below t next) in
+    let step : farthest_step c.in-Some-use_at.used ≤ largest_product = search rules in
     let e = c.take-parts.ensures in (
       e.1,
-      omega (arith, e.2, c.loop-place.invariant.1, c.loop-place-test.true, c.count_places-place-end.ensures.1),
+      omega (arith, e.2, step, c.loop-place.invariant.1, c.loop-place-test.true, c.count_places-place-end.ensures.1),
       going_on_step _ _ _ _ _ _ _ _ _ (going t next) c.of.ensures c.visit.ensures below c.in_ok-value.was e.0,
     )
 
