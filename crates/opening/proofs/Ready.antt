@@ -95,7 +95,7 @@ pub accepted_desk : (l : Left) → l.number ≡ done → ◌≡◌ {A = Result D
 accepted_desk l e = rw (eq-eqb l.number done e)
 
 pub refused_desk : (l : Left) → (l.number ≡ done → ⊥)
-    → ◌≡◌ {A = Result Desk Refused} (Err (record { number = l.number; length = length (refusal_line l.number l.place) })) (opened (opened_by l))
+    → ◌≡◌ {A = Result Desk Refused} (Err (record { number = l.number; desk = start_desk; length = length (refusal_line l.number l.place) })) (opened (opened_by l))
 refused_desk l e = rw (ne_eqb l.number done e)
 
 pub refused_line : (l : Left) → (l.number ≡ done → ⊥) → refusal_line l.number l.place ≡ line_of (refusal_bytes l.number l.place)
@@ -133,6 +133,6 @@ opened_fits text t room {r} g {x} e =
     let o = opening text t room in
     omega (arith, ap length_of (sym e ∙ g.result), fits (eqb o.number done) o.number (length o.line) (line_fits text t room))
   where
-    fits : (b : Bool) (n l : ℕ) → l ≤ smallest_buffer → length_of (cond b (Ok start_desk) (Err (record { number = n; length = l }))) ≤ smallest_buffer
+    fits : (b : Bool) (n l : ℕ) → l ≤ smallest_buffer → length_of (cond b (Ok start_desk) (Err (record { number = n; desk = start_desk; length = l }))) ≤ smallest_buffer
     fits true n l h = omega arith
     fits false n l h = h

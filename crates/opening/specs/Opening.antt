@@ -26,9 +26,9 @@ opened_by l = record { number = l.number; line = refusal_line l.number l.place; 
 unfoldable pub opening : List ℕ → Tables → ℕ → Opening
 opening text t room = cond (ltb room smallest_buffer) (record { number = buffer_too_small; line = []; tables = t }) (opened_by (reading text t))
 
--- what the call hands out: the desk at its start, or why there is none
+-- what the call hands out: the desk at its start, on a refusal beside its number and the length of its line
 abbrev pub opened : Opening → Result Desk Refused
-opened o = cond (eqb o.number done) (Ok start_desk) (Err (record { number = o.number; length = length o.line }))
+opened o = cond (eqb o.number done) (Ok start_desk) (Err (record { number = o.number; desk = start_desk; length = length o.line }))
 
 -- the whole result of a call, with the lent tables and the buffer after it
 pub record Opens (o : Opening) (r : Result Desk Refused) (lent : Tables) (before after : List ℕ) : Type 0 where

@@ -10,7 +10,7 @@ use Rattle.mutabor.specs.Reading.{Left, reading}
 use Rattle.protocol.specs.Answers.{valid_desk}
 use Rattle.opening.proofs.Ready.{ready, opens, opens_small, opens_read, accepted_line, accepted_desk, refused_line, refused_desk}
 use Rattle.std.specs.Prelude.{Ok, Err}
-use Rattle.status.specs.Status.{done}
+use Rattle.status.specs.Status.{done, buffer_too_small}
 use Rattle.status.proofs.ReasonNumbers.{never_done}
 use Rattle.opening.proofs.open_text.Goals.{Start}
 use Rattle.opening.proofs.open_text.Goals as goal
@@ -26,7 +26,7 @@ pub returns-then-buffer-lt-SMALLEST_BUFFER : goal.returns-then-buffer-lt-SMALLES
 returns-then-buffer-lt-SMALLEST_BUFFER c =
     let a = (goal.at.returns-then-buffer-lt-SMALLEST_BUFFER c).Start in
     record {
-      opens = opens (opens_small a.args.text.now (lent a) _ c.if-buffer-lt-SMALLEST_BUFFER.true) (record { result = refl; tables = refl; buffer = refl });
+      opens = opens (opens_small a.args.text.now (lent a) _ c.if-buffer-lt-SMALLEST_BUFFER.true) (record { result = λ x. Err (record { number = buffer_too_small; desk = c.start-desk.ensures x; length = 0 }); tables = refl; buffer = refl });
       right = tt;
     }
 
@@ -38,11 +38,11 @@ returns-in_default c =
     let e = accepted_line (left a) n in
     record {
       opens = opens (opens_read a.args.text.now (lent a) _ c.if-buffer-lt-SMALLEST_BUFFER.false) (record {
-        result = ap Ok c.start.ensures ∙ accepted_desk (left a) n;
+        result = ap Ok c.start-desk.ensures ∙ accepted_desk (left a) n;
         tables = g.tables;
         buffer = sym (ap (λ (x : List ℕ). begun_with x a.args.buffer.now) e);
       });
-      right = (λ x. valid_desk (g.tables x) (c.start.ensures x)) ∙ ready a.args.text.now (lent a) n;
+      right = (λ x. valid_desk (g.tables x) (c.start-desk.ensures x)) ∙ ready a.args.text.now (lent a) n;
     }
 
 pub returns : goal.returns
@@ -56,7 +56,7 @@ returns c =
     let e = (λ x. line_of (refusal_bytes (number x) (place x))) ∙ sym (refused_line (left a) n) in
     record {
       opens = opens (opens_read a.args.text.now (lent a) _ c.if-buffer-lt-SMALLEST_BUFFER.false) (record {
-        result = (λ x. Err (record { number = number x; length = (r.0 ∙ ap length e) x })) ∙ refused_desk (left a) n;
+        result = (λ x. Err (record { number = number x; desk = c.start-desk.ensures x; length = (r.0 ∙ ap length e) x })) ∙ refused_desk (left a) n;
         tables = g.tables;
         buffer = r.1 ∙ ap (λ (x : List ℕ). begun_with x a.args.buffer.now) e;
       });
