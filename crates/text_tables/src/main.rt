@@ -24,12 +24,12 @@
 //   18 0000000D: x is not named, at byte 13; the tables are zero again.
 #![tactic(auto)]
 
-ghost use Rattle.std.specs.Prelude.{◌≤◌, length, IfOk, IfSome};
+ghost use Rattle.std.specs.Prelude.{◌≡◌, ◌+◌, ◌*◌, ◌/◌, ◌≤◌, min, length, IfOk, IfSome};
 
 use mutabor::read_text;
 use status::DONE;
-use std::io;
 use std::io::{ErrorKind, Read, Write};
+use std::{io, mem};
 use tables::{
     CHANGES_AT, CODES, Counts, KINDS_AT, NUMBERS, ORDER_WIDTH, ORDERS_AT, ROW_WIDTH, SOUNDING_AT,
     TONES_AT,
@@ -43,60 +43,78 @@ const TEXT_ROOM: usize = 65_536;
 // The room for an answer.
 const ROOM: usize = 73_728;
 
-// Each of so many rows: its form as one byte, then its other numbers.
-fn put_rows(out: &mut impl Write, rows: &[i32], count: u32) -> io::Result<()> {
-    for row in rows.chunks_exact(ROW_WIDTH).take(count as usize) {
-        put_row(out, row)?;
-    }
-    Ok(())
+// Puts bytes at the front of the room, of which what is behind them is left.
+fn put(out: &mut &mut [u8], bytes: &[u8])
+    requires { length bytes.now ≤ length out.old.now }
+    ensures { length out.new.now + length bytes.now ≡ length out.old.now }
+{
+    let (front, rest) = mem::take(out).split_at_mut(bytes.len());
+    front.copy_from_slice(bytes);
+    *out = rest;
 }
 
-fn put_row(out: &mut impl Write, row: &[i32]) -> io::Result<()> {
-    let Some((form, values)) = row.split_first() else {
-        return Ok(());
-    };
-    out.write_all(&form.to_be_bytes()[3..])?;
-    for value in values {
-        out.write_all(&value.to_be_bytes())?;
+// Each of so many rows: its form as one byte, then its other numbers.
+fn put_rows(out: &mut &mut [u8], rows: &[i32], count: u32)
+    requires { 17 * min count (length rows.now / 5) ≤ length out.old.now }
+    ensures { length out.new.now + 17 * min count (length rows.now / 5) ≡ length out.old.now }
+{
+    for row in rows.chunks_exact(ROW_WIDTH).take(count as usize) {
+        put_row(out, row);
     }
-    Ok(())
+}
+
+fn put_row(out: &mut &mut [u8], row: &[i32])
+    requires { (length row.now ≡ 5) × (17 ≤ length out.old.now) }
+    ensures { length out.new.now + 17 ≡ length out.old.now }
+{
+    let Some((form, values)) = row.split_first() else {
+        return;
+    };
+    put(out, &form.to_be_bytes()[3..]);
+    for value in values {
+        put(out, &value.to_be_bytes());
+    }
 }
 
 // So many tones or changes: each a byte and a number.
-fn put_pairs(out: &mut impl Write, kinds: &[u16], numbers: &[i32], count: u32) -> io::Result<()> {
+fn put_pairs(out: &mut &mut [u8], kinds: &[u16], numbers: &[i32], count: u32)
+    requires lengths { length kinds.now ≡ length numbers.now }
+    requires room { 5 * min count (length kinds.now) ≤ length out.old.now }
+    ensures { length out.new.now + 5 * min count (length kinds.now) ≡ length out.old.now }
+{
     for (kind, number) in kinds.iter().zip(numbers).take(count as usize) {
-        out.write_all(&kind.to_be_bytes()[1..])?;
-        out.write_all(&number.to_be_bytes())?;
+        put(out, &kind.to_be_bytes()[1..]);
+        put(out, &number.to_be_bytes());
     }
-    Ok(())
 }
 
-fn put_orders(out: &mut impl Write, orders: &[u16], count: u32) -> io::Result<()> {
+fn put_orders(out: &mut &mut [u8], orders: &[u16], count: u32)
+    requires { 4 * min count (length orders.now / 2) ≤ length out.old.now }
+    ensures { length out.new.now + 4 * min count (length orders.now / 2) ≡ length out.old.now }
+{
     for order in orders.chunks_exact(ORDER_WIDTH).take(count as usize) {
         for code in order {
-            out.write_all(&code.to_be_bytes())?;
+            put(out, &code.to_be_bytes());
         }
     }
-    Ok(())
 }
 
-// What the tables hold.
-fn put_tables(
-    out: &mut impl Write,
-    numbers: &[i32; NUMBERS],
-    codes: &[u16; CODES],
-) -> io::Result<()> {
+// What the tables hold. Full tables take 72,368 bytes.
+fn put_tables(out: &mut &mut [u8], numbers: &[i32; NUMBERS], codes: &[u16; CODES])
+    requires { 72_368 ≤ length out.old.now }
+    ensures { length out.old.now ≤ length out.new.now + 72_368 }
+{
     let used = Counts::read(&codes[..SOUNDING_AT]);
-    out.write_all(&used.rows.to_be_bytes())?;
-    out.write_all(&used.tones.to_be_bytes())?;
-    out.write_all(&used.changes.to_be_bytes())?;
-    out.write_all(&used.orders.to_be_bytes())?;
+    put(out, &used.rows.to_be_bytes());
+    put(out, &used.tones.to_be_bytes());
+    put(out, &used.changes.to_be_bytes());
+    put(out, &used.orders.to_be_bytes());
     let sounding = &codes[SOUNDING_AT..KINDS_AT];
     let kinds = &codes[KINDS_AT..ORDERS_AT];
-    put_rows(out, &numbers[..TONES_AT], used.rows)?;
-    put_pairs(out, sounding, &numbers[TONES_AT..CHANGES_AT], used.tones)?;
-    put_pairs(out, kinds, &numbers[CHANGES_AT..], used.changes)?;
-    put_orders(out, &codes[ORDERS_AT..], used.orders)
+    put_rows(out, &numbers[..TONES_AT], used.rows);
+    put_pairs(out, sounding, &numbers[TONES_AT..CHANGES_AT], used.tones);
+    put_pairs(out, kinds, &numbers[CHANGES_AT..], used.changes);
+    put_orders(out, &codes[ORDERS_AT..], used.orders);
 }
 
 // Fills the bytes from the input; false where the input ends before.
@@ -136,9 +154,9 @@ fn answer_text(
         Err(refusal) => (refusal.reason.number(), refusal.place),
     };
     let mut out = room.as_mut_slice();
-    out.write_all(&[number])?;
-    out.write_all(&place.to_be_bytes())?;
-    put_tables(&mut out, numbers, codes)?;
+    put(&mut out, &[number]);
+    put(&mut out, &place.to_be_bytes());
+    put_tables(&mut out, numbers, codes);
     let end = ROOM.saturating_sub(out.len());
     output.write_all(&room[..end])
 }
