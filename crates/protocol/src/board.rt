@@ -23,7 +23,7 @@ pub struct Index {
 }
 
 // No frame changes the tables, so a stream tests and indexes them once.
-#[derive(Drop)]
+#[derive(Clone, Copy)]
 pub struct Board<'a> {
     pub tables: Tables<'a>,
     pub index: Index,

@@ -5,7 +5,7 @@ ghost use Rattle.frames.specs.Frames.{enough};
 use frames::ENOUGH;
 
 // The bytes that are held of it, no more than matter: a longer line is no frame, whatever else stands in it.
-#[derive(Drop)]
+#[derive(Clone, Copy)]
 pub struct Line {
     bytes: [u8; ENOUGH],
     len: usize,
