@@ -27,8 +27,9 @@ pub struct Server<'a> {
 
 impl<'a> Server<'a> {
     // Tables and desk are tested once, before the first frame.
-    pub fn new(numbers: &'a [i32], codes: &'a [u16], desk: Desk) -> Option<Server<'a>>
+    pub(crate) fn new(numbers: &'a [i32], codes: &'a [u16], desk: Desk) -> Option<Server<'a>>
         ensures right { IsSome result ↔ (valid_desk (tables_in numbers.now codes.now) desk ≡ true) }
+        ensures made { IfSome result (λ s. (tables_on s.board ≡ tables_in numbers.now codes.now) × (s.desk ≡ desk) × (held_in s.line ≡ [])) }
     {
         if !is_valid(numbers, codes, desk) {
             return None;
@@ -73,7 +74,7 @@ impl<'a> Server<'a> {
     }
 
     // Serves the input to its end. A proved loop has to end, and nothing says that the input does: it counts up to a number that no run comes to.
-    pub fn serve_all(
+    pub(crate) fn serve_all(
         &mut self,
         input: &mut impl Read,
         output: &mut impl Write,
