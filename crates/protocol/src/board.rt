@@ -1,6 +1,6 @@
 // What frames are played on: right tables, and the index of their logics.
-ghost use Rattle.std.specs.Prelude.{◌≡◌, true, ℕ, ◌≤◌};
-ghost use Rattle.tables.specs.Layout.{tables_in, most_rows, triggers_in, calls_in};
+ghost use Rattle.std.specs.Prelude.{◌≡◌, true, ℕ, ◌≤◌, ◌+◌, None, replicate};
+ghost use Rattle.tables.specs.Layout.{tables_in, harmony_base, most_rows, triggers_in, calls_in};
 ghost use Rattle.tables.specs.Lent.{tables_of};
 ghost use Rattle.validity.specs.Valid.{valid_tables};
 ghost use Rattle.protocol.specs.Answers.{active_right};
@@ -41,13 +41,15 @@ pub fn logic_trigger(n: Numbers) -> Option<u32>
     Some(decode::natural(n.first))
 }
 
-// The index of the rows, made from the last to the first: of two logics with one letter the earlier is written over the later.
-fn index_rows(rows: &[i32], count: u32) -> Index
-    requires { count ≤ most_rows }
-    ensures { Indexed rows.now count result }
+// The index of the rows, put into an empty one from the last row to the first: of two logics with one letter the earlier is written over the later.
+// In its place, since an index handed over by value is copied.
+fn index_rows(rows: &[i32], count: u32, index: &mut Index)
+    requires most { count ≤ most_rows }
+    requires letters { index.old.letters ≡ replicate harmony_base None }
+    requires chords { index.old.chords ≡ replicate (most_rows + 1) None }
+    ensures { Indexed rows.now count index.new }
 {
-    let mut letters = [None; LETTERS];
-    let mut chords = [None; PLACES];
+    let Index { letters, chords } = index;
     let mut first = None;
     for i in (0..count).rev() {
         match logic_trigger(decode::numbers_at(rows, i as usize)) {
@@ -57,7 +59,6 @@ fn index_rows(rows: &[i32], count: u32) -> Index
         }
         chords[i as usize] = first;
     }
-    Index { letters, chords }
 }
 
 impl<'a> Board<'a> {
@@ -69,8 +70,13 @@ impl<'a> Board<'a> {
         ensures { tables_on result ≡ tables_in numbers.now codes.now }
     {
         let tables = Tables { numbers, codes };
-        let index = index_rows(tables.rows(), tables.counts().rows);
-        Board { tables, index }
+        let index = Index {
+            letters: [None; LETTERS],
+            chords: [None; PLACES],
+        };
+        let mut board = Board { tables, index };
+        index_rows(tables.rows(), tables.counts().rows, &mut board.index);
+        board
     }
 
     // The orders of the active logic: none where no logic is active.

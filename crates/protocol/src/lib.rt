@@ -155,6 +155,8 @@ pub fn may_change(frame: Decoded) -> bool
 
 impl Board<'_> {
     // The answer to a line whose frame may change the desk.
+    // Not inlined: inlined into a call of `answer`, it has the board that is made there copied first.
+    #[inline(never)]
     pub fn answer_changing(
         &self,
         desk: Desk,
