@@ -49,6 +49,8 @@ fn skip_lines(line: &mut Line, chunk: &[u8])
 
 // Answers the lines of a chunk, as far as the output has room, from a desk that is right. It makes no test: a program that knows this calls it again and
 // again.
+// Not inlined: inlined into `fill`, it has the board that is made there copied first.
+#[inline(never)]
 pub fn fill_ready(
     board: &Board,
     desk: Desk,
