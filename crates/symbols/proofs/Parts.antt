@@ -3,12 +3,16 @@
 use Prim.Native.Nat.{ℕ, ◌+◌, ◌-◌, ◌<◌, ◌≤◌, min}
 use mathlib.Core.Path.{◌≡◌, sym, ◌∙◌, ap}
 use mathlib.Core.List.{List, [], ◌∷◌}
-use native.Mathlib.Nat.{min-eq_left, min-eq_right}
+use mathlib.Core.Bool.{Bool}
+use native.Mathlib.Nat.{min-eq_left, min-eq_right, le_refl}
 use native.Mathlib.Numerals.{add-one}
 use native.Mathlib.Omega.{arith}
 use native.Mathlib.Decide.{dec_le}
 use lib.ListN.{length, get_or, take, drop, drop_of_length-le, length-take, length-drop}
 use lib.Seq.{slice, drop-cons, drop_at, get_or-take, take-add, take_all, take-length, length-take-le}
+use Rattle.symbols.specs.Bytes.{take_while}
+use Rattle.symbols.specs.Symbols.{run_end}
+use Rattle.symbols.proofs.Scan.{run_short, while_front}
 
 pub part_empty : (text : List ℕ) (start end : ℕ) → end ≤ start → slice start end text ≡ []
 part_empty text start end h =
@@ -53,3 +57,24 @@ module _ (text : List ℕ) (start end : ℕ) {e : ℕ} (w : e ≡ min end (lengt
 -- the rest of a list, taken whole
 pub rest_whole : (n : ℕ) (l : List ℕ) → take (length l - n) (drop n l) ≡ drop n l
 rest_whole n l = take_all (length l - n) (drop n l) (simp length-drop (omega arith))
+
+-- a run, from the place on or from the end of the text
+pub run_within : (text : List ℕ) (at : ℕ) (p : ℕ → Bool) → at ≤ length text → {w : ℕ} → w ≡ run_end p at (drop at text) → w ≤ length text
+unfolding run_end
+run_within text at p h e =
+    let k = run_short p (drop at text) in
+    omega (arith, simp length-drop at k)
+
+pub run_part : (text : List ℕ) (at : ℕ) (p : ℕ → Bool) {s : ℕ} → s ≡ min at (length text) → {w : ℕ} → w ≡ run_end p s (drop s text)
+    → take (w - s) (drop s text) ≡ take_while p (drop at text)
+unfolding run_end
+run_part text at p {s} e {w} f = ap (λ (n : ℕ). take n (drop s text)) size ∙ while_front p (drop s text) ∙ ap (take_while p) (go (dec_le at (length text)))
+  where
+    size : w - s ≡ length (take_while p (drop s text))
+    size = omega arith
+
+    go : Dec (at ≤ length text) → drop s text ≡ drop at text
+    go (yes h) = rw (e, min-eq_left h)
+    go (no h) =
+        let l : length text ≤ at = omega arith in
+        rw (e, min-eq_right l, drop_of_length-le text l, drop_of_length-le text (le_refl (length text)))

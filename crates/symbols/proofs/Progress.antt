@@ -20,7 +20,7 @@ use Rattle.symbols.specs.Bytes.{quote, point, hash, is_blank, is_digit, is_hex_d
 use Rattle.symbols.specs.Symbols.{marks, mark_in, mark_or, mark_at, run_end, digits_to, pointed, decimal_at, hex_at, symbol_at, symbol_from, after_comment, next_symbol, after, cut, symbols_from}
 use Rattle.symbols.specs.Names.{spelled, name_at}
 use Rattle.symbols.proofs.Parts.{part_window}
-use Rattle.symbols.proofs.Scan.{while_front}
+use Rattle.symbols.proofs.Scan.{while_front, run_short}
 
 -- a property of what a test picks
 by_test : {A : Type 0} (P : A → Type 0) (b : Bool) {x y : A} → (b ≡ true → P x) → (b ≡ false → P y) → P (cond b x y)
@@ -37,19 +37,9 @@ Placed text at (Mark kind start end) = (at ≤ start) × (start < end) × (end �
 
 -- runs
 
-while_short : (p : ℕ → Bool) (rest : List ℕ) → length (take_while p rest) ≤ length rest
-unfolding take_while
-while_short p [] = le_refl 0
-while_short p (b ∷ rest) = go (p b) (while_short p rest)
-  where
-    go : (t : Bool) → length (take_while p rest) ≤ length rest
-        → length {A = ℕ} (elim t [ true ↦ b ∷ take_while p rest | false ↦ [] ]) ≤ suc (length rest)
-    go true h = omega arith
-    go false h = omega arith
-
 run_bounds : (p : ℕ → Bool) (at : ℕ) (rest : List ℕ) → (at ≤ run_end p at rest) × (run_end p at rest ≤ at + length rest)
 unfolding run_end
-run_bounds p at rest = let h = while_short p rest in (omega arith, omega arith)
+run_bounds p at rest = let h = run_short p rest in (omega arith, omega arith)
 
 -- a run whose first byte is of its kind is not empty
 run_past : (p : ℕ → Bool) (at b : ℕ) (rest : List ℕ) → p b ≡ true → at < run_end p at (b ∷ rest)
@@ -80,7 +70,7 @@ module _ (text : List ℕ) (low at b : ℕ) (rest : List ℕ) (h : low ≤ at) (
   decimal_placed d =
       let p = run_past is_digit at b rest d in
       let w = run_bounds is_digit at (b ∷ rest) in
-      let s = while_short is_digit (b ∷ rest) in
+      let s = run_short is_digit (b ∷ rest) in
       pointed_placed (run_end is_digit at (b ∷ rest)) p (omega arith) (drop (length (take_while is_digit (b ∷ rest))) (b ∷ rest))
       (simp length-drop (omega arith))
 

@@ -12,7 +12,7 @@ use native.Mathlib.Numerals.{add-one}
 use native.Mathlib.Omega.{arith}
 use native.Mathlib.Decide.{dec_lt}
 use borrow.Author.Tests.{lt-ltb, le-ltb, eq-eqb, ne_eqb}
-use lib.ListN.{length, get_or, take, drop, drop_of_length-le}
+use lib.ListN.{length, get_or, take, drop, drop_of_length-le, length-take}
 use lib.Seq.{drop-cons, drop-drop}
 use lib.Dec.{ltb, eqb}
 use Rattle.symbols.specs.declared.MarkKind.{MarkKind}
@@ -62,6 +62,9 @@ run_length p (b ∷ rest) = go (p b) (run_length p rest)
         ≡ length {A = ℕ} (elim t [ true ↦ b ∷ take_while p rest | false ↦ [] ])
     go true e = rw e (omega arith)
     go false e = refl
+
+pub run_short : (p : ℕ → Bool) (rest : List ℕ) → length (take_while p rest) ≤ length rest
+run_short p rest = let h = ap length (while_front p rest) in omega (arith, simp length-take at h)
 
 -- what `position` answers, with the length in place of nothing
 pub found_or_length : {X : Type 0} (p : X → Bool) (xs : List X) {r : Option ℕ}
